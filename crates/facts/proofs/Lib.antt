@@ -1,0 +1,4 @@
+pub mod Rounding
+pub mod First
+pub mod Tests
+pub mod Determined

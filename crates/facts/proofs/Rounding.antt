@@ -1,0 +1,37 @@
+-- The laws of rounding up. Assumes nothing.
+use mathlib.Core.Path.{_≡_}
+use mathlib.Core.Logic.{_↔_}
+use Prim.Native.Nat.{ℕ, _+_, _-_, _*_, _/_, _%_, _≤_, _<_}
+use native.Mathlib.Nat.{div-lt-iff-lt-mul, le-div-iff-mul-le, div-add-mod', div-eq-of-lt-le, mod-lt}
+use native.Mathlib.Omega.{arith}
+use Rattle.facts.specs.Rounding.{ceilDiv}
+
+-- for callers
+
+-- Rounded up is the least whole number that is enough.
+pub ceil-is-enough : {a b x : ℕ} → 0 < b → (ceilDiv a b ≤ x) ↔ (a ≤ x * b)
+unfolding ceilDiv
+ceil-is-enough {a} {b} {x} h = (
+  λ l. let m = div-lt-iff-lt-mul {x = a + (b - 1)} {y = x + 1} h .0 (omega arith) in omega arith,
+  λ l. let m = div-lt-iff-lt-mul {x = a + (b - 1)} {y = x + 1} h .1 (omega arith) in omega arith,
+)
+
+-- Whatever is below it is not enough.
+pub below-ceil-falls-short : {a b x : ℕ} → 0 < b → (x < ceilDiv a b) ↔ (x * b < a)
+unfolding ceilDiv
+below-ceil-falls-short {a} {b} {x} h = (
+  λ l. let m = le-div-iff-mul-le {x = x + 1} {y = a + (b - 1)} h .0 (omega arith) in omega arith,
+  λ l. let m = le-div-iff-mul-le {x = x + 1} {y = a + (b - 1)} h .1 (omega arith) in omega arith,
+)
+
+-- Where b divides a, up and down are the same.
+pub ceil-of-whole : (a : ℕ) {b : ℕ} → 0 < b → a % b ≡ 0 → ceilDiv a b ≡ a / b
+unfolding ceilDiv
+ceil-of-whole a {b} h z =
+    div-eq-of-lt-le b (omega (arith, div-add-mod' a b)) (omega (arith, div-add-mod' a b))
+
+-- Where it does not, up is one more than down.
+pub ceil-of-part : (a : ℕ) {b : ℕ} → 0 < b → (a % b ≡ 0 → ⊥) → ceilDiv a b ≡ a / b + 1
+unfolding ceilDiv
+ceil-of-part a {b} h z =
+    div-eq-of-lt-le b (omega (arith, div-add-mod' a b)) (omega (arith, div-add-mod' a b, mod-lt a h))

@@ -1,0 +1,30 @@
+-- Going through places one after the other and stopping at the first that fits.
+use Prim.Native.Nat.{ℕ, zero, suc, _+_, _-_, _≤_, _<_}
+use mathlib.Core.Path.{_≡_}
+use mathlib.Core.Bool.{Bool, true, false, cond}
+
+-- Of the n places j, j + 1, .. the first that fits gives its value; 0 where none fits.
+unfoldable pub atFirst : (ℕ → Bool) → (ℕ → ℕ) → ℕ → ℕ → ℕ
+atFirst fits gives j zero = 0
+atFirst fits gives j (suc n) =
+    let later = atFirst fits gives (j + 1) n in
+    cond (fits j) (gives j) later
+
+-- `at` is the first place from i on that fits.
+pub record IsFirst (fits : ℕ → Bool) (i at : ℕ) : Type 0 where
+  pub from : i ≤ at
+  pub fit : fits at ≡ true
+  pub none-before : (k : ℕ) → i ≤ k → k < at → fits k ≡ false
+
+-- A search of the n places from i on has come to j: nothing before j fits, and what is left gives the answer of the whole.
+pub record Reached (fits : ℕ → Bool) (gives : ℕ → ℕ) (i n j : ℕ) : Type 0 where
+  pub from : i ≤ j
+  pub none-before : (k : ℕ) → i ≤ k → k < j → fits k ≡ false
+  pub rest : atFirst fits gives i n ≡ atFirst fits gives j (i + n - j)
+
+-- A search of the n places from i on, of which m fits, gives the value of the first that fits.
+pub record Found (fits : ℕ → Bool) (gives : ℕ → ℕ) (i n m : ℕ) : Type 0 where
+  pub at : ℕ
+  pub first : IsFirst fits i at
+  pub within : at ≤ m
+  pub value : atFirst fits gives i n ≡ gives at

@@ -1,0 +1,30 @@
+-- A row's next window, by its origin o and the quanta q it has been given: "Subtask i is next when i-1 quanta have been given."
+use Prim.Native.Nat.{ℕ, _+_, _<_, _≤_}
+use mathlib.Core.Bool.{Bool, cond, _&&_}
+use lib.Dec.{ltb, leb}
+use Rattle.windows.specs.declared.Due.{Due}
+use Rattle.windows.specs.declared.Due.the-variants as due
+use Rattle.windows.specs.declared.Moment.{Moment}
+use Rattle.windows.specs.declared.Moment.the-variants as moment
+use Rattle.windows.specs.Fits.{reach}
+use Rattle.windows.specs.Windows.{deadline, bit}
+
+-- A question about the next window is answered for each row that can be, with an origin and quanta within reach.
+abbrev pub answered : ℕ → ℕ → ℕ → ℕ → Bool
+answered e p o q = ltb 0 e && leb e p && leb o reach && leb q reach
+
+-- The same as a record, for laws.
+pub record InReach (e p o q : ℕ) : Type 0 where
+  pub cost : 0 < e
+  pub weight : e ≤ p
+  pub origin : o ≤ reach
+  pub quanta : q ≤ reach
+
+-- d and b of the next subtask
+unfoldable pub nextDue : ℕ → ℕ → ℕ → ℕ → Due
+nextDue e p o q =
+    cond (answered e p o q) (due.By (record { 0 = deadline e p o (q + 1) }) (bit e p (q + 1))) due.Unanswered
+
+-- A time of the next subtask: its `start`, its `jobStart` or its `groupDeadline`.
+unfoldable pub next : (ℕ → ℕ → ℕ → ℕ → ℕ) → ℕ → ℕ → ℕ → ℕ → Moment
+next time e p o q = cond (answered e p o q) (moment.At (record { 0 = time e p o (q + 1) })) moment.Unanswered

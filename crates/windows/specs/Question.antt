@@ -1,0 +1,37 @@
+-- The window question (01, "Windows"): "A window may be asked for alone, by e, p, f (each 0 to 65,535) and i."
+use Prim.Native.Nat.{ℕ, _+_}
+use mathlib.Core.Bool.{Bool, cond, not, _&&_, _||_}
+use lib.Dec.{ltb, leb, eqb}
+use Rattle.counts.specs.Limits.{timeLimit}
+use Rattle.windows.specs.declared.Answer.{Answer}
+use Rattle.windows.specs.declared.Answer.the-variants.{Window, Refused}
+use Rattle.windows.specs.Windows.{start, deadline, bit}
+use Rattle.windows.specs.Group.{groupDeadline}
+
+-- What comes back: 01's number, and r, d, b and D.
+pub record Reply : Type 0 where
+  pub number : ℕ
+  pub r : ℕ
+  pub d : ℕ
+  pub b : ℕ
+  pub D : ℕ
+
+-- What each case of the answer stands for.
+abbrev pub replyOf : Answer → Reply
+replyOf (Window r d b D) = record { number = 0; r = r .0; d = d .0; b = b; D = D .0 }
+replyOf Refused = record { number = 50; r = 0; d = 0; b = 0; D = 0 }
+
+-- "i is not in 1 to 1,000,000,001": the last one is one past the time limit
+abbrev pub lastSubtask : ℕ
+lastSubtask = timeLimit + 1
+
+-- "It is refused if e = 0, if e is not below p, or if i is not in 1 to 1,000,000,001"
+abbrev pub refused : ℕ → ℕ → ℕ → Bool
+refused e p i = eqb e 0 || not (ltb e p) || not (leb 1 i && leb i lastSubtask)
+
+-- "then r, d, b and D come back as 0"
+unfoldable pub windowReply : ℕ → ℕ → ℕ → ℕ → Reply
+windowReply e p f i =
+    cond (refused e p i)
+    (record { number = 50; r = 0; d = 0; b = 0; D = 0 })
+    (record { number = 0; r = start e p f i; d = deadline e p f i; b = bit e p i; D = groupDeadline e p f i })
