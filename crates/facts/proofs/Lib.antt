@@ -1,4 +1,7 @@
 pub mod Rounding
 pub mod First
 pub mod Tests
+pub mod Faults
+pub mod Filling
+pub mod Places
 pub mod Determined

@@ -2,7 +2,7 @@
 use mathlib.Core.Path.{_≡_}
 use mathlib.Core.Logic.{_↔_}
 use Prim.Native.Nat.{ℕ, _+_, _-_, _*_, _/_, _%_, _≤_, _<_}
-use native.Mathlib.Nat.{div-lt-iff-lt-mul, le-div-iff-mul-le, div-add-mod', div-eq-of-lt-le, mod-lt}
+use native.Mathlib.Nat.{div-lt-iff-lt-mul, le-div-iff-mul-le, div-add-mod', div-eq-of-lt-le, div-mul-le-self, lt-div-mul-add, mod-lt}
 use native.Mathlib.Omega.{arith}
 use Rattle.facts.specs.Rounding.{ceilDiv}
 
@@ -23,6 +23,15 @@ below-ceil-falls-short {a} {b} {x} h = (
   λ l. let m = le-div-iff-mul-le {x = x + 1} {y = a + (b - 1)} h .0 (omega arith) in omega arith,
   λ l. let m = le-div-iff-mul-le {x = x + 1} {y = a + (b - 1)} h .1 (omega arith) in omega arith,
 )
+
+-- Rounded down, a number loses less than one b;
+pub floor-is-near : (a : ℕ) {b : ℕ} → 0 < b → (a / b * b ≤ a) × (a < a / b * b + b)
+floor-is-near a {b} h = (div-mul-le-self a b, lt-div-mul-add h)
+
+-- rounded up, it gains less than one b.
+pub ceil-is-near : (a : ℕ) {b : ℕ} → 0 < b → (a ≤ ceilDiv a b * b) × (ceilDiv a b * b < a + b)
+unfolding ceilDiv
+ceil-is-near a {b} h = omega (arith, div-mul-le-self (a + (b - 1)) b, lt-div-mul-add {a = a + (b - 1)} h)
 
 -- Where b divides a, up and down are the same.
 pub ceil-of-whole : (a : ℕ) {b : ℕ} → 0 < b → a % b ≡ 0 → ceilDiv a b ≡ a / b

@@ -1,3 +1,5 @@
 pub mod Rounding
 pub mod First
+pub mod Faults
+pub mod Places
 pub mod Determined

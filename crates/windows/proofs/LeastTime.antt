@@ -3,24 +3,29 @@
 -- past the deadline of `at`; so no mark at or past d is smaller than what the walk gives.
 use mathlib.Core.Path.{_≡_, refl, sym, ap, _∙_}
 use mathlib.Core.Bool.{true, false, true≢false}
-use mathlib.Core.Logic.{_⊎_, inl, inr}
+use mathlib.Core.Logic.{inl, inr}
 use Prim.Native.Nat.{ℕ, _+_, _-_, _*_, _/_, _≤_, _<_}
-use native.Mathlib.Nat.{le-antisymm, div-eq-of-eq-mul-left}
+use native.Mathlib.Nat.{le-antisymm, div-eq-of-eq-mul-left, mul-le-mul-right, lt-div-mul-add}
 use native.Mathlib.Decide.{ℕ-discrete, decLt}
 use native.Mathlib.Omega.{arith}
-use borrow.Author.Tests.{ltb-true}
+use borrow.Author.Tests.{ltb-true, lt-ltb}
 use Rattle.facts.specs.Rounding.{ceilDiv}
 use Rattle.facts.specs.First.{IsFirst}
-use Rattle.windows.specs.Windows.{deadline, bit, windowLength, lastOfJob}
+use Rattle.facts.proofs.Rounding.{ceil-is-enough}
+use Rattle.windows.specs.Windows.{deadline, bit, windowLength, jobStart, lastOfJob}
 use Rattle.windows.specs.Group.{heavy, stops, stopTime, groupDeadline}
 use Rattle.windows.specs.LeastTime.{Marks, IsGroupDeadline, WalkGivesLeastTime}
-use Rattle.windows.proofs.Windows.{bit-zero-divides, bit-at-job-end, job-end-is-near, deadline-of-whole, deadline-rises, bit-zero-is-not-3-long}
-use Rattle.windows.proofs.Group.{heavy-walks, bit-stops, length-stops, else-passes, bit-gives, length-gives, walk-ends-within-job}
+use Rattle.windows.proofs.Windows.{bit-zero-divides, bit-at-job-end, job-end-is-near, deadline-of-whole, deadline-rises, bit-zero-is-at-most-2-long}
+use Rattle.windows.proofs.Group.{light-has-none, heavy-walks, bit-stops, length-stops, else-passes, bit-gives, length-gives, walk-ends-within-job}
 
--- heavy, as an order of numbers
-pub heavy-is : (e p : ℕ) → heavy e p ≡ true → p < 2 * e
+-- Heavy, as an order of numbers, and back.
+pub heavy-is-over-half : (e p : ℕ) → heavy e p ≡ true → p < 2 * e
 unfolding heavy
-heavy-is e p h = ltb-true p (2 * e) h
+heavy-is-over-half e p h = ltb-true p (2 * e) h
+
+pub over-half-is-heavy : (e p : ℕ) → p < 2 * e → heavy e p ≡ true
+unfolding heavy
+over-half-is-heavy e p h = lt-ltb p (2 * e) h
 
 -- Two least times are equal.
 least-is-unique : {e p o i t u : ℕ} → IsGroupDeadline e p o i t → IsGroupDeadline e p o i u → t ≡ u
@@ -78,7 +83,7 @@ module _ (e p o i : ℕ) (he : 0 < e) (hp : e ≤ p) (hv : p < 2 * e) (hi : 0 < 
       where
         own : (u : ℕ) → Marks e p o at u → deadline e p o at ≤ u
         own u (inl m) = omega (arith, m .1)
-        own u (inr m) = absurd (bit-zero-is-not-3-long e p o he hv (omega (arith, first .from)) b (m .0))
+        own u (inr m) = absurd (omega (arith, m .0, bit-zero-is-at-most-2-long e p o he (omega arith) (omega (arith, first .from)) b))
 
     -- the walk stopped by the length
     by-length : (bit e p at ≡ 0 → ⊥) → i < at → windowLength e p o at ≡ 3 → IsGroupDeadline e p o i (deadline e p o at - 1)
@@ -109,19 +114,24 @@ module _ (e p o i : ℕ) (he : 0 < e) (hp : e ≤ p) (hv : p < 2 * e) (hi : 0 < 
       let w = walk-ends-within-job e p o i he in
       rw (heavy-walks e p o i hv ∙ w .value) (by-either (w .first))
 
--- W7
+-- W7.
 pub walk-gives-least-time : WalkGivesLeastTime
 walk-gives-least-time e p o i t he hp hv hi =
-    let least = group-deadline-is-least e p o i he hp (heavy-is e p hv) hi in
+    let least = group-deadline-is-least e p o i he hp (heavy-is-over-half e p hv) hi in
     (λ is. least-is-unique is least, λ same. rw same least)
 
 -- W8, in times: D is no later than the end of the job that holds i.
-pub group-deadline-is-within-job : (e p o i : ℕ) → 0 < e → e ≤ p → p < 2 * e → 0 < i → groupDeadline e p o i ≤ o + ceilDiv i e * p
-unfolding lastOfJob
-group-deadline-is-within-job e p o i he hp hv hi =
-    let q = ceilDiv i e in
-    let near = job-end-is-near e i he in
-    let b = bit-at-job-end e p i in
-    let least = group-deadline-is-least e p o i he hp hv hi .least (q * e) _ (omega arith) (inl (b, refl)) (rises e p o i he hp hv hi (near .0)) in
-    let whole : q * e * p / e ≡ q * p = div-eq-of-eq-mul-left he (omega arith) in
-    omega (arith, deadline-of-whole e p o he (q * e) (bit-zero-divides e p (q * e) b))
+pub group-deadline-is-within-job : (e p o i : ℕ) → 0 < e → e ≤ p → 0 < i → groupDeadline e p o i ≤ jobStart e p o i + p
+unfolding lastOfJob jobStart
+group-deadline-is-within-job e p o i he hp hi = go (decLt p (2 * e))
+  where
+    go : Dec (p < 2 * e) → groupDeadline e p o i ≤ o + (i - 1) / e * p + p
+    go (yes hv) =
+        let q = ceilDiv i e in
+        let near = job-end-is-near e i he in
+        let b = bit-at-job-end e p i in
+        let least = group-deadline-is-least e p o i he hp hv hi .least (q * e) _ (omega arith) (inl (b, refl)) (rises e p o i he hp hv hi (near .0)) in
+        let whole : q * e * p / e ≡ q * p = div-eq-of-eq-mul-left he (omega arith) in
+        let jobs = mul-le-mul-right p (ceil-is-enough {a = i} {x = (i - 1) / e + 1} he .1 (omega (arith, lt-div-mul-add {a = i - 1} he))) in
+        omega (arith, deadline-of-whole e p o he (q * e) (bit-zero-divides e p (q * e) b))
+    go (no hv) = omega (arith, light-has-none e p o i (omega arith))

@@ -1,4 +1,5 @@
 pub mod Windows
+pub mod Products
 pub mod Group
 pub mod LeastTime
 pub mod Question

@@ -1,8 +1,13 @@
 -- The window question's answer: its meaning tells all answers apart, and what is taken or refused. Assumes nothing.
 use mathlib.Core.Path.{_≡_, refl, ap, _∙_}
-use mathlib.Core.Bool.{true, false}
-use Prim.Native.Nat.{ℕ}
+use mathlib.Core.Bool.{true, false, not, _&&_, _||_}
+use Prim.Native.Nat.{ℕ, _≤_, _<_}
+use native.Mathlib.Nat.{pos-of-ne-zero}
+use native.Mathlib.Decide.{decLe}
 use native.Mathlib.Omega.{arith}
+use borrow.Author.Tests.{lt-ltb, le-ltb, le-leb, lt-leb, ltb-true, leb-true, eqb-false, not-false}
+use lib.Dec.{ltb, leb, eqb}
+use Rattle.facts.proofs.Tests.{both, neither-holds}
 use Rattle.facts.specs.Determined.{Determined, TellsApart}
 use Rattle.facts.proofs.Determined.{by-meaning}
 use Rattle.counts.specs.declared.Slot.{Slot}
@@ -10,7 +15,7 @@ use Rattle.windows.specs.declared.Answer.{Answer}
 use Rattle.windows.specs.declared.Answer.the-variants.{Window, Refused}
 use Rattle.windows.specs.Windows.{start, deadline, bit}
 use Rattle.windows.specs.Group.{groupDeadline}
-use Rattle.windows.specs.Question.{replyOf, refused, windowReply}
+use Rattle.windows.specs.Question.{replyOf, lastSubtask, refused, windowReply}
 
 -- Two answers with one reply are one answer.
 pub replies-tell-apart : TellsApart replyOf
@@ -24,7 +29,23 @@ replies-tell-apart Refused Refused q = refl
 pub window-is-determined : (e p f i : ℕ) → Determined {R = Answer} (λ r. replyOf r ≡ windowReply e p f i)
 window-is-determined e p f i = by-meaning replies-tell-apart
 
--- for the function
+-- for the functions
+
+-- the code's test of the last subtask is the definition's
+pub above-last : {n i : ℕ} → n ≡ i → ltb lastSubtask n ≡ not (leb i lastSubtask)
+above-last {n} {i} same = ap (ltb lastSubtask) same ∙ go (decLe i lastSubtask)
+  where
+    go : Dec (i ≤ lastSubtask) → ltb lastSubtask i ≡ not (leb i lastSubtask)
+    go (yes h) = simp (le-ltb _ _ h, le-leb _ _ h)
+    go (no h) = let above : lastSubtask < i = omega arith in simp (lt-ltb _ _ above, lt-leb _ _ above)
+
+-- What an accepted question says of its numbers.
+pub not-refused : (e p i : ℕ) → refused e p i ≡ false → (0 < e) × (e < p) × (1 ≤ i) × (i ≤ lastSubtask)
+not-refused e p i h =
+    let number = neither-holds (eqb e 0 || not (ltb e p)) (not (leb 1 i && leb i lastSubtask)) h in
+    let row = neither-holds (eqb e 0) (not (ltb e p)) (number .0) in
+    let range = both (leb 1 i) (leb i lastSubtask) (not-false _ (number .1)) in
+    (pos-of-ne-zero (eqb-false e 0 (row .0)), ltb-true e p (not-false _ (row .1)), leb-true 1 i (range .0), leb-true i lastSubtask (range .1))
 
 -- A refused question gets the refused reply.
 pub is-refused : (e p f i : ℕ) → refused e p i ≡ true → replyOf Refused ≡ windowReply e p f i

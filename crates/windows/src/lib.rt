@@ -7,7 +7,7 @@ ghost use Prim.Native.Nat.{_*_, _<_, _≤_};
 ghost use Rattle.windows.specs.Fits.{Fits, CanWalk, furthest, products};
 ghost use Rattle.windows.specs.Windows.{start, deadline, bit, jobStart};
 ghost use Rattle.windows.specs.Group.{groupDeadline};
-ghost use Rattle.windows.specs.Question.{replyOf, windowReply};
+ghost use Rattle.windows.specs.Question.{replyOf, refused, windowReply};
 ghost use Rattle.windows.specs.Next.{answered, nextDue, next};
 
 // The answer to the window question.
@@ -43,17 +43,7 @@ const REACH: u64 = 70_368_744_177_664;
 pub fn window(e: u16, p: u16, f: u16, i: Subtask) -> Answer
     ensures { λ r. ⌜ replyOf r ≡ windowReply e p f (i .0) ⌝ }
 {
-    if e == 0 {
-        return Answer::Refused;
-    }
-    if p <= e {
-        return Answer::Refused;
-    }
-    let number = i.number();
-    if number == 0 {
-        return Answer::Refused;
-    }
-    if LAST < number {
+    if is_refused(e, p, i) {
         return Answer::Refused;
     }
     let cost = e as u64;
@@ -69,6 +59,23 @@ pub fn window(e: u16, p: u16, f: u16, i: Subtask) -> Answer
         bit: end.bit,
         group,
     }
+}
+
+// Whether the window question is refused.
+fn is_refused(e: u16, p: u16, i: Subtask) -> bool
+    ensures { λ r. ⌜ r ≡ refused e p (i .0) ⌝ }
+{
+    if e == 0 {
+        return true;
+    }
+    if p <= e {
+        return true;
+    }
+    let number = i.number();
+    if number == 0 {
+        return true;
+    }
+    LAST < number
 }
 
 // The deadline and the bit of a row's next subtask, by the row's origin and the quanta it has been given.
@@ -142,7 +149,7 @@ struct End {
     bit: u8,
 }
 
-// r
+// Where the window of i begins.
 fn window_start(e: u64, p: u64, o: Slot, i: Subtask) -> Slot
     requires { ⌜ Fits e p (o .0) (i .0) ⌝ }
     ensures { λ r. ⌜ r .0 ≡ start e p (o .0) (i .0) ⌝ }
@@ -151,7 +158,7 @@ fn window_start(e: u64, p: u64, o: Slot, i: Subtask) -> Slot
     o.later(whole / e)
 }
 
-// d and b. "The next start is d - b", so one division gives both.
+// The deadline of i and its bit: "the next start is d - b", so one division gives both.
 fn window_end(e: u64, p: u64, o: Slot, i: Subtask) -> End
     requires { ⌜ Fits e p (o .0) (i .0) ⌝ }
     ensures { λ r. ⌜ (r .deadline .0 ≡ deadline e p (o .0) (i .0)) × (r .bit ≡ bit e p (i .0)) ⌝ }
@@ -179,7 +186,7 @@ fn job_start(e: u64, p: u64, o: Slot, i: Subtask) -> Slot
     o.later(product(jobs, p))
 }
 
-// D: "walk the row's windows forward and stop at the first that fits".
+// The group deadline of i: "walk the row's windows forward and stop at the first that fits".
 fn group_deadline(e: u64, p: u64, o: Slot, i: Subtask) -> Slot
     requires { ⌜ CanWalk e p (o .0) (i .0) ⌝ }
     ensures { λ r. ⌜ r .0 ≡ groupDeadline e p (o .0) (i .0) ⌝ }

@@ -1,4 +1,4 @@
-use mathlib.Core.Path.{_≡_, ap, _∙_}
+use mathlib.Core.Path.{ap, _∙_}
 use Prim.Native.Nat.{_*_}
 use Rattle.windows.proofs.Fits.{end-of-whole, end-of-part}
 use borrow.Author.Needs.{needs}

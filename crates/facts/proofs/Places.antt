@@ -1,0 +1,111 @@
+-- The laws of places. Assumes nothing.
+use mathlib.Core.Path.{_≡_, refl, sym, ap, _∙_}
+use mathlib.Core.List.{List, [], _∷_, _++_, map}
+use Prim.Native.Nat.{ℕ, zero, suc, _+_, _-_, _*_, _≤_, _<_}
+use native.Mathlib.Nat.{le-of-suc-le-suc, not-suc-le-zero, add-zero}
+use native.Mathlib.Numerals.{add-one}
+use native.Mathlib.Omega.{arith}
+use lib.ListN.{length, getD, set, take, replicate, length-append, length-replicate, length-map}
+use lib.Seq.{take-at}
+use Rattle.facts.specs.Places.{places, padded, ReadAnswer, ReadSoFar}
+use Rattle.facts.specs.Faults.{Test, firstMet}
+use Rattle.facts.proofs.Filling.{filled-one-more, past-filled}
+use Rattle.facts.proofs.Faults.{none-passed, all-passed, stops-at-fault, one-more-passed}
+
+-- for callers
+
+-- There are n places,
+pub how-many-places : (from step n : ℕ) → length (places from step n) ≡ n
+unfolding places
+how-many-places from step zero = refl
+how-many-places from step (suc n) = ap suc (how-many-places (from + step) step n)
+
+-- and place i is i steps from the first.
+pub place-at : (from step n i d : ℕ) → i < n → getD (places from step n) i d ≡ from + step * i
+unfolding places
+place-at from step zero i d h = absurd (not-suc-le-zero h)
+place-at from step (suc n) zero d h = omega arith
+place-at from step (suc n) (suc i) d h = place-at (from + step) step n i d (le-of-suc-le-suc h) ∙ omega arith
+
+module _ {A : Type 0} (read : ℕ → A) (nothing : A) (size from step : ℕ) where
+  -- what is read at one place more
+  read-one-more : (from n : ℕ) → map read (places from step (suc n)) ≡ map read (places from step n) ++ (read (from + step * n) ∷ [])
+  unfolding places
+  read-one-more from zero = ap (λ k. read k ∷ []) {x = from} {y = from + step * 0} (omega arith)
+  read-one-more from (suc n) =
+      ap (λ l. read from ∷ l) (read-one-more (from + step) n)
+      ∙ ap (λ k. read from ∷ (map read (places (from + step) step n) ++ (read k ∷ []))) {x = from + step + step * n} {y = from + step * suc n} (omega arith)
+
+  how-many-read : (n : ℕ) → length (map read (places from step n)) ≡ n
+  how-many-read n = length-map (places from step n) read ∙ how-many-places from step n
+
+  -- An array in which nothing was read yet.
+  pub nothing-read : replicate size nothing ≡ padded read nothing size from step 0
+  unfolding padded places
+  nothing-read = ap (λ k. replicate k nothing) {x = size} {y = size - 0} (omega arith)
+
+  -- One element more is read into it.
+  pub one-more-read : {i : ℕ} → i < size → set (padded read nothing size from step i) i (read (from + step * i)) ≡ padded read nothing size from step (i + 1)
+  unfolding padded
+  one-more-read {i} h =
+      filled-one-more (map read (places from step i)) size i nothing (read (from + step * i)) (how-many-read i) h
+      ∙ rw (add-one i, read-one-more from i)
+
+  -- The first n are what was read,
+  pub first-are-read : (n : ℕ) → take n (padded read nothing size from step n) ≡ map read (places from step n)
+  unfolding padded
+  first-are-read n = take-at (map read (places from step n)) _ n (how-many-read n)
+
+  -- the others are nothing,
+  pub others-are-nothing : {n i : ℕ} → n ≤ i → getD (padded read nothing size from step n) i nothing ≡ nothing
+  unfolding padded
+  others-are-nothing {n} {i} h =
+      past-filled (map read (places from step n)) (size - n) i nothing (omega (arith, how-many-read n))
+
+  -- and there are as many as the array has places.
+  pub how-many-padded : {n : ℕ} → n ≤ size → length (padded read nothing size from step n) ≡ size
+  unfolding padded
+  how-many-padded {n} h =
+      length-append (map read (places from step n)) _ ∙ omega (arith, how-many-read n, length-replicate (size - n) nothing)
+
+-- for a loop that reads from place to place, whatever is read
+
+module _ {A : Type 0} (tests : ℕ → ℕ → List Test) (above : ℕ → ℕ) (read : ℕ → A) (nothing : A) (size from step n : ℕ) where
+  -- It begins with an array of nothing,
+  pub reading-begins : {array : List A} → array ≡ replicate size nothing → ReadSoFar tests above read nothing size from step n array 0 0
+  reading-begins e = record { passed = none-passed tests above _; content = e ∙ nothing-read read nothing size from step }
+
+  -- ends without a fault,
+  pub reading-ends : {array : List A} {least i : ℕ} → ReadSoFar tests above read nothing size from step n array least i → n ≤ i →
+      ReadAnswer tests above read nothing size from step n 0 array
+  reading-ends {i = i} so h =
+      let many = how-many-places from step n in
+      let same : i ≡ n = omega (arith, so .passed .within) in
+      record {
+        first = sym (all-passed tests above _ (so .passed) (omega arith));
+        content = λ _. so .content ∙ ap (λ k. padded read nothing size from step k) same;
+      }
+
+  module _ {array : List A} {least i place : ℕ} (so : ReadSoFar tests above read nothing size from step n array least i) (h : i < n) (here : place ≡ from + step * i) where
+    in-list : i < length (places from step n)
+    in-list = omega (arith, how-many-places from step n)
+
+    in-place : place ≡ getD (places from step n) i 0
+    in-place = here ∙ sym (place-at from step n i 0 h)
+
+    -- ends at a fault,
+    pub reading-stops : {number : ℕ} → number ≡ firstMet (tests least place) → (number ≡ 0 → ⊥) → ReadAnswer tests above read nothing size from step n number array
+    reading-stops e f =
+        record {
+          first = e ∙ sym (stops-at-fault tests above _ (so .passed) in-list 0 in-place (λ z. f (e ∙ z)));
+          content = λ z. absurd (f z);
+        }
+
+    -- or goes on with one more read.
+    pub reading-goes-on : i < size → firstMet (tests least place) ≡ 0 → {v : A} → v ≡ read place → {above-it : ℕ} → above-it ≡ above place →
+        ReadSoFar tests above read nothing size from step n (set array i v) above-it (i + 1)
+    reading-goes-on l f e a =
+        record {
+          passed = rw a (one-more-passed tests above _ (so .passed) in-list 0 in-place f);
+          content = rw (so .content, e, here) (one-more-read read nothing size from step l);
+        }

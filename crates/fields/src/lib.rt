@@ -1,0 +1,34 @@
+// Fields in bytes, little-endian. A byte past the end counts as 0, so every place may be asked for.
+ghost use mathlib.Core.Path.{_≡_};
+ghost use Rattle.fields.specs.Fields.{byte, half, word};
+
+// The byte at place `at`.
+pub fn byte(s: &[u8], at: usize) -> u8
+    ensures { λ r. ⌜ r ≡ byte (now (s .entry)) at ⌝ }
+{
+    if at < s.len() { s[at] } else { 0 }
+}
+
+// The number in the two bytes from place `at` on.
+pub fn half(s: &[u8], at: usize) -> u16
+    ensures { λ r. ⌜ r ≡ half (now (s .entry)) at ⌝ }
+{
+    if s.len() <= at {
+        return 0;
+    }
+    let low = byte(s, at) as u16;
+    let high = byte(s, at + 1) as u16;
+    low + 256 * high
+}
+
+// The number in the four bytes from place `at` on.
+pub fn word(s: &[u8], at: usize) -> u32
+    ensures { λ r. ⌜ r ≡ word (now (s .entry)) at ⌝ }
+{
+    if s.len() <= at {
+        return 0;
+    }
+    let low = half(s, at) as u32;
+    let high = half(s, at + 2) as u32;
+    low + 65536 * high
+}

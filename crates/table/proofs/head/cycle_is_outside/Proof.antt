@@ -1,0 +1,13 @@
+use native.Mathlib.Omega.{arith}
+use borrow.Author.Tests.{eq-eqb, ne-eqb, lt-ltb, le-ltb, le-leb, lt-leb}
+use Rattle.table.proofs.head.cycle_is_outside.Statement.{statement}
+use Rattle.table.proofs.head.cycle_is_outside.Tie as tie
+
+returns : tie.Need-returns
+returns c = simp (lt-ltb _ _ (c .if1 .taken))
+
+returns-2 : tie.Need-returns-2
+returns-2 c = simp (le-ltb _ _ (c .if1 .left))
+
+pub cycle-is-outside-spec : {M : Type 1} → statement M
+cycle-is-outside-spec = tie.close (tie.spec returns returns-2)

@@ -1,0 +1,195 @@
+use mathlib.Core.Path.{_≡_, sym, ap, _∙_}
+use native.Mathlib.Omega.{arith}
+use Rattle.facts.specs.Faults.{firstMet}
+use Rattle.table.specs.Limits.{coreLimit}
+use Rattle.table.specs.Bytes.{coresIn, headTests}
+use Rattle.table.proofs.Value.{not-outside}
+use Rattle.table.proofs.Answers.{head-passed, head-refused, boards-refused, count-cut, count-refused, rows-refused, after-refused, sum-refused, is-read}
+use borrow.Author.Needs.{needs}
+use Rattle.table.proofs.read.Statement.{statement}
+use Rattle.table.proofs.read.Tie as tie
+
+-- past the first test the head has no fault
+head : (c : tie.Else1) → firstMet (headTests (c .before .before .before .args .bytes .now)) ≡ 0
+head c = sym (c .before .fault .ensures) ∙ c .if1 .left
+
+fault-requires : tie.Need-fault-requires
+fault-requires c κs = search needs
+
+refused-requires : tie.Need-refused-requires
+refused-requires c κs = search needs
+
+returns : tie.Need-returns
+returns c = c .refused .ensures ∙ head-refused _ (c .before .before .fault .ensures) (c .before .if1 .taken)
+
+word-requires : tie.Need-word-requires
+word-requires c κs = search needs
+
+byte-requires : tie.Need-byte-requires
+byte-requires c κs = search needs
+
+cast-m : tie.Need-cast-m
+cast-m c = search needs
+
+read-requires : tie.Need-read-requires
+read-requires c κs =
+    let first = c .before .before in
+    let s = first .before .before .before .args .bytes .now in
+    omega (arith, c .byte .ensures, not-outside {low = 1} {high = coreLimit} {x = coresIn s} (head-passed s (head first) .1))
+
+refused-requires-2 : tie.Need-refused-requires-2
+refused-requires-2 c κs = search needs
+
+returns-2 : tie.Need-returns-2
+returns-2 c =
+    let read = c .before .before .before in
+    let first = read .before .before .before in
+    c .refused2 .ensures ∙ boards-refused _ (head first) (read .before .before .word .ensures) (read .before .byte .ensures) (read .read .ensures) (c .before .if2 .taken)
+
+add-at : tie.Need-add-at
+add-at c = search needs
+
+refused-requires-3 : tie.Need-refused-requires-3
+refused-requires-3 c κs = search needs
+
+returns-3 : tie.Need-returns-3
+returns-3 c =
+    let second = c .before .before in
+    let boards = second .before .before in
+    let first = boards .before .before .before in
+    c .refused3 .ensures ∙ count-cut _ (head first) (boards .before .before .word .ensures) (boards .before .byte .ensures) (boards .read .ensures) (second .if2 .left) (c .before .if3 .taken)
+
+byte-requires-2 : tie.Need-byte-requires-2
+byte-requires-2 c κs = search needs
+
+refused-requires-4 : tie.Need-refused-requires-4
+refused-requires-4 c κs = search needs
+
+returns-4 : tie.Need-returns-4
+returns-4 c =
+    let count = c .before .before in
+    let third = count .before in
+    let second = third .before in
+    let boards = second .before .before in
+    let first = boards .before .before .before in
+    c .refused4 .ensures ∙ count-refused _ (head first) (boards .before .before .word .ensures) (boards .before .byte .ensures) (boards .read .ensures) (second .if2 .left) (third .if3 .left) (count .byte2 .ensures) (c .before .if4 .taken)
+
+cast-n : tie.Need-cast-n
+cast-n c = search needs
+
+add-read : tie.Need-add-read
+add-read c = search needs
+
+read-requires-2 : tie.Need-read-requires-2
+read-requires-2 c κs = search needs
+
+refused-requires-5 : tie.Need-refused-requires-5
+refused-requires-5 c κs = search needs
+
+returns-5 : tie.Need-returns-5
+returns-5 c =
+    let rows = c .before .before .before in
+    let fourth = rows .before in
+    let count = fourth .before in
+    let third = count .before in
+    let second = third .before in
+    let boards = second .before .before in
+    let first = boards .before .before .before in
+    c .refused5 .ensures ∙ rows-refused _ (head first) (boards .before .before .word .ensures) (boards .before .byte .ensures) (boards .read .ensures) (second .if2 .left) (third .if3 .left) (count .byte2 .ensures) (fourth .if4 .left) (rows .read2 .ensures) (c .before .if5 .taken)
+
+add-if6 : tie.Need-add-if6
+add-if6 c = search needs
+
+mul-if6 : tie.Need-mul-if6
+mul-if6 c = search needs
+
+add-if6-2 : tie.Need-add-if6-2
+add-if6-2 c = search needs
+
+refused-requires-6 : tie.Need-refused-requires-6
+refused-requires-6 c κs = search needs
+
+returns-6 : tie.Need-returns-6
+returns-6 c =
+    let fifth = c .before .before in
+    let rows = fifth .before .before in
+    let fourth = rows .before in
+    let count = fourth .before in
+    let third = count .before in
+    let second = third .before in
+    let boards = second .before .before in
+    let first = boards .before .before .before in
+    c .refused6 .ensures ∙ after-refused _ (head first) (boards .before .before .word .ensures) (boards .before .byte .ensures) (boards .read .ensures) (second .if2 .left) (third .if3 .left) (count .byte2 .ensures) (fourth .if4 .left) (rows .read2 .ensures) (fifth .if5 .left) (c .before .if6 .taken)
+
+capacity-requires : tie.Need-capacity-requires
+capacity-requires c κs = search needs
+
+sum-requires : tie.Need-sum-requires
+sum-requires c κs = search needs
+
+refused-requires-7 : tie.Need-refused-requires-7
+refused-requires-7 c κs = search needs
+
+returns-7 : tie.Need-returns-7
+returns-7 c =
+    let sum = c .before .before in
+    let sixth = sum .before .before .before in
+    let fifth = sixth .before in
+    let rows = fifth .before .before in
+    let fourth = rows .before in
+    let count = fourth .before in
+    let third = count .before in
+    let second = third .before in
+    let boards = second .before .before in
+    let first = boards .before .before .before in
+    c .refused7 .ensures
+    ∙ sum-refused _ (head first) (boards .before .before .word .ensures) (boards .before .byte .ensures) (boards .read .ensures) (second .if2 .left) (third .if3 .left) (count .byte2 .ensures) (fourth .if4 .left) (rows .read2 .ensures) (fifth .if5 .left) (sixth .if6 .left) (sum .sum .ensures) (rw (← sum .before .capacity .ensures) (c .before .if7 .taken))
+
+returns-8 : tie.Need-returns-8
+returns-8 c =
+    let sum = c .before .before in
+    let sixth = sum .before .before .before in
+    let fifth = sixth .before in
+    let rows = fifth .before .before in
+    let fourth = rows .before in
+    let count = fourth .before in
+    let third = count .before in
+    let second = third .before in
+    let boards = second .before .before in
+    let first = boards .before .before .before in
+    is-read _ (head first) (boards .before .before .word .ensures) (boards .before .byte .ensures) (boards .read .ensures) (second .if2 .left) (third .if3 .left) (count .byte2 .ensures) (fourth .if4 .left) (rows .read2 .ensures) (fifth .if5 .left) (sixth .if6 .left) (sum .sum .ensures) (rw (← sum .before .capacity .ensures) (c .before .if7 .left))
+
+pub read-spec : {M : Type 1} → statement M
+read-spec =
+    tie.close
+    (tie.spec
+    fault-requires
+    refused-requires
+    returns
+    word-requires
+    byte-requires
+    cast-m
+    read-requires
+    refused-requires-2
+    returns-2
+    add-at
+    refused-requires-3
+    returns-3
+    byte-requires-2
+    refused-requires-4
+    returns-4
+    cast-n
+    add-read
+    read-requires-2
+    refused-requires-5
+    returns-5
+    add-if6
+    mul-if6
+    add-if6-2
+    refused-requires-6
+    returns-6
+    capacity-requires
+    sum-requires
+    refused-requires-7
+    returns-7
+    returns-8)

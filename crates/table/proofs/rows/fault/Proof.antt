@@ -1,0 +1,83 @@
+use mathlib.Core.Path.{_≡_, sym, ap, _∙_}
+use Prim.Native.Nat.{_-_, _≤_}
+use native.Mathlib.Omega.{arith}
+use lib.ListN.{length, take}
+use lib.Seq.{length-take-le, getD-take}
+use Rattle.facts.specs.Faults.{Passed}
+use Rattle.facts.proofs.Faults.{none-passed, all-passed, stops-at-fault, one-more-passed}
+use Rattle.table.specs.RowTests.{rowTests, tankAbove}
+use borrow.Author.Needs.{needs}
+use Rattle.table.proofs.rows.fault.Statement.{statement}
+use Rattle.table.proofs.rows.fault.Tie as tie
+
+abbrev Inv-loop : tie.InvT-loop
+Inv-loop n cycle rows least₀ i₀ least i = Passed (rowTests cycle) tankAbove (take n rows) least i
+
+abbrev μ-loop : tie.MeasureT-loop
+μ-loop n cycle rows least₀ i₀ least i = n - i
+
+-- n rows are tested
+n-rows : (c : tie.Start Inv-loop μ-loop) → length (take (c .args .n) (c .args .t1)) ≡ c .args .n
+n-rows c =
+    let long : length (c .args .t1) ≡ 32 = search needs in
+    length-take-le (c .args .n) (c .args .t1) (omega (arith, c .pre))
+
+loop-holds : tie.Need-loop-holds Inv-loop μ-loop
+loop-holds c = none-passed _ _ _
+
+mul-row : tie.Need-mul-row Inv-loop μ-loop
+mul-row c = search needs
+
+array-copy-out-row : tie.Need-array-copy-out-row Inv-loop μ-loop
+array-copy-out-row c = search needs
+
+fault-of-requires : tie.Need-fault-of-requires Inv-loop μ-loop
+fault-of-requires c κs = search needs
+
+returns : tie.Need-returns Inv-loop μ-loop
+returns c =
+    let at = c .before .before .before .before in
+    c .before .fault-of .ensures
+    ∙ sym
+    (stops-at-fault _ _ _ (at .loop .inv) (omega (arith, n-rows (at .before))) _ (sym (getD-take (at .before .args .n) (at .before .args .t1) (at .loop .i) _ (omega arith)))
+    (λ z. c .if1 .taken (c .before .fault-of .ensures ∙ z)))
+
+cast-least : tie.Need-cast-least Inv-loop μ-loop
+cast-least c = search needs
+
+add-least : tie.Need-add-least Inv-loop μ-loop
+add-least c = search needs
+
+add-i : tie.Need-add-i Inv-loop μ-loop
+add-i c = search needs
+
+loop-less : tie.Need-loop-less Inv-loop μ-loop
+loop-less c = search needs
+
+loop-again : tie.Need-loop-again Inv-loop μ-loop
+loop-again c =
+    let found = c .before .before in
+    let at = found .before .before .before in
+    one-more-passed _ _ _ (at .loop .inv) (omega (arith, n-rows (at .before))) _ (sym (getD-take (at .before .args .n) (at .before .args .t1) (at .loop .i) _ (omega arith)))
+    (sym (found .fault-of .ensures) ∙ c .before .if1 .left)
+
+returns-2 : tie.Need-returns-2 Inv-loop μ-loop
+returns-2 c = sym (all-passed _ _ _ (c .before .loop .inv) (omega (arith, n-rows (c .before .before))))
+
+pub fault-spec : {M : Type 1} → statement M
+fault-spec =
+    tie.close
+    (tie.spec
+    Inv-loop
+    μ-loop
+    loop-holds
+    mul-row
+    array-copy-out-row
+    fault-of-requires
+    returns
+    cast-least
+    add-least
+    add-i
+    loop-less
+    loop-again
+    returns-2)

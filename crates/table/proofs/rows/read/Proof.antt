@@ -1,0 +1,105 @@
+use mathlib.Core.Path.{_≡_, refl, sym, ap, _∙_}
+use Prim.Native.Nat.{_+_, _-_, _*_, _≤_}
+use native.Mathlib.Omega.{arith}
+use borrow.Author.Needs.{needs}
+use lib.ListN.{replicate}
+use Rattle.facts.specs.Places.{ReadSoFar}
+use Rattle.facts.proofs.Places.{reading-begins, reading-ends, reading-stops, reading-goes-on}
+use Rattle.table.specs.declared.Row.{Row}
+use Rattle.table.specs.declared.Cursor.{Cursor}
+use Rattle.table.specs.Limits.{rowLimit}
+use Rattle.table.specs.RowTests.{tankAbove, zeroRow}
+use Rattle.table.specs.Bytes.{rowAt, rowTestsIn}
+use Rattle.table.specs.Parts.{numberOf}
+use Rattle.table.proofs.Bytes.{row-was-read, row-was-faulty}
+use Rattle.table.proofs.rows.read.Statement.{statement}
+use Rattle.table.proofs.rows.read.Tie as tie
+
+-- i rows have been read, and the cursor stands past them
+abbrev Inv-loop : tie.InvT-loop
+Inv-loop bytes at n cycle rows₀ cursor₀ least₀ i₀ rows cursor least i =
+    ReadSoFar (rowTestsIn bytes cycle) (λ k. tankAbove (rowAt bytes k)) (rowAt bytes) zeroRow rowLimit at 9 n rows least i
+    × (cursor .at ≡ at + 9 * i)
+
+abbrev μ-loop : tie.MeasureT-loop
+μ-loop bytes at n cycle rows₀ cursor₀ least₀ i₀ rows cursor least i = n - i
+
+zero-requires : tie.Need-zero-requires Inv-loop μ-loop
+zero-requires c κs = search needs
+
+loop-holds : tie.Need-loop-holds Inv-loop μ-loop
+loop-holds c = (reading-begins _ _ _ _ _ _ _ _ (ap (λ (z : Row). replicate 32 z) (c .zero .ensures)), omega arith)
+
+read-one-requires : tie.Need-read-one-requires Inv-loop μ-loop
+read-one-requires c κs = search needs
+
+enum-known-got : tie.Need-enum-known-got Inv-loop μ-loop
+enum-known-got c = search needs
+
+enum-told : tie.Need-enum-told Inv-loop μ-loop
+enum-told c = search needs
+
+number-requires : tie.Need-number-requires Inv-loop μ-loop
+number-requires c κs = search needs
+
+returns : tie.Need-returns Inv-loop μ-loop
+returns c =
+    let got = c .before .before .before in
+    let at = got .before .before in
+    let told = c .before .enum-told .given .1 in
+    let was = row-was-faulty _ _ _ _ (got .read-one .ensures) told in
+    let number = c .number .ensures ∙ ap numberOf told ∙ was .0 in
+    reading-stops _ _ _ _ _ _ _ _ (at .loop .inv .0) (omega arith) (at .loop .inv .1) number (λ z. was .1 (sym number ∙ z))
+
+mul-rows : tie.Need-mul-rows Inv-loop μ-loop
+mul-rows c = search needs
+
+array-set-from-rows : tie.Need-array-set-from-rows Inv-loop μ-loop
+array-set-from-rows c = search needs
+
+cast-least : tie.Need-cast-least Inv-loop μ-loop
+cast-least c = search needs
+
+add-least : tie.Need-add-least Inv-loop μ-loop
+add-least c = search needs
+
+add-i : tie.Need-add-i Inv-loop μ-loop
+add-i c = search needs
+
+loop-less : tie.Need-loop-less Inv-loop μ-loop
+loop-less c = search needs
+
+loop-again : tie.Need-loop-again Inv-loop μ-loop
+loop-again c =
+    let got = c .before .before .before .before in
+    let at = got .before .before in
+    let was = row-was-read _ _ _ _ (got .read-one .ensures) (c .before .before .got .given .1) in
+    let past = ap (λ (x : Cursor). x .at) (was .2) in (
+      reading-goes-on _ _ _ _ _ _ _ _ (at .loop .inv .0) (omega arith) (at .loop .inv .1) (omega arith) (was .0) (was .1) (ap tankAbove (was .1)),
+      omega (arith, past, at .loop .inv .1),
+    )
+
+returns-2 : tie.Need-returns-2 Inv-loop μ-loop
+returns-2 c = reading-ends _ _ _ _ _ _ _ _ (c .before .loop .inv .0) (omega arith)
+
+pub read-spec : {M : Type 1} → statement M
+read-spec =
+    tie.close
+    (tie.spec
+    Inv-loop
+    μ-loop
+    zero-requires
+    loop-holds
+    read-one-requires
+    enum-known-got
+    enum-told
+    number-requires
+    returns
+    mul-rows
+    array-set-from-rows
+    cast-least
+    add-least
+    add-i
+    loop-less
+    loop-again
+    returns-2)

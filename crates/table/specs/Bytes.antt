@@ -1,0 +1,128 @@
+-- The table in bytes, and what reading them answers (01, "The table, in bytes").
+use Prim.Native.Nat.{ℕ, zero, suc, _+_, _*_}
+use mathlib.Core.List.{List, [], _∷_, map}
+use mathlib.Core.Bool.{not}
+use lib.Dec.{ltb, eqb}
+use lib.ListN.{length, replicate}
+use Rattle.facts.specs.Faults.{Test, _⇒_, _then_, firstMet, rising}
+use Rattle.facts.specs.Places.{places, padded}
+use Rattle.fields.specs.Fields.{byte, half, word, shorter}
+use Rattle.table.specs.declared.Row.{Row}
+use Rattle.table.specs.declared.Table.{Table}
+use Rattle.table.specs.declared.Reading.{Reading}
+use Rattle.table.specs.Limits.{cycleLimit, coreLimit, rowLimit}
+use Rattle.table.specs.RowTests.{rowTests, tankAbove, load, zeroRow}
+use Rattle.table.specs.Value.{outside, boardTests, boardAbove}
+
+-- Where each part stands: "format, 1", "cycle L", "core count M .. then M board numbers", "row count n .. then n rows".
+abbrev pub formatIn : List ℕ → ℕ
+formatIn s = byte s 0
+
+abbrev pub cycleIn : List ℕ → ℕ
+cycleIn s = word s 1
+
+abbrev pub coresIn : List ℕ → ℕ
+coresIn s = byte s 5
+
+abbrev pub countPlace : List ℕ → ℕ
+countPlace s = 6 + coresIn s
+
+abbrev pub countIn : List ℕ → ℕ
+countIn s = byte s (countPlace s)
+
+abbrev pub rowsPlace : List ℕ → ℕ
+rowsPlace s = countPlace s + 1
+
+-- "tank (2 ..), e (2), p (2), f (2 ..), kind (1 ..)": the row in the nine bytes from place i on
+abbrev pub rowAt : List ℕ → ℕ → Row
+rowAt s i =
+    record {
+      tank = half s i;
+      cost = half s (i + 2);
+      period = half s (i + 4);
+      phase = half s (i + 6);
+      kind = byte s (i + 8);
+    }
+
+-- "M board numbers" and "n rows" of nine bytes: where they stand
+abbrev pub boardPlaces : List ℕ → List ℕ
+boardPlaces s = places 6 1 (coresIn s)
+
+abbrev pub rowPlaces : List ℕ → List ℕ
+rowPlaces s = places (rowsPlace s) 9 (countIn s)
+
+-- "table ends inside a field or row": a field or row that is to end at place n is not all there
+abbrev pub cut : List ℕ → ℕ → Test
+cut s n = shorter s n ⇒ 10
+
+-- "M board numbers rising strictly, each a field": the tests of the board number at place i
+abbrev pub boardTestsIn : List ℕ → ℕ → ℕ → List Test
+boardTestsIn s least i = cut s (i + 1) ∷ boardTests least (byte s i)
+
+-- "a row once all its nine are": the tests of the row in the nine bytes from place i on
+abbrev pub rowTestsIn : List ℕ → ℕ → ℕ → ℕ → List Test
+rowTestsIn s cycle least i = cut s (i + 9) ∷ rowTests cycle least (rowAt s i)
+
+abbrev pub boardsTestsIn : List ℕ → List Test
+boardsTestsIn s = rising (boardTestsIn s) (λ i. boardAbove (byte s i)) 0 (boardPlaces s)
+
+abbrev pub rowsTestsIn : List ℕ → List Test
+rowsTestsIn s = rising (rowTestsIn s (cycleIn s)) (λ i. tankAbove (rowAt s i)) 0 (rowPlaces s)
+
+-- "A field is tested as soon as its bytes are there": format, cycle and core count
+abbrev pub headTests : List ℕ → List Test
+headTests s =
+    cut s 1
+    ∷ not (eqb (formatIn s) 1) ⇒ 11
+    ∷ cut s 5
+    ∷ outside 1 cycleLimit (cycleIn s) ⇒ 12
+    ∷ cut s 6
+    ∷ outside 1 coreLimit (coresIn s) ⇒ 13
+    ∷ []
+
+-- the row count
+abbrev pub countTestsIn : List ℕ → List Test
+countTestsIn s = cut s (rowsPlace s) ∷ ltb rowLimit (countIn s) ⇒ 15 ∷ []
+
+-- "after the last row come 21, then 22"
+abbrev pub lastTests : List ℕ → List Test
+lastTests s =
+    ltb (rowsPlace s + 9 * countIn s) (length s) ⇒ 21
+    ∷ ltb (coresIn s * cycleIn s) (load (cycleIn s) (map (rowAt s) (rowPlaces s))) ⇒ 22
+    ∷ []
+
+-- "Reading goes from the front .. the first fault met is answered": all the tests, in the order in which they are made.
+abbrev pub tableTests : List ℕ → List Test
+tableTests s =
+    headTests s
+    then boardsTestsIn s
+    then countTestsIn s
+    then rowsTestsIn s
+    then lastTests s
+
+-- the number that is answered
+unfoldable pub tableNumber : List ℕ → ℕ
+tableNumber s = firstMet (tableTests s)
+
+-- "a table that is taken has 0 in every place past n and past M"
+abbrev pub tableIn : List ℕ → Table
+tableIn s =
+    record {
+      cycle = cycleIn s;
+      cores = coresIn s;
+      boards = padded (byte s) 0 coreLimit 6 1 (coresIn s);
+      count = countIn s;
+      rows = padded (rowAt s) zeroRow rowLimit (rowsPlace s) 9 (countIn s);
+    }
+
+-- "A table refusal yields no table": every part is 0.
+abbrev pub noTable : Table
+noTable = record { cycle = 0; cores = 0; boards = replicate coreLimit 0; count = 0; rows = replicate rowLimit zeroRow }
+
+-- the answer: 0 with the table, or the number of the first fault met
+abbrev pub readingOf : ℕ → Table → Reading
+readingOf zero table = record { number = 0; table = table }
+readingOf (suc k) table = record { number = suc k; table = noTable }
+
+unfoldable pub reading : List ℕ → Reading
+reading s = readingOf (tableNumber s) (tableIn s)

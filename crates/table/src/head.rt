@@ -1,0 +1,47 @@
+// The first fields of a table: format, cycle and core count.
+ghost use mathlib.Core.Path.{_≡_};
+ghost use Rattle.facts.specs.Faults.{firstMet};
+ghost use Rattle.table.specs.Limits.{cycleLimit, coreLimit};
+ghost use Rattle.table.specs.Value.{outside};
+ghost use Rattle.table.specs.Bytes.{headTests};
+
+const CYCLE_LIMIT: u32 = 1_000_000;
+
+const CORE_LIMIT: u8 = 8;
+
+// The first fault 10 to 13 met, or 0.
+pub(crate) fn fault(bytes: &[u8]) -> u8
+    ensures { λ r. ⌜ r ≡ firstMet (headTests (now (bytes .entry))) ⌝ }
+{
+    if bytes.len() < 1 {
+        return 10;
+    }
+    if fields::byte(bytes, 0) != 1 {
+        return 11;
+    }
+    if bytes.len() < 5 {
+        return 10;
+    }
+    if cycle_is_outside(fields::word(bytes, 1)) {
+        return 12;
+    }
+    if bytes.len() < 6 {
+        return 10;
+    }
+    if cores_are_outside(fields::byte(bytes, 5)) {
+        return 13;
+    }
+    0
+}
+
+pub(crate) fn cycle_is_outside(cycle: u32) -> bool
+    ensures { λ r. ⌜ r ≡ outside 1 cycleLimit cycle ⌝ }
+{
+    if cycle < 1 { true } else { CYCLE_LIMIT < cycle }
+}
+
+pub(crate) fn cores_are_outside(cores: u8) -> bool
+    ensures { λ r. ⌜ r ≡ outside 1 coreLimit cores ⌝ }
+{
+    if cores < 1 { true } else { CORE_LIMIT < cores }
+}

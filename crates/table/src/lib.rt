@@ -1,0 +1,161 @@
+// Job tables: the reader, and the fault of a table value.
+mod boards;
+mod head;
+mod rows;
+
+ghost use mathlib.Core.Path.{_≡_};
+ghost use Prim.Native.Nat.{_*_};
+ghost use Rattle.table.specs.RowTests.{zeroRow};
+ghost use Rattle.table.specs.Value.{faultOf};
+ghost use Rattle.table.specs.Bytes.{reading};
+ghost use Rattle.table.specs.Parts.{refusedWith};
+
+pub struct Row {
+    pub tank: u16,
+    pub cost: u16,
+    pub period: u16,
+    pub phase: u16,
+    pub kind: u8,
+}
+
+pub struct Table {
+    pub cycle: u32,
+    pub cores: u8,
+    pub boards: [u8; 8],
+    pub count: u8,
+    pub rows: [Row; 32],
+}
+
+// What reading answers: 0 and the table, or the number of the first fault met and a table of zeros.
+pub struct Reading {
+    pub number: u8,
+    pub table: Table,
+}
+
+const ROW_LIMIT: u8 = 32;
+
+// A place in the bytes that are read.
+struct Cursor {
+    at: usize,
+}
+
+// What reading a row finds: the row with the place past it, or the number of the first fault met.
+enum RowRead {
+    Row(Row, Cursor),
+    Fault(u8),
+}
+
+// The board numbers that were read, or the number of the first fault met.
+struct BoardsRead {
+    number: u8,
+    boards: [u8; 8],
+}
+
+// The rows that were read, or the number of the first fault met.
+struct RowsRead {
+    number: u8,
+    rows: [Row; 32],
+}
+
+// The table in these bytes, or the number of the first fault met.
+pub fn read(bytes: &[u8]) -> Reading
+    ensures { λ r. ⌜ r ≡ reading (now (bytes .entry)) ⌝ }
+{
+    let head = head::fault(bytes);
+    if head != 0 {
+        return refused(head);
+    }
+    let cycle = fields::word(bytes, 1);
+    let cores = fields::byte(bytes, 5);
+    let m = cores as usize;
+    let boards_read = boards::read(bytes, m);
+    if boards_read.number != 0 {
+        return refused(boards_read.number);
+    }
+    let at = 6 + m;
+    if bytes.len() <= at {
+        return refused(10);
+    }
+    let count = fields::byte(bytes, at);
+    if ROW_LIMIT < count {
+        return refused(15);
+    }
+    let n = count as usize;
+    let rows_read = rows::read(bytes, at + 1, n, cycle);
+    if rows_read.number != 0 {
+        return refused(rows_read.number);
+    }
+    if at + 1 + 9 * n < bytes.len() {
+        return refused(21);
+    }
+    let rows = rows_read.rows;
+    if capacity(cores, cycle) < rows::sum(rows, n, cycle) {
+        return refused(22);
+    }
+    let boards = boards_read.boards;
+    let table = Table {
+        cycle,
+        cores,
+        boards,
+        count,
+        rows,
+    };
+    Reading { number: 0, table }
+}
+
+// The fault of a table value: 12 to 20, 22, or 0. The value may be wild.
+pub fn fault(table: Table) -> u8
+    ensures { λ r. ⌜ r ≡ faultOf table ⌝ }
+{
+    let cycle = table.cycle;
+    if head::cycle_is_outside(cycle) {
+        return 12;
+    }
+    let cores = table.cores;
+    if head::cores_are_outside(cores) {
+        return 13;
+    }
+    let boards = table.boards;
+    let board_fault = boards::fault(boards, cores as usize);
+    if board_fault != 0 {
+        return board_fault;
+    }
+    let count = table.count;
+    if ROW_LIMIT < count {
+        return 15;
+    }
+    let n = count as usize;
+    let rows = table.rows;
+    let row_fault = rows::fault(rows, n, cycle);
+    if row_fault != 0 {
+        return row_fault;
+    }
+    if capacity(cores, cycle) < rows::sum(rows, n, cycle) {
+        return 22;
+    }
+    0
+}
+
+// A refusal: its number, and a table of zeros.
+fn refused(number: u8) -> Reading
+    ensures { λ r. ⌜ r ≡ refusedWith number ⌝ }
+{
+    let boards = [0u8; 8];
+    let zero = rows::zero();
+    let rows = [zero; 32];
+    let table = Table {
+        cycle: 0,
+        cores: 0,
+        boards,
+        count: 0,
+        rows,
+    };
+    Reading { number, table }
+}
+
+// M·L: the quanta that the cores have in a cycle.
+fn capacity(cores: u8, cycle: u32) -> u64
+    ensures { λ r. ⌜ r ≡ cores * cycle ⌝ }
+{
+    (cores as u64) * (cycle as u64)
+}

@@ -1,0 +1,94 @@
+/*
+ * table_check FILE..
+ *
+ * Checks job tables. For each FILE, where '-' is standard input, it prints a line
+ *     FILE: NUMBER meaning
+ * with the number that 01, the maker's paper, gives to the bytes of the file. Exit status: 0 if every table is taken, 1 if some table
+ * is refused, 2 if some file cannot be read.
+ */
+#include "zbrojomir.h"
+
+#include <errno.h>
+#include <stdio.h>
+#include <string.h>
+
+enum status { TAKEN = 0, REFUSED = 1, TROUBLE = 2 };
+
+static const char *meaning(uint8_t number) {
+    switch (number) {
+    case ZB_DONE: return "done";
+    case ZB_TABLE_CUT: return "table ends inside a field or row";
+    case ZB_TABLE_FORMAT: return "format is not 1";
+    case ZB_TABLE_CYCLE: return "L outside 1 to 1,000,000";
+    case ZB_TABLE_CORES: return "M outside 1 to 8";
+    case ZB_TABLE_BOARDS: return "board numbers not rising";
+    case ZB_TABLE_ROWS: return "n above 32";
+    case ZB_TABLE_TANKS: return "tanks not rising";
+    case ZB_TABLE_NO_COST: return "e = 0";
+    case ZB_TABLE_COST: return "e not below p";
+    case ZB_TABLE_PERIOD: return "p does not divide L";
+    case ZB_TABLE_KIND: return "kind above 1";
+    case ZB_TABLE_LONG: return "bytes after the last row";
+    case ZB_TABLE_OVERFULL: return "sum above M*L";
+    default: return "not a number that 01 gives to a table";
+    }
+}
+
+static enum status trouble(const char *name) {
+    fprintf(stderr, "table_check: %s: %s\n", name, errno != 0 ? strerror(errno) : "it cannot be read");
+    return TROUBLE;
+}
+
+/*
+ * Of a file longer than any table the first ZB_TABLE_LONGEST + 1 bytes are read, and the answer for them is the answer for the whole
+ * file. Each field and row that a reader can ask for lies within the first ZB_TABLE_LONGEST bytes, so none is missing (10), and a fault
+ * 11 to 20 is met there, in both or in neither. If none is met, the last row ends there too, and in both at least one byte comes after
+ * it: 21, before the sum is looked at.
+ */
+static enum status check(const char *name) {
+    uint8_t table[ZB_TABLE_LONGEST + 1], number;
+    int standard = strcmp(name, "-") == 0;
+    size_t length;
+    FILE *file;
+
+    errno = 0;
+    file = standard ? stdin : fopen(name, "rb");
+    if (file == NULL) {
+        return trouble(name);
+    }
+    length = fread(table, 1, sizeof table, file);
+    if (ferror(file)) {
+        enum status status = trouble(name);
+        if (!standard) {
+            fclose(file);
+        }
+        return status;
+    }
+    if (!standard) {
+        fclose(file);
+    }
+    number = zb_table_check(table, length);
+    printf("%s: %u %s\n", name, (unsigned)number, meaning(number));
+    return number == ZB_DONE ? TAKEN : REFUSED;
+}
+
+int main(int count, char **words) {
+    enum status worst = TAKEN;
+    int i;
+
+    if (count < 2) {
+        fprintf(stderr, "usage: table_check FILE..   ('-' is standard input)\n");
+        return TROUBLE;
+    }
+    for (i = 1; i < count; i++) {
+        enum status status = check(words[i]);
+        if (status > worst) {
+            worst = status;
+        }
+    }
+    errno = 0;
+    if (fflush(stdout) != 0 || ferror(stdout)) {
+        return trouble("standard output");
+    }
+    return worst;
+}

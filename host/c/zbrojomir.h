@@ -1,0 +1,85 @@
+/*
+ * zbrojomir.h: the proved checks, for the board's C firmware.
+ *
+ * Link libfirmware.a, which `rt staticlib firmware` makes for x86-64. Its code is proved: for every input each function answers what
+ * its comment says. It calls nothing of yours, and nothing of the C library but memcpy, memmove, memset and memcmp.
+ *
+ * What holds for every function here:
+ * - It reads the bytes that are lent to it and writes none of them. It allocates no memory, and when it has returned it keeps no
+ *   pointer to yours.
+ * - It has no global state. It is re-entrant: tasks, cores and interrupts may call it at the same time, also on the same bytes, as
+ *   long as nobody changes those bytes during the call. As other compiled C it follows the System V convention for x86-64, and may use
+ *   vector registers and the red zone, which an interrupt routine has to save or to leave alone.
+ * - It returns for every input, and says what it has to say by its number alone: no errno, no signal, no abort.
+ *
+ * The numbers and their meanings are those of 01, the maker's paper.
+ */
+#ifndef ZBROJOMIR_H
+#define ZBROJOMIR_H
+
+#include <stddef.h>
+#include <stdint.h>
+
+#ifdef __cplusplus
+extern "C" {
+#endif
+
+/* What comes back, in 01's words. A table is taken with ZB_DONE; with every other number it is refused. */
+enum zb_number {
+    ZB_DONE = 0,            /* done */
+    ZB_TABLE_CUT = 10,      /* table ends inside a field or row */
+    ZB_TABLE_FORMAT = 11,   /* format is not 1 */
+    ZB_TABLE_CYCLE = 12,    /* L outside 1 to 1,000,000 */
+    ZB_TABLE_CORES = 13,    /* M outside 1 to 8 */
+    ZB_TABLE_BOARDS = 14,   /* board numbers not rising */
+    ZB_TABLE_ROWS = 15,     /* n above 32 */
+    ZB_TABLE_TANKS = 16,    /* tanks not rising */
+    ZB_TABLE_NO_COST = 17,  /* e = 0 */
+    ZB_TABLE_COST = 18,     /* e not below p */
+    ZB_TABLE_PERIOD = 19,   /* p does not divide L */
+    ZB_TABLE_KIND = 20,     /* kind above 1 */
+    ZB_TABLE_LONG = 21,     /* bytes after the last row */
+    ZB_TABLE_OVERFULL = 22  /* sum above M*L */
+};
+
+/* The bytes of the longest table that can be taken: 8 cores and 32 rows. */
+#define ZB_TABLE_LONGEST (1 + 4 + 1 + 8 + 1 + 32 * 9)
+
+/*
+ * Checks a job table and answers 01's number for its bytes, one of those above.
+ *
+ * A table, every number in it little-endian:
+ *     format, 1                                                1 byte
+ *     cycle L, 1 to 1,000,000                                  4 bytes
+ *     core count M, 1 to 8                                     1 byte
+ *     M board numbers, rising strictly                         1 byte each
+ *     row count n, 0 to 32                                     1 byte
+ *     n rows, each:                                            9 bytes
+ *         tank, rising strictly from row to row                2 bytes
+ *         cost e, from 1                                       2 bytes
+ *         period p, above e, a divisor of L                    2 bytes
+ *         phase f                                              2 bytes
+ *         kind, 0 plain or 1 early release                     1 byte
+ * and nothing after the last row. The sum of e * (L / p) over the rows is at most M * L; a full box, where they are equal, is taken.
+ *
+ * The bytes are read from the front. A field is tested as soon as its bytes are there, a row once all its nine are, and then in the
+ * order of the numbers; after the last row come 21, then 22. The first fault met is answered.
+ *
+ * table, length: `length` bytes must be readable at `table`, which may have any alignment. A length of 0 is an empty table, which is
+ * refused with ZB_TABLE_CUT; `table` is then not looked at and may be NULL.
+ */
+uint8_t zb_table_check(const uint8_t *table, size_t length);
+
+/*
+ * The bytes of stack that a call of zb_table_check uses, its return address included.
+ * Measured on x86-64 (host/c/stack.c): the function runs on a painted stack of its own, for a full table of 8 cores and 32 rows and
+ * for refused ones; the depth of the lowest byte written in any of these runs is rounded up to a multiple of 256. The tests measure
+ * it again and fail if it is more. A library for another processor has to be measured there.
+ */
+#define ZB_TABLE_CHECK_STACK 1280
+
+#ifdef __cplusplus
+}
+#endif
+
+#endif

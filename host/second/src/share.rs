@@ -1,0 +1,114 @@
+//! Share.
+//!
+//! "At time t let a be 0 before f and t - f after. The exact share is e·a/p. ... These are
+//! whole numbers; no fraction is formed."
+
+use crate::table::Row;
+
+/// "let a be 0 before f and t - f after"
+fn active_time(row: &Row, time: u64) -> u64 {
+    time.saturating_sub(u64::from(row.phase))
+}
+
+/// e·a - p·q
+pub fn behind(row: &Row, time: u64, quanta: u64) -> i128 {
+    let (e, p) = (i128::from(row.cost), i128::from(row.period));
+    e * i128::from(active_time(row, time)) - p * i128::from(quanta)
+}
+
+/// "e·a - p·q < p", for both kinds: the row is not short of its share.
+pub fn not_short(row: &Row, time: u64, quanta: u64) -> bool {
+    behind(row, time, quanta) < i128::from(row.period)
+}
+
+/// "Plain row: -p < e·a - p·q. Early-release row: q is at most e·ceil(a/p).": the row has not
+/// more than its share. (p = 0 is no row; it has nothing.)
+pub fn not_over(row: &Row, time: u64, quanta: u64) -> bool {
+    let p = i128::from(row.period);
+    if p == 0 {
+        return false;
+    }
+    if row.kind == 0 {
+        -p < behind(row, time, quanta)
+    } else {
+        let a = i128::from(active_time(row, time));
+        let jobs = (a + p - 1) / p;
+        i128::from(quanta) <= i128::from(row.cost) * jobs
+    }
+}
+
+/// Is a row with q quanta inside its share at time t?
+pub fn inside(row: &Row, time: u64, quanta: u64) -> bool {
+    not_short(row, time, quanta) && not_over(row, time, quanta)
+}
+
+#[cfg(test)]
+mod tests {
+    use super::*;
+
+    fn row(cost: u16, period: u16, phase: u16, kind: u8) -> Row {
+        Row {
+            tank: 0,
+            cost,
+            period,
+            phase,
+            kind,
+        }
+    }
+
+    fn allowed(row: Row, time: u64) -> Vec<u64> {
+        (0..20).filter(|&q| inside(&row, time, q)).collect()
+    }
+
+    #[test]
+    fn plain_2_6() {
+        // -6 < 2t - 6q < 6
+        let row = row(2, 6, 0, 0);
+        assert_eq!(allowed(row, 0), [0]);
+        assert_eq!(allowed(row, 1), [0, 1]);
+        assert_eq!(allowed(row, 2), [0, 1]);
+        assert_eq!(allowed(row, 3), [1]);
+        assert_eq!(allowed(row, 4), [1, 2]);
+        assert_eq!(allowed(row, 6), [2]);
+    }
+
+    #[test]
+    fn early_release_2_6() {
+        // 2t - 6q < 6, and q at most 2·ceil(t/6)
+        let row = row(2, 6, 0, 1);
+        assert_eq!(allowed(row, 0), [0]);
+        assert_eq!(allowed(row, 1), [0, 1, 2]);
+        assert_eq!(allowed(row, 2), [0, 1, 2]);
+        assert_eq!(allowed(row, 3), [1, 2]);
+        assert_eq!(allowed(row, 6), [2]);
+        assert_eq!(allowed(row, 7), [2, 3, 4]);
+        assert_eq!(allowed(row, 12), [4]);
+    }
+
+    #[test]
+    fn nothing_is_due_up_to_the_phase() {
+        for kind in 0..2 {
+            let row = row(2, 3, 4, kind);
+            for time in 0..=4 {
+                assert_eq!(allowed(row, time), [0]);
+            }
+        }
+        // one slot after the phase: 2 - 3q
+        assert_eq!(allowed(row(2, 3, 4, 0), 5), [0, 1]);
+        assert_eq!(allowed(row(2, 3, 4, 1), 5), [0, 1, 2]);
+    }
+
+    #[test]
+    fn wild_numbers() {
+        for &kind in &[0, 1, 255] {
+            for &(e, p) in &[(0, 0), (65535, 1), (65535, 65535), (1, 65535)] {
+                for &number in &[0, 1, u64::MAX] {
+                    inside(&row(e, p, 65535, kind), number, u64::MAX - number);
+                    inside(&row(e, p, 0, kind), number, number);
+                }
+            }
+        }
+        assert!(!inside(&row(1, 2, 0, 0), 0, u64::MAX));
+        assert!(!inside(&row(1, 2, 0, 0), u64::MAX, 0));
+    }
+}

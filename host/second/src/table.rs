@@ -1,0 +1,585 @@
+//! The table, in bytes.
+//!
+//! "Reading goes from the front. A field is tested as soon as its bytes are there, a row once
+//! all its nine are, and then in the order of the numbers below; after the last row come 21,
+//! then 22; the first fault met is answered."
+
+/// "A row: tank (2), e (2), p (2), f (2), kind (1: 0 plain, 1 early release)."
+#[derive(Clone, Copy, PartialEq, Eq, Debug)]
+pub struct Row {
+    pub tank: u16,
+    /// e
+    pub cost: u16,
+    /// p
+    pub period: u16,
+    /// f
+    pub phase: u16,
+    /// 0 plain, 1 early release
+    pub kind: u8,
+}
+
+/// A table value. "A table that is taken has 0 in every place past n and past M."
+#[derive(Clone, Copy, PartialEq, Eq, Debug)]
+pub struct Table {
+    /// L
+    pub cycle: u32,
+    /// M
+    pub cores: u8,
+    pub boards: [u8; 8],
+    /// n
+    pub count: u8,
+    pub rows: [Row; 32],
+}
+
+impl Row {
+    pub fn zero() -> Row {
+        Row {
+            tank: 0,
+            cost: 0,
+            period: 0,
+            phase: 0,
+            kind: 0,
+        }
+    }
+}
+
+impl Table {
+    pub fn zero() -> Table {
+        Table {
+            cycle: 0,
+            cores: 0,
+            boards: [0; 8],
+            count: 0,
+            rows: [Row::zero(); 32],
+        }
+    }
+
+    /// The rows 0 to n-1. "Places past row n ... are ignored." (A wild n is cut at 32.)
+    pub fn named_rows(&self) -> &[Row] {
+        let n = usize::from(self.count).min(self.rows.len());
+        &self.rows[..n]
+    }
+}
+
+// ---- the tests of single fields, each with its number ----
+
+/// 12: "L outside 1 to 1,000,000"
+fn test_cycle(cycle: u32) -> Result<(), u8> {
+    if cycle < 1 || cycle > 1_000_000 {
+        return Err(12);
+    }
+    Ok(())
+}
+
+/// 13: "M outside 1 to 8"
+fn test_cores(cores: u8) -> Result<(), u8> {
+    if cores < 1 || cores > 8 {
+        return Err(13);
+    }
+    Ok(())
+}
+
+/// 14: "board numbers not rising" (strictly). The first board has none before it.
+fn test_board(before: Option<u8>, board: u8) -> Result<(), u8> {
+    match before {
+        Some(last) if board <= last => Err(14),
+        _ => Ok(()),
+    }
+}
+
+/// 15: "n above 32"
+fn test_count(count: u8) -> Result<(), u8> {
+    if count > 32 {
+        return Err(15);
+    }
+    Ok(())
+}
+
+/// A row's faults, "in the order of the numbers".
+fn test_row(before: Option<u16>, row: &Row, cycle: u32) -> Result<(), u8> {
+    // 16: "tanks not rising" (strictly from row to row)
+    if let Some(last) = before {
+        if row.tank <= last {
+            return Err(16);
+        }
+    }
+    // 17: "e = 0"
+    if row.cost == 0 {
+        return Err(17);
+    }
+    // 18: "e not below p"
+    if row.cost >= row.period {
+        return Err(18);
+    }
+    // 19: "p does not divide L" (p is at least 2 here)
+    if cycle % u32::from(row.period) != 0 {
+        return Err(19);
+    }
+    // 20: "kind above 1"
+    if row.kind > 1 {
+        return Err(20);
+    }
+    Ok(())
+}
+
+/// 22: "The sum of e·(L/p) is at most M·L." Whole numbers; L/p leaves no rest.
+fn test_sum(table: &Table) -> Result<(), u8> {
+    let cycle = u64::from(table.cycle);
+    let mut sum: u64 = 0;
+    for row in table.named_rows() {
+        sum += u64::from(row.cost) * (cycle / u64::from(row.period));
+    }
+    if sum > u64::from(table.cores) * cycle {
+        return Err(22);
+    }
+    Ok(())
+}
+
+// ---- reading bytes ----
+
+/// Takes the next `length` bytes, or 10: "table ends inside a field or row".
+fn take<'a>(rest: &mut &'a [u8], length: usize) -> Result<&'a [u8], u8> {
+    if rest.len() < length {
+        return Err(10);
+    }
+    let (taken, left) = rest.split_at(length);
+    *rest = left;
+    Ok(taken)
+}
+
+/// Two bytes, little-endian, of a row already taken.
+fn pair(bytes: &[u8], at: usize) -> u16 {
+    u16::from_le_bytes([bytes[at], bytes[at + 1]])
+}
+
+/// Reads a table from its bytes; `Err` is the refusal's number, 10 to 22.
+pub fn read(bytes: &[u8]) -> Result<Table, u8> {
+    let mut rest = bytes;
+    let mut table = Table::zero();
+
+    // "format, 1"
+    let format = take(&mut rest, 1)?[0];
+    if format != 1 {
+        return Err(11);
+    }
+
+    // "cycle L, 1 to 1,000,000": 4 bytes
+    let cycle = take(&mut rest, 4)?;
+    table.cycle = u32::from_le_bytes([cycle[0], cycle[1], cycle[2], cycle[3]]);
+    test_cycle(table.cycle)?;
+
+    // "core count M, 1 to 8, then M board numbers rising strictly, each a field"
+    table.cores = take(&mut rest, 1)?[0];
+    test_cores(table.cores)?;
+    let mut last_board = None;
+    for m in 0..usize::from(table.cores) {
+        let board = take(&mut rest, 1)?[0];
+        test_board(last_board, board)?;
+        table.boards[m] = board;
+        last_board = Some(board);
+    }
+
+    // "row count n, 0 to 32, then n rows"
+    table.count = take(&mut rest, 1)?[0];
+    test_count(table.count)?;
+    let mut last_tank = None;
+    for n in 0..usize::from(table.count) {
+        let nine = take(&mut rest, 9)?;
+        let row = Row {
+            tank: pair(nine, 0),
+            cost: pair(nine, 2),
+            period: pair(nine, 4),
+            phase: pair(nine, 6),
+            kind: nine[8],
+        };
+        test_row(last_tank, &row, table.cycle)?;
+        table.rows[n] = row;
+        last_tank = Some(row.tank);
+    }
+
+    // "after the last row come 21, then 22"
+    if !rest.is_empty() {
+        return Err(21);
+    }
+    test_sum(&table)?;
+    Ok(table)
+}
+
+// ---- judging a table value ----
+
+/// The fault 12 to 20 or 22 that any table value has, first met in reading order, else 0.
+/// "Places past row n, and board numbers past M, are ignored."
+pub fn fault(table: &Table) -> u8 {
+    match faultless(table) {
+        Ok(()) => 0,
+        Err(number) => number,
+    }
+}
+
+fn faultless(table: &Table) -> Result<(), u8> {
+    test_cycle(table.cycle)?;
+    test_cores(table.cores)?;
+    let mut last_board = None;
+    for board in table.boards.iter().take(usize::from(table.cores)) {
+        test_board(last_board, *board)?;
+        last_board = Some(*board);
+    }
+    test_count(table.count)?;
+    let mut last_tank = None;
+    for row in table.named_rows() {
+        test_row(last_tank, row, table.cycle)?;
+        last_tank = Some(row.tank);
+    }
+    test_sum(table)
+}
+
+#[cfg(test)]
+pub(crate) mod tests {
+    use super::*;
+
+    /// 01's example table (36 bytes): three rows 2/3, tanks 10, 11, 20, boards 0 and 1.
+    pub(crate) const EXAMPLE: [u8; 36] = [
+        0x01, 0x03, 0x00, 0x00, 0x00, 0x02, 0x00, 0x01, 0x03, //
+        0x0A, 0x00, 0x02, 0x00, 0x03, 0x00, 0x00, 0x00, 0x00, //
+        0x0B, 0x00, 0x02, 0x00, 0x03, 0x00, 0x00, 0x00, 0x00, //
+        0x14, 0x00, 0x02, 0x00, 0x03, 0x00, 0x00, 0x00, 0x00,
+    ];
+
+    /// The bytes of a table with boards 0 to M-1 and rows (tank, e, p, f, kind), unjudged.
+    pub(crate) fn bytes_of(cycle: u32, cores: u8, rows: &[(u16, u16, u16, u16, u8)]) -> Vec<u8> {
+        let mut bytes = vec![1];
+        bytes.extend_from_slice(&cycle.to_le_bytes());
+        bytes.push(cores);
+        for board in 0..cores {
+            bytes.push(board);
+        }
+        bytes.push(rows.len() as u8);
+        for &(tank, e, p, f, kind) in rows {
+            for number in [tank, e, p, f] {
+                bytes.extend_from_slice(&number.to_le_bytes());
+            }
+            bytes.push(kind);
+        }
+        bytes
+    }
+
+    /// Plain and early-release rows by (e, p, f, kind), tanks 1, 2, 3 and so on; unjudged.
+    pub(crate) fn value_of(cycle: u32, cores: u8, rows: &[(u16, u16, u16, u8)]) -> Table {
+        let mut table = Table::zero();
+        table.cycle = cycle;
+        table.cores = cores;
+        for m in 0..8u8 {
+            if m < cores {
+                table.boards[usize::from(m)] = m;
+            }
+        }
+        table.count = rows.len() as u8;
+        for (place, &(e, p, f, kind)) in rows.iter().enumerate() {
+            table.rows[place] = Row {
+                tank: place as u16 + 1,
+                cost: e,
+                period: p,
+                phase: f,
+                kind,
+            };
+        }
+        table
+    }
+
+    /// The bytes a table value would be read from (M at most 8, n at most 32).
+    pub(crate) fn write(table: &Table) -> Vec<u8> {
+        let rows: Vec<_> = table
+            .named_rows()
+            .iter()
+            .map(|row| (row.tank, row.cost, row.period, row.phase, row.kind))
+            .collect();
+        let mut bytes = bytes_of(table.cycle, table.cores, &rows);
+        for m in 0..usize::from(table.cores) {
+            bytes[6 + m] = table.boards[m];
+        }
+        bytes
+    }
+
+    fn changed(at: usize, byte: u8) -> Vec<u8> {
+        let mut bytes = EXAMPLE.to_vec();
+        bytes[at] = byte;
+        bytes
+    }
+
+    #[test]
+    fn the_example_is_taken() {
+        let table = read(&EXAMPLE).unwrap();
+        assert_eq!(table.cycle, 3);
+        assert_eq!(table.cores, 2);
+        assert_eq!(table.boards, [0, 1, 0, 0, 0, 0, 0, 0]);
+        assert_eq!(table.count, 3);
+        let row = |tank| Row {
+            tank,
+            cost: 2,
+            period: 3,
+            phase: 0,
+            kind: 0,
+        };
+        assert_eq!(table.rows[0], row(10));
+        assert_eq!(table.rows[1], row(11));
+        assert_eq!(table.rows[2], row(20));
+        for place in 3..32 {
+            assert_eq!(table.rows[place], Row::zero());
+        }
+        assert_eq!(fault(&table), 0);
+    }
+
+    #[test]
+    fn bench_35_of_36_bytes_is_10_and_one_more_is_21() {
+        assert_eq!(read(&EXAMPLE[..35]), Err(10));
+        let mut more = EXAMPLE.to_vec();
+        more.push(0);
+        assert_eq!(read(&more), Err(21));
+    }
+
+    #[test]
+    fn every_shorter_part_is_10() {
+        for length in 0..36 {
+            assert_eq!(read(&EXAMPLE[..length]), Err(10), "length {}", length);
+        }
+    }
+
+    #[test]
+    fn bench_full_box_is_taken_and_a_fourth_row_is_22() {
+        let mut rows = vec![(10, 2, 3, 0, 0), (11, 2, 3, 0, 0), (20, 2, 3, 0, 0)];
+        assert!(read(&bytes_of(3, 2, &rows)).is_ok());
+        rows.push((21, 1, 3, 0, 0));
+        assert_eq!(read(&bytes_of(3, 2, &rows)), Err(22));
+    }
+
+    #[test]
+    fn bench_e_1_p_1_is_18_and_e_0_p_0_is_17() {
+        assert_eq!(read(&bytes_of(3, 2, &[(0, 1, 1, 0, 0)])), Err(18));
+        assert_eq!(read(&bytes_of(3, 2, &[(0, 0, 0, 0, 0)])), Err(17));
+    }
+
+    #[test]
+    fn format() {
+        assert_eq!(read(&changed(0, 0)), Err(11));
+        assert_eq!(read(&changed(0, 2)), Err(11));
+        assert_eq!(read(&[]), Err(10));
+        assert_eq!(read(&[7]), Err(11));
+    }
+
+    #[test]
+    fn cycle_borders() {
+        assert_eq!(read(&bytes_of(0, 1, &[])), Err(12));
+        assert!(read(&bytes_of(1, 1, &[])).is_ok());
+        assert!(read(&bytes_of(1_000_000, 1, &[])).is_ok());
+        assert_eq!(read(&bytes_of(1_000_001, 1, &[])), Err(12));
+        assert_eq!(read(&bytes_of(u32::MAX, 1, &[])), Err(12));
+        // tested as soon as its bytes are there; three of its bytes are not enough
+        assert_eq!(read(&[1, 0, 0, 0, 0]), Err(12));
+        assert_eq!(read(&[1, 0, 0, 0]), Err(10));
+        // little-endian: 01 00 00 00 is 1, 00 00 00 01 is 16,777,216
+        assert_eq!(read(&[1, 0, 0, 0, 1]), Err(12));
+    }
+
+    #[test]
+    fn core_borders() {
+        assert_eq!(read(&[1, 3, 0, 0, 0, 0]), Err(13));
+        assert_eq!(read(&[1, 3, 0, 0, 0, 9]), Err(13));
+        assert_eq!(read(&[1, 3, 0, 0, 0, 255]), Err(13));
+        assert!(read(&bytes_of(3, 1, &[])).is_ok());
+        assert!(read(&bytes_of(3, 8, &[])).is_ok());
+    }
+
+    #[test]
+    fn each_board_number_is_a_field() {
+        assert_eq!(read(&[1, 3, 0, 0, 0, 3, 5]), Err(10));
+        // the second is tested before the third is missed
+        assert_eq!(read(&[1, 3, 0, 0, 0, 3, 5, 5]), Err(14));
+        assert_eq!(read(&[1, 3, 0, 0, 0, 3, 5, 4]), Err(14));
+        assert_eq!(read(&[1, 3, 0, 0, 0, 3, 5, 6]), Err(10));
+        assert_eq!(read(&[1, 3, 0, 0, 0, 3, 5, 6, 6]), Err(14));
+        assert_eq!(read(&[1, 3, 0, 0, 0, 3, 5, 6, 255]), Err(10));
+        let table = read(&[1, 3, 0, 0, 0, 3, 5, 6, 255, 0]).unwrap();
+        assert_eq!(table.boards, [5, 6, 255, 0, 0, 0, 0, 0]);
+        assert_eq!(table.count, 0);
+    }
+
+    #[test]
+    fn count_borders() {
+        assert_eq!(read(&[1, 3, 0, 0, 0, 1, 0, 33]), Err(15));
+        assert_eq!(read(&[1, 3, 0, 0, 0, 1, 0, 255]), Err(15));
+        assert_eq!(read(&[1, 3, 0, 0, 0, 1, 0, 32]), Err(10));
+        let rows: Vec<_> = (0..32).map(|tank| (tank, 1, 4, 0, 0)).collect();
+        // 32 rows of 1/4 fill eight cores
+        let table = read(&bytes_of(4, 8, &rows)).unwrap();
+        assert_eq!(table.count, 32);
+        assert_eq!(table.rows[31].tank, 31);
+        assert_eq!(read(&bytes_of(4, 7, &rows)), Err(22));
+    }
+
+    #[test]
+    fn tanks_rise_strictly_and_0_is_a_tank() {
+        assert!(read(&bytes_of(3, 2, &[(0, 1, 3, 0, 0), (1, 1, 3, 0, 0)])).is_ok());
+        assert!(read(&bytes_of(3, 2, &[(0, 1, 3, 0, 0), (65535, 1, 3, 0, 0)])).is_ok());
+        assert_eq!(
+            read(&bytes_of(3, 2, &[(0, 1, 3, 0, 0), (0, 1, 3, 0, 0)])),
+            Err(16)
+        );
+        assert_eq!(
+            read(&bytes_of(3, 2, &[(256, 1, 3, 0, 0), (255, 1, 3, 0, 0)])),
+            Err(16)
+        );
+    }
+
+    #[test]
+    fn row_faults_come_in_the_order_of_their_numbers() {
+        let second = |tank, e, p, kind| {
+            let rows = [(5, 1, 3, 0, 0), (tank, e, p, 0, kind)];
+            read(&bytes_of(6, 8, &rows)).map(|_| ())
+        };
+        assert_eq!(second(5, 0, 0, 9), Err(16));
+        assert_eq!(second(6, 0, 0, 9), Err(17));
+        assert_eq!(second(6, 4, 4, 9), Err(18));
+        assert_eq!(second(6, 5, 4, 9), Err(18));
+        assert_eq!(second(6, 1, 4, 9), Err(19));
+        assert_eq!(second(6, 1, 6, 9), Err(20));
+        assert_eq!(second(6, 1, 6, 2), Err(20));
+        assert_eq!(second(6, 1, 6, 1), Ok(()));
+        // p above L cannot divide it
+        assert_eq!(second(6, 1, 12, 0), Err(19));
+    }
+
+    #[test]
+    fn a_row_is_judged_once_all_its_nine_bytes_are_there() {
+        let bytes = bytes_of(3, 2, &[(5, 0, 0, 0, 9)]);
+        assert_eq!(read(&bytes[..bytes.len() - 1]), Err(10));
+        assert_eq!(read(&bytes), Err(17));
+    }
+
+    #[test]
+    fn an_earlier_row_is_judged_before_a_later_one() {
+        // row 0 has 20, row 1 has 16: reading meets 20 first
+        assert_eq!(
+            read(&bytes_of(3, 2, &[(5, 1, 3, 0, 2), (5, 1, 3, 0, 0)])),
+            Err(20)
+        );
+        // row 0 has 19, row 1 is cut
+        let bytes = bytes_of(3, 2, &[(5, 1, 2, 0, 0), (6, 1, 3, 0, 0)]);
+        assert_eq!(read(&bytes[..bytes.len() - 1]), Err(19));
+    }
+
+    #[test]
+    fn bytes_after_the_last_row_come_before_the_sum() {
+        let mut bytes = bytes_of(2, 1, &[(1, 1, 2, 0, 0), (2, 1, 2, 0, 0), (3, 1, 2, 0, 0)]);
+        assert_eq!(read(&bytes), Err(22));
+        bytes.push(0);
+        assert_eq!(read(&bytes), Err(21));
+        // and a row's fault before both
+        bytes[16] = 2; // kind of row 0
+        assert_eq!(read(&bytes), Err(20));
+    }
+
+    #[test]
+    fn slip_weights_are_not_added_in_floats() {
+        // 1/10 + 2/10 + 3/10 + 4/10 = 1; 49 parts of 1/49 likewise, in six rows
+        let tenths = [
+            (1, 1, 10, 0, 0),
+            (2, 2, 10, 0, 0),
+            (3, 3, 10, 0, 0),
+            (4, 4, 10, 0, 0),
+        ];
+        assert!(read(&bytes_of(10, 1, &tenths)).is_ok());
+        let parts = [
+            (1, 1, 49, 0, 0),
+            (2, 3, 49, 0, 0),
+            (3, 5, 49, 0, 0),
+            (4, 9, 49, 0, 0),
+            (5, 11, 49, 0, 0),
+            (6, 20, 49, 0, 0),
+        ];
+        assert!(read(&bytes_of(49, 1, &parts)).is_ok());
+        // one quantum in a cycle of a million too many
+        let full = [(1, 49_999, 50_000, 0, 0), (2, 1, 50_000, 0, 0)];
+        assert!(read(&bytes_of(1_000_000, 1, &full)).is_ok());
+        let over = [(1, 49_999, 50_000, 0, 0), (2, 2, 50_000, 0, 0)];
+        assert_eq!(read(&bytes_of(1_000_000, 1, &over)), Err(22));
+    }
+
+    #[test]
+    fn a_value_has_the_fault_that_reading_meets_first() {
+        let good = read(&EXAMPLE).unwrap();
+        let fault_with = |change: &dyn Fn(&mut Table)| {
+            let mut table = good;
+            change(&mut table);
+            fault(&table)
+        };
+        assert_eq!(fault_with(&|t| t.cycle = 0), 12);
+        assert_eq!(fault_with(&|t| t.cycle = 1_000_001), 12);
+        assert_eq!(fault_with(&|t| t.cores = 0), 13);
+        assert_eq!(fault_with(&|t| t.cores = 9), 13);
+        assert_eq!(fault_with(&|t| t.cores = 200), 13);
+        assert_eq!(fault_with(&|t| t.boards[1] = 0), 14);
+        assert_eq!(fault_with(&|t| t.cores = 3), 14); // the third board is 0
+        assert_eq!(fault_with(&|t| t.count = 33), 15);
+        assert_eq!(fault_with(&|t| t.count = 255), 15);
+        assert_eq!(fault_with(&|t| t.rows[1].tank = 10), 16);
+        assert_eq!(fault_with(&|t| t.count = 4), 16); // row 3 has tank 0
+        assert_eq!(fault_with(&|t| t.rows[2].cost = 0), 17);
+        assert_eq!(fault_with(&|t| t.rows[2].cost = 3), 18);
+        assert_eq!(fault_with(&|t| t.cycle = 4), 19);
+        assert_eq!(fault_with(&|t| t.rows[0].kind = 2), 20);
+        assert_eq!(fault_with(&|t| t.rows[0].kind = 255), 20);
+        assert_eq!(
+            fault_with(&|t| {
+                t.cores = 1;
+            }),
+            22
+        );
+        // "the order of the numbers" holds inside a row, the reading order between rows
+        assert_eq!(
+            fault_with(&|t| {
+                t.rows[0].kind = 2;
+                t.rows[1].tank = 0;
+            }),
+            20
+        );
+        assert_eq!(
+            fault_with(&|t| {
+                t.cycle = 0;
+                t.cores = 200;
+                t.count = 255;
+            }),
+            12
+        );
+        assert_eq!(fault(&Table::zero()), 12);
+    }
+
+    #[test]
+    fn places_past_n_and_past_m_are_ignored() {
+        let mut table = read(&EXAMPLE).unwrap();
+        table.boards[2] = 0;
+        table.boards[7] = 255;
+        for place in 3..32 {
+            table.rows[place] = Row {
+                tank: 0,
+                cost: 9,
+                period: 0,
+                phase: 1,
+                kind: 77,
+            };
+        }
+        assert_eq!(fault(&table), 0);
+    }
+
+    #[test]
+    fn a_table_that_is_taken_is_a_value_without_fault_and_reads_back() {
+        let tables = [
+            value_of(3, 2, &[(2, 3, 0, 0), (2, 3, 5, 1), (2, 3, 65535, 0)]),
+            value_of(1, 8, &[]),
+            value_of(1_000_000, 1, &[(1, 50_000, 9, 1)]),
+        ];
+        for table in tables {
+            assert_eq!(fault(&table), 0);
+            assert_eq!(read(&write(&table)), Ok(table));
+        }
+    }
+}

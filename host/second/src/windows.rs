@@ -1,0 +1,357 @@
+//! Windows.
+//!
+//! "Time is cut into slots; time t is the start of slot t. A row has cost e, period p, phase f.
+//! Its quanta are numbered from 1; the papers call them subtasks. ... The fraction is never
+//! reduced."
+//!
+//! The functions with a phase of 64 bits serve every other part; `window` is the one "asked for
+//! alone". All of them reckon in 128 bits, where nothing below can overflow.
+
+/// What comes back when a window is asked for alone. `number` is 0 or 50.
+#[derive(Clone, Copy, PartialEq, Eq, Debug)]
+pub struct Window {
+    pub number: u8,
+    /// r
+    pub start: u64,
+    /// d
+    pub deadline: u64,
+    /// b
+    pub bit: u8,
+    /// D
+    pub group: u64,
+}
+
+/// "A window may be asked for alone, by e, p, f (each 0 to 65,535) and i. It is refused if
+/// e = 0, if e is not below p, or if i is not in 1 to 1,000,000,001; then r, d, b and D come
+/// back as 0."
+pub fn window(e: u16, p: u16, f: u16, i: u64) -> Window {
+    if e == 0 || e >= p || i < 1 || i > 1_000_000_001 {
+        return Window {
+            number: 50,
+            start: 0,
+            deadline: 0,
+            bit: 0,
+            group: 0,
+        };
+    }
+    let phase = u64::from(f);
+    // i is about 2^30 and p below 2^16 here, so that every time fits in 64 bits
+    Window {
+        number: 0,
+        start: start(e, p, phase, i) as u64,
+        deadline: deadline(e, p, phase, i) as u64,
+        bit: bit(e, p, i),
+        group: group_deadline(e, p, phase, i) as u64,
+    }
+}
+
+/// "start r = f + floor((i-1)·p/e)". With e = 0 or i = 0, where 01 knows no window, 0.
+pub fn start(e: u16, p: u16, f: u64, i: u64) -> u128 {
+    if e == 0 || i == 0 {
+        return 0;
+    }
+    u128::from(f) + start_after_phase(u128::from(e), u128::from(p), u128::from(i))
+}
+
+/// "deadline d = f + ceil(i·p/e)". With e = 0 or i = 0, where 01 knows no window, 0.
+pub fn deadline(e: u16, p: u16, f: u64, i: u64) -> u128 {
+    if e == 0 || i == 0 {
+        return 0;
+    }
+    u128::from(f) + deadline_after_phase(u128::from(e), u128::from(p), u128::from(i))
+}
+
+/// "bit b = 0 if e divides i·p, else 1." With e = 0 or i = 0, where 01 knows no window, 0.
+pub fn bit(e: u16, p: u16, i: u64) -> u8 {
+    if e == 0 || i == 0 {
+        return 0;
+    }
+    bit_of(u128::from(e), u128::from(p), u128::from(i))
+}
+
+/// "a row is heavy when e/p is more than one half"
+pub fn heavy(e: u16, p: u16) -> bool {
+    2 * u32::from(e) > u32::from(p)
+}
+
+/// "The start of the job that holds it, f + floor((i-1)/e)·p." With e = 0 or i = 0, where 01
+/// knows no job, 0.
+pub fn job_start(e: u16, p: u16, f: u64, i: u64) -> u128 {
+    if e == 0 || i == 0 {
+        return 0;
+    }
+    u128::from(f) + u128::from((i - 1) / u64::from(e)) * u128::from(p)
+}
+
+/// "group deadline D: 0 for a light row. For a heavy row it is the smallest time at or after d
+/// that is the deadline of a subtask of this row with b = 0, or one less than the deadline of a
+/// subtask of this row whose window is 3 slots long."
+///
+/// Time after time from d on is asked whether it is such a time. One comes within p slots: each
+/// job's last subtask has b = 0. Without a window (e = 0, e not below p, i = 0) it is 0.
+pub fn group_deadline(e: u16, p: u16, f: u64, i: u64) -> u128 {
+    if e == 0 || e >= p || i == 0 || !heavy(e, p) {
+        return 0;
+    }
+    let (e, p) = (u128::from(e), u128::from(p));
+    let mut time = deadline_after_phase(e, p, u128::from(i));
+    while !is_group_deadline(e, p, time) {
+        time += 1;
+    }
+    u128::from(f) + time
+}
+
+// ---- the same for phase 0; the callers have seen that e is not 0 and i is not 0 ----
+
+fn start_after_phase(e: u128, p: u128, i: u128) -> u128 {
+    (i - 1) * p / e
+}
+
+fn deadline_after_phase(e: u128, p: u128, i: u128) -> u128 {
+    (i * p + e - 1) / e
+}
+
+fn bit_of(e: u128, p: u128, i: u128) -> u8 {
+    if i * p % e == 0 {
+        0
+    } else {
+        1
+    }
+}
+
+/// Is `time` "the deadline of a subtask of this row with b = 0, or one less than the deadline
+/// of a subtask of this row whose window is 3 slots long"?
+fn is_group_deadline(e: u128, p: u128, time: u128) -> bool {
+    if let Some(j) = subtask_with_deadline(e, p, time) {
+        if bit_of(e, p, j) == 0 {
+            return true;
+        }
+    }
+    if let Some(j) = subtask_with_deadline(e, p, time + 1) {
+        if time + 1 - start_after_phase(e, p, j) == 3 {
+            return true;
+        }
+    }
+    false
+}
+
+/// The subtask whose deadline is `time`, if one has it. Deadlines rise strictly, as e < p.
+/// ceil(j·p/e) is at most `time` exactly when j·p is at most `time`·e; the last such j is the
+/// only one whose deadline can be `time` itself.
+fn subtask_with_deadline(e: u128, p: u128, time: u128) -> Option<u128> {
+    let j = time * e / p;
+    if j >= 1 && deadline_after_phase(e, p, j) == time {
+        Some(j)
+    } else {
+        None
+    }
+}
+
+#[cfg(test)]
+mod tests {
+    use super::*;
+
+    fn asked(e: u16, p: u16, f: u16, i: u64) -> (u64, u64, u8, u64) {
+        let answer = window(e, p, f, i);
+        assert_eq!(answer.number, 0);
+        (answer.start, answer.deadline, answer.bit, answer.group)
+    }
+
+    #[test]
+    fn bench_5_16() {
+        assert_eq!(asked(5, 16, 0, 2), (3, 7, 1, 0));
+        assert_eq!(asked(5, 16, 0, 5), (12, 16, 0, 0));
+    }
+
+    #[test]
+    fn bench_8_11() {
+        assert_eq!(asked(8, 11, 0, 1), (0, 2, 1, 4));
+        assert_eq!(asked(8, 11, 0, 3), (2, 5, 1, 8));
+        assert_eq!(asked(8, 11, 0, 6), (6, 9, 1, 11));
+    }
+
+    #[test]
+    fn bench_1_2() {
+        assert_eq!(asked(1, 2, 0, 1), (0, 2, 0, 0));
+    }
+
+    #[test]
+    fn bench_2_3_with_phase_4() {
+        assert_eq!(asked(2, 3, 4, 1), (4, 6, 1, 7));
+    }
+
+    #[test]
+    fn all_windows_of_8_11_in_two_jobs() {
+        // by hand: 3-slot windows are those of 3 and 6, bit 0 is 8's: 4, 8, 11, then 11 more
+        let job = [
+            (0, 2, 1, 4),
+            (1, 3, 1, 4),
+            (2, 5, 1, 8),
+            (4, 6, 1, 8),
+            (5, 7, 1, 8),
+            (6, 9, 1, 11),
+            (8, 10, 1, 11),
+            (9, 11, 0, 11),
+        ];
+        for (place, &(r, d, b, group)) in job.iter().enumerate() {
+            let i = place as u64 + 1;
+            assert_eq!(asked(8, 11, 0, i), (r, d, b, group));
+            assert_eq!(asked(8, 11, 0, i + 8), (r + 11, d + 11, b, group + 11));
+            assert_eq!(
+                asked(8, 11, 65535, i),
+                (r + 65535, d + 65535, b, group + 65535)
+            );
+        }
+    }
+
+    #[test]
+    fn heavy_is_more_than_one_half() {
+        // 3/5: 0-2, 1-4 (3 slots: 3), 3-5 b 0
+        assert_eq!(asked(3, 5, 0, 1), (0, 2, 1, 3));
+        assert_eq!(asked(3, 5, 0, 2), (1, 4, 1, 5));
+        assert_eq!(asked(3, 5, 0, 3), (3, 5, 0, 5));
+        // one half, however written, is light
+        assert_eq!(asked(2, 4, 0, 1), (0, 2, 0, 0));
+        assert_eq!(asked(32767, 65534, 0, 1), (0, 2, 0, 0));
+        assert_eq!(asked(32767, 65535, 0, 1), (0, 3, 1, 0));
+        assert!(heavy(32768, 65535));
+        assert!(!heavy(32767, 65535));
+        assert!(!heavy(0, 0));
+    }
+
+    #[test]
+    fn the_fraction_is_never_reduced() {
+        assert_eq!(asked(2, 6, 0, 1), (0, 3, 0, 0));
+        assert_eq!(asked(2, 6, 0, 2), (3, 6, 0, 0));
+        // the second quantum of 2/6 belongs to the first job, that of 1/3 to the second
+        assert_eq!(job_start(2, 6, 0, 2), 0);
+        assert_eq!(job_start(1, 3, 0, 2), 3);
+        assert_eq!(job_start(2, 6, 7, 3), 13);
+        assert_eq!(job_start(2, 6, 7, 4), 13);
+    }
+
+    #[test]
+    fn the_longest_walk() {
+        // 65534/65535: i starts at i-1 and ends at i+1 within the job; only the last has b = 0
+        assert_eq!(asked(65534, 65535, 0, 1), (0, 2, 1, 65535));
+        assert_eq!(asked(65534, 65535, 0, 65533), (65532, 65534, 1, 65535));
+        assert_eq!(asked(65534, 65535, 0, 65534), (65533, 65535, 0, 65535));
+        assert_eq!(asked(65534, 65535, 0, 65535), (65535, 65537, 1, 131070));
+    }
+
+    #[test]
+    fn borders_of_i() {
+        assert_eq!(window(1, 2, 0, 0).number, 50);
+        assert_eq!(window(1, 2, 0, 1).number, 0);
+        assert_eq!(window(1, 2, 0, 1_000_000_001).number, 0);
+        assert_eq!(window(1, 2, 0, 1_000_000_002).number, 50);
+        assert_eq!(window(1, 2, 0, u64::MAX).number, 50);
+        // 65535·1,000,000,001 and 65535·1,000,000,002
+        assert_eq!(
+            asked(1, 65535, 65535, 1_000_000_001),
+            (65_535_000_065_535, 65_535_000_131_070, 0, 0)
+        );
+        // 2/3: start 3,000,000,000/2; the next subtask, past what may be asked, ends the group
+        assert_eq!(
+            asked(2, 3, 0, 1_000_000_001),
+            (1_500_000_000, 1_500_000_002, 1, 1_500_000_003)
+        );
+    }
+
+    #[test]
+    fn refused_windows_are_all_0() {
+        let refused = Window {
+            number: 50,
+            start: 0,
+            deadline: 0,
+            bit: 0,
+            group: 0,
+        };
+        assert_eq!(window(0, 0, 0, 1), refused);
+        assert_eq!(window(0, 5, 3, 1), refused);
+        assert_eq!(window(1, 1, 3, 1), refused);
+        assert_eq!(window(5, 4, 3, 1), refused);
+        assert_eq!(window(1, 0, 3, 1), refused);
+        assert_eq!(window(65535, 65535, 65535, 1), refused);
+        assert_eq!(window(2, 3, 4, 0), refused);
+        assert_eq!(window(2, 3, 4, 1_000_000_002), refused);
+    }
+
+    #[test]
+    fn the_parts_stand_wild_numbers() {
+        for &(e, p) in &[(0, 0), (0, 9), (9, 0), (9, 9), (9, 3), (65535, 65535)] {
+            for &i in &[0, 1, u64::MAX] {
+                start(e, p, u64::MAX, i);
+                deadline(e, p, u64::MAX, i);
+                bit(e, p, i);
+                job_start(e, p, u64::MAX, i);
+                assert_eq!(group_deadline(e, p, u64::MAX, i), 0);
+            }
+        }
+        // 2/3 at a large origin: subtask 1 ends 2 after it, its group 3 after it
+        let origin = u64::MAX;
+        assert_eq!(deadline(2, 3, origin, 1), u128::from(origin) + 2);
+        assert_eq!(group_deadline(2, 3, origin, 1), u128::from(origin) + 3);
+        assert!(group_deadline(65534, 65535, u64::MAX, u64::MAX) > u128::from(u64::MAX));
+    }
+
+    #[test]
+    fn the_next_start_is_d_less_b() {
+        for p in 2..40u16 {
+            for e in 1..p {
+                for i in 1..=2 * u64::from(e) + 2 {
+                    let here = window(e, p, 9, i);
+                    let next = window(e, p, 9, i + 1);
+                    assert_eq!(next.start, here.deadline - u64::from(here.bit));
+                }
+            }
+        }
+    }
+
+    /// The definition again over a list of all windows of the row, none left out.
+    fn group_by_list(e: u16, p: u16, d: u64) -> u64 {
+        let mut best = u64::MAX;
+        for j in 1..=4 * u64::from(e) + 4 {
+            let j_start = (j - 1) * u64::from(p) / u64::from(e);
+            let j_end = (j * u64::from(p) + u64::from(e) - 1) / u64::from(e);
+            if j * u64::from(p) % u64::from(e) == 0 && j_end >= d {
+                best = best.min(j_end);
+            }
+            if j_end - j_start == 3 && j_end - 1 >= d {
+                best = best.min(j_end - 1);
+            }
+        }
+        best
+    }
+
+    /// "D can be calculated by using (8) to determine the deadlines of a task of weight
+    /// 1 - wt(T)" (001): the smallest ceil(j·p/(p-e)) at or after d.
+    fn group_by_rest(e: u16, p: u16, d: u64) -> u64 {
+        let (p, rest) = (u64::from(p), u64::from(p - e));
+        let mut j = 1;
+        loop {
+            let end = (j * p + rest - 1) / rest;
+            if end >= d {
+                return end;
+            }
+            j += 1;
+        }
+    }
+
+    #[test]
+    fn the_group_deadline_is_the_smallest_time_and_001_agrees() {
+        for p in 2..40u16 {
+            for e in 1..p {
+                for i in 1..=2 * u64::from(e) + 2 {
+                    let here = window(e, p, 0, i);
+                    if 2 * e > p {
+                        assert_eq!(here.group, group_by_list(e, p, here.deadline));
+                        assert_eq!(here.group, group_by_rest(e, p, here.deadline));
+                    } else {
+                        assert_eq!(here.group, 0);
+                    }
+                }
+            }
+        }
+    }
+}
