@@ -1,6 +1,6 @@
-// Slot numbers, counts of quanta and subtask numbers are three separate counts. Each is a type of its own, whose number no other
-// crate can reach, so that none is added to another by a slip. The steps between them are the functions below, and every one is
-// total: a count that would pass the largest number stays there, and one that would fall below 0 stays at 0.
+// Slot numbers, counts of quanta and subtask numbers are three separate counts. Each is a type of its own. Other crates get its
+// number only by name (time, count, number), so that no sum of two of them is made unseen. The steps between them are the functions
+// below, and every one is total: a count that would pass the largest number stays there, and one that would fall below 0 stays at 0.
 ghost use mathlib.Core.Path.{_≡_};
 ghost use Prim.Native.Nat.{_+_, _-_};
 ghost use Rattle.counts.specs.Limits.{kept};

@@ -1,8 +1,8 @@
 -- Each answer of the reader is the first fault met, part by part; and what it tells. Assumes nothing.
 use mathlib.Core.Path.{_≡_, refl, sym, ap, _∙_}
 use mathlib.Core.List.{List, map}
-use mathlib.Core.Bool.{Bool, false, cond, not}
-use lib.Dec.{eqb}
+use mathlib.Core.Bool.{true, false, cond, not}
+use lib.Dec.{ltb, eqb}
 use Prim.Native.Nat.{ℕ, zero, suc, _+_, _*_, _≤_, _<_}
 use native.Mathlib.Omega.{arith}
 use borrow.Author.Tests.{lt-ltb, le-ltb}
@@ -114,27 +114,26 @@ module _ (s : List ℕ) where
                   let after : rowsPlace s + 9 * countIn s < length s = omega (arith, cores-is, count-is) in
                   is-refused s (by-last (simp (lt-ltb _ _ after))) (λ z. omega arith)
 
-              module _ (none-after : length s ≤ 6 + cores + 1 + 9 * count) {sum : ℕ} (sum-is : sum ≡ load cycle (take count rows)) where
+              module _ (none-after : length s ≤ 6 + cores + 1 + 9 * count) where
                 ended : length s ≤ rowsPlace s + 9 * countIn s
                 ended = omega (arith, cores-is, count-is)
 
                 rows-are : rows ≡ tableIn s .rows
                 rows-are = rw (cores-is, count-is) at (r .content z₄)
 
-                sum-in : sum ≡ load (cycleIn s) (map (rowAt s) (rowPlaces s))
-                sum-in = sum-is ∙ rw (rows-are, cycle-is, count-is) (ap (load (cycleIn s)) (first-are-read (rowAt s) zeroRow rowLimit (rowsPlace s) 9 (countIn s)))
+                sum-in : ltb (cores * cycle) (load cycle (take count rows)) ≡ ltb (coresIn s * cycleIn s) (load (cycleIn s) (map (rowAt s) (rowPlaces s)))
+                sum-in =
+                    rw (rows-are, cycle-is, count-is, cores-is)
+                    (ap (λ l. ltb (coresIn s * cycleIn s) (load (cycleIn s) l)) (first-are-read (rowAt s) zeroRow rowLimit (rowsPlace s) 9 (countIn s)))
 
-                pub sum-refused : cores * cycle < sum → refusedWith 22 ≡ reading s
+                pub sum-refused : ltb (cores * cycle) (load cycle (take count rows)) ≡ true → refusedWith 22 ≡ reading s
                 unfolding firstMet
-                sum-refused h =
-                    let above : coresIn s * cycleIn s < load (cycleIn s) (map (rowAt s) (rowPlaces s)) = rw (← sum-in, ← cores-is, ← cycle-is) h in
-                    is-refused s (by-last (simp (le-ltb _ _ ended, lt-ltb _ _ above))) (λ z. omega arith)
+                sum-refused h = is-refused s (by-last (simp (le-ltb _ _ ended, sym sum-in ∙ h))) (λ z. omega arith)
 
-                pub is-read : sum ≤ cores * cycle →
+                pub is-read : ltb (cores * cycle) (load cycle (take count rows)) ≡ false →
                     _≡_ {A = Reading} (record { number = 0; table = record { cycle = cycle; cores = cores; boards = boards; count = count; rows = rows } }) (reading s)
                 unfolding firstMet
                 is-read h =
-                    let within : load (cycleIn s) (map (rowAt s) (rowPlaces s)) ≤ coresIn s * cycleIn s = rw (← sum-in, ← cores-is, ← cycle-is) h in
                     let boards-are : boards ≡ tableIn s .boards = rw cores-is at (b .content z₂) in
-                    is-taken s (by-last (simp (le-ltb _ _ ended, le-ltb _ _ within)))
+                    is-taken s (by-last (simp (le-ltb _ _ ended, sym sum-in ∙ h)))
                     (λ k. record { cycle = cycle-is k; cores = cores-is k; boards = boards-are k; count = count-is k; rows = rows-are k })

@@ -8,17 +8,19 @@ use borrow.Author.Tests.{ltb-true, ltb-false, eqb-true, eqb-false, not-false}
 use lib.Dec.{ltb, eqb}
 use lib.ListN.{length, getD, take}
 use Rattle.facts.specs.Faults.{_then_, firstMet, numbered}
-use Rattle.facts.specs.Places.{places}
+use Rattle.facts.specs.Determined.{Determined}
+use Rattle.facts.proofs.Determined.{by-value}
 use Rattle.facts.proofs.Faults.{neither, passed, none-at-all, both-numbered, rising-numbered, answered-exactly, passes-as-read, each-passed}
-use Rattle.facts.proofs.Places.{first-are-read}
+use Rattle.facts.proofs.Places.{first-are-read, others-are-nothing}
 use Rattle.fields.specs.Fields.{byte, shorter}
 use Rattle.table.specs.declared.Row.{Row}
 use Rattle.table.specs.declared.Table.{Table}
+use Rattle.table.specs.declared.Reading.{Reading}
 use Rattle.table.specs.Limits.{cycleLimit, coreLimit, rowLimit}
 use Rattle.table.specs.RowTests.{rowTests, tankAbove, load, zeroRow}
 use Rattle.table.specs.Value.{outside, boardTests, boardAbove, boardsOf, rowsOf, sizeTests, boardsTests, countTests, rowsTests, sumTests, faultOf}
 use Rattle.table.specs.Bytes.{cycleIn, coresIn, countIn, rowsPlace, boardPlaces, rowPlaces, rowAt, boardTestsIn, rowTestsIn, headTests, boardsTestsIn, countTestsIn, rowsTestsIn, lastTests, tableTests, tableNumber, tableIn, readingOf, reading}
-use Rattle.table.specs.Taken.{NumbersAreFirstCauses, TakenHasNoFault, Sound, RowsAreSound, SumIsWithin}
+use Rattle.table.specs.Taken.{NumbersAreFirstCauses, TakenHasNoFault, PastIsZero, Sound, RowsAreSound, SumIsWithin}
 use Rattle.table.proofs.Value.{not-outside, no-fault}
 use Rattle.table.proofs.Answers.{head-passed}
 
@@ -68,12 +70,12 @@ few s z =
     let x = neither (cond (shorter s (rowsPlace s)) 10 0) _ z in
     ltb-false rowLimit (countIn s) (passed _ 14 (neither (cond (ltb rowLimit (countIn s)) 15 0) _ (x .1) .0))
 
-within : (s : List ℕ) → firstMet (lastTests s) ≡ 0 → load (cycleIn s) (map (rowAt s) (rowPlaces s)) ≤ coresIn s * cycleIn s
+within : (s : List ℕ) → firstMet (lastTests s) ≡ 0 → ltb (coresIn s * cycleIn s) (load (cycleIn s) (map (rowAt s) (rowPlaces s))) ≡ false
 unfolding firstMet
 within s z =
     let above = ltb (coresIn s * cycleIn s) (load (cycleIn s) (map (rowAt s) (rowPlaces s))) in
     let x = neither (cond (ltb (rowsPlace s + 9 * countIn s) (length s)) 21 0) _ z in
-    ltb-false _ _ (passed above 21 (neither (cond above 22 0) _ (x .1) .0))
+    passed above 21 (neither (cond above 22 0) _ (x .1) .0)
 
 pub taken-has-no-fault : TakenHasNoFault
 unfolding tableNumber
@@ -88,6 +90,12 @@ taken-has-no-fault s h =
     (rw (first-are-read (rowAt s) zeroRow rowLimit (rowsPlace s) 9 (countIn s))
     (passes-as-read (rowTestsIn s (cycleIn s)) (rowTests (cycleIn s)) tankAbove (rowAt s) (row-as-read s (cycleIn s)) 0 (rowPlaces s) (each .3)))
     (rw (first-are-read (rowAt s) zeroRow rowLimit (rowsPlace s) 9 (countIn s)) (within s (each .4))))
+
+pub past-is-zero : PastIsZero
+past-is-zero s i = (
+  others-are-nothing (rowAt s) zeroRow rowLimit (rowsPlace s) 9 {n = countIn s},
+  others-are-nothing (byte s) 0 coreLimit 6 1 {n = coresIn s},
+)
 
 -- a row that passes its tests can be
 sound-row : (cycle least : ℕ) (row : Row) → firstMet (rowTests cycle least row) ≡ 0 → Sound cycle row
@@ -128,3 +136,10 @@ sizes-are-within t h =
     let cores = neither (cond (outside 1 coreLimit (t .cores)) 13 0) _ (size .1) in
     let count = neither (cond (ltb rowLimit (t .count)) 15 0) _ (each .2) in
     (not-outside (passed _ 11 (size .0)), not-outside (passed _ 12 (cores .0)), ltb-false rowLimit (t .count) (passed _ 14 (count .0)))
+
+-- The promises of `read` and `fault` give the answer itself, so they determine it.
+pub read-is-determined : (s : List ℕ) → Determined {R = Reading} (λ r. r ≡ reading s)
+read-is-determined s = by-value
+
+pub fault-is-determined : (t : Table) → Determined {R = ℕ} (λ r. r ≡ faultOf t)
+fault-is-determined t = by-value

@@ -63,10 +63,10 @@ module _ (t : Table) where
           unfolding faultOf
           by-sum e = decides-5 (sizeTests t) (boardsTests t) (countTests t) (rowsTests t) (sumTests t) sizes-pass boards count-passes rows e
 
-          pub sum-is-fault : t .cores * t .cycle < load (t .cycle) (rowsOf t) → 22 ≡ faultOf t
+          pub sum-is-fault : ltb (t .cores * t .cycle) (load (t .cycle) (rowsOf t)) ≡ true → 22 ≡ faultOf t
           unfolding firstMet
-          sum-is-fault h = by-sum (simp (lt-ltb _ _ h))
+          sum-is-fault h = by-sum (simp h)
 
-          pub no-fault : load (t .cycle) (rowsOf t) ≤ t .cores * t .cycle → 0 ≡ faultOf t
+          pub no-fault : ltb (t .cores * t .cycle) (load (t .cycle) (rowsOf t)) ≡ false → 0 ≡ faultOf t
           unfolding firstMet
-          no-fault h = by-sum (simp (le-ltb _ _ h))
+          no-fault h = by-sum (simp h)

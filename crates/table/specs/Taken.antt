@@ -19,6 +19,12 @@ NumbersAreFirstCauses = (s : List ℕ) (k : ℕ) → (k ≡ 0 → ⊥) → (tabl
 abbrev pub TakenHasNoFault : Type 0
 TakenHasNoFault = (s : List ℕ) → tableNumber s ≡ 0 → faultOf (tableIn s) ≡ 0
 
+-- "a table that is taken has 0 in every place past n and past M"
+abbrev pub PastIsZero : Type 0
+PastIsZero =
+    (s : List ℕ) (i : ℕ) →
+    (tableIn s .count ≤ i → getD (tableIn s .rows) i zeroRow ≡ zeroRow) × (tableIn s .cores ≤ i → getD (tableIn s .boards) i 0 ≡ 0)
+
 -- A row that can be, in a table of this cycle.
 pub record Sound (cycle : ℕ) (row : Row) : Type 0 where
   pub cost : 0 < row .cost

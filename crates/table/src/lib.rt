@@ -4,8 +4,10 @@ mod head;
 mod rows;
 
 ghost use mathlib.Core.Path.{_≡_};
-ghost use Prim.Native.Nat.{_*_};
-ghost use Rattle.table.specs.RowTests.{zeroRow};
+ghost use Prim.Native.Nat.{_*_, _≤_};
+ghost use lib.Dec.{ltb};
+ghost use lib.ListN.{take};
+ghost use Rattle.table.specs.RowTests.{load};
 ghost use Rattle.table.specs.Value.{faultOf};
 ghost use Rattle.table.specs.Bytes.{reading};
 ghost use Rattle.table.specs.Parts.{refusedWith};
@@ -89,7 +91,7 @@ pub fn read(bytes: &[u8]) -> Reading
         return refused(21);
     }
     let rows = rows_read.rows;
-    if capacity(cores, cycle) < rows::sum(rows, n, cycle) {
+    if is_overfull(cores, cycle, rows, n) {
         return refused(22);
     }
     let boards = boards_read.boards;
@@ -130,7 +132,7 @@ pub fn fault(table: Table) -> u8
     if row_fault != 0 {
         return row_fault;
     }
-    if capacity(cores, cycle) < rows::sum(rows, n, cycle) {
+    if is_overfull(cores, cycle, rows, n) {
         return 22;
     }
     0
@@ -153,9 +155,11 @@ fn refused(number: u8) -> Reading
     Reading { number, table }
 }
 
-// M·L: the quanta that the cores have in a cycle.
-fn capacity(cores: u8, cycle: u32) -> u64
-    ensures { λ r. ⌜ r ≡ cores * cycle ⌝ }
+// Whether the first n rows take more quanta in a cycle than the cores have: their sum is above M·L.
+fn is_overfull(cores: u8, cycle: u32, rows: [Row; 32], n: usize) -> bool
+    requires { ⌜ n ≤ 32 ⌝ }
+    ensures { λ r. ⌜ r ≡ ltb (cores * cycle) (load cycle (take n rows)) ⌝ }
 {
-    (cores as u64) * (cycle as u64)
+    let quanta = (cores as u64) * (cycle as u64);
+    quanta < rows::sum(rows, n, cycle)
 }

@@ -30,7 +30,7 @@ pub(crate) fn read(bytes: &[u8], at: usize, n: usize, cycle: u32) -> RowsRead
             };
         };
         rows[i] = row;
-        least = row.tank as u32 + 1;
+        least = above(row);
         cursor = past;
         i += 1;
     }
@@ -98,10 +98,17 @@ pub(crate) fn fault(rows: [Row; 32], n: usize, cycle: u32) -> u8
         if number != 0 {
             return number;
         }
-        least = row.tank as u32 + 1;
+        least = above(row);
         i += 1;
     }
     0
+}
+
+// The least tank that may stand after a row.
+fn above(row: Row) -> u32
+    ensures { λ r. ⌜ r ≡ tankAbove row ⌝ }
+{
+    row.tank as u32 + 1
 }
 
 // The first fault 16 to 20 of a row whose tank may be `least` or more, or 0.

@@ -65,31 +65,28 @@ returns-5 c =
     let cores = boards .before .before .before in
     rows-are-fault _ (cycle-passed (cores .before .before)) (cores-passed cores) (boards-passed boards) (count .if4 .left) (c .before .fault2 .ensures) (c .if5 .taken)
 
-capacity-requires : tie.Need-capacity-requires
-capacity-requires c κs = search needs
-
-sum-requires : tie.Need-sum-requires
-sum-requires c κs = search needs
+is-overfull-requires : tie.Need-is-overfull-requires
+is-overfull-requires c κs = search needs
 
 returns-6 : tie.Need-returns-6
 returns-6 c =
     let sum = c .before in
-    let rows = sum .before .before in
+    let rows = sum .before in
     let count = rows .before .before .before in
     let boards = count .before in
     let cores = boards .before .before .before in
     sum-is-fault _ (cycle-passed (cores .before .before)) (cores-passed cores) (boards-passed boards) (count .if4 .left) (rows-passed rows)
-    (rw (← sum .before .capacity .ensures, ← sum .sum .ensures) (c .if6 .taken))
+    (sym (sum .is-overfull .ensures) ∙ c .if6 .taken)
 
 returns-7 : tie.Need-returns-7
 returns-7 c =
     let sum = c .before in
-    let rows = sum .before .before in
+    let rows = sum .before in
     let count = rows .before .before .before in
     let boards = count .before in
     let cores = boards .before .before .before in
     no-fault _ (cycle-passed (cores .before .before)) (cores-passed cores) (boards-passed boards) (count .if4 .left) (rows-passed rows)
-    (rw (← sum .before .capacity .ensures, ← sum .sum .ensures) (c .if6 .left))
+    (sym (sum .is-overfull .ensures) ∙ c .if6 .left)
 
 pub fault-spec : {M : Type 1} → statement M
 fault-spec =
@@ -106,7 +103,6 @@ fault-spec =
     cast-n
     fault-requires-2
     returns-5
-    capacity-requires
-    sum-requires
+    is-overfull-requires
     returns-6
     returns-7)

@@ -121,11 +121,8 @@ returns-6 c =
     let first = boards .before .before .before in
     c .refused6 .ensures ∙ after-refused _ (head first) (boards .before .before .word .ensures) (boards .before .byte .ensures) (boards .read .ensures) (second .if2 .left) (third .if3 .left) (count .byte2 .ensures) (fourth .if4 .left) (rows .read2 .ensures) (fifth .if5 .left) (c .before .if6 .taken)
 
-capacity-requires : tie.Need-capacity-requires
-capacity-requires c κs = search needs
-
-sum-requires : tie.Need-sum-requires
-sum-requires c κs = search needs
+is-overfull-requires : tie.Need-is-overfull-requires
+is-overfull-requires c κs = search needs
 
 refused-requires-7 : tie.Need-refused-requires-7
 refused-requires-7 c κs = search needs
@@ -133,7 +130,7 @@ refused-requires-7 c κs = search needs
 returns-7 : tie.Need-returns-7
 returns-7 c =
     let sum = c .before .before in
-    let sixth = sum .before .before .before in
+    let sixth = sum .before .before in
     let fifth = sixth .before in
     let rows = fifth .before .before in
     let fourth = rows .before in
@@ -143,12 +140,12 @@ returns-7 c =
     let boards = second .before .before in
     let first = boards .before .before .before in
     c .refused7 .ensures
-    ∙ sum-refused _ (head first) (boards .before .before .word .ensures) (boards .before .byte .ensures) (boards .read .ensures) (second .if2 .left) (third .if3 .left) (count .byte2 .ensures) (fourth .if4 .left) (rows .read2 .ensures) (fifth .if5 .left) (sixth .if6 .left) (sum .sum .ensures) (rw (← sum .before .capacity .ensures) (c .before .if7 .taken))
+    ∙ sum-refused _ (head first) (boards .before .before .word .ensures) (boards .before .byte .ensures) (boards .read .ensures) (second .if2 .left) (third .if3 .left) (count .byte2 .ensures) (fourth .if4 .left) (rows .read2 .ensures) (fifth .if5 .left) (sixth .if6 .left) (sym (sum .is-overfull .ensures) ∙ c .before .if7 .taken)
 
 returns-8 : tie.Need-returns-8
 returns-8 c =
     let sum = c .before .before in
-    let sixth = sum .before .before .before in
+    let sixth = sum .before .before in
     let fifth = sixth .before in
     let rows = fifth .before .before in
     let fourth = rows .before in
@@ -157,7 +154,7 @@ returns-8 c =
     let second = third .before in
     let boards = second .before .before in
     let first = boards .before .before .before in
-    is-read _ (head first) (boards .before .before .word .ensures) (boards .before .byte .ensures) (boards .read .ensures) (second .if2 .left) (third .if3 .left) (count .byte2 .ensures) (fourth .if4 .left) (rows .read2 .ensures) (fifth .if5 .left) (sixth .if6 .left) (sum .sum .ensures) (rw (← sum .before .capacity .ensures) (c .before .if7 .left))
+    is-read _ (head first) (boards .before .before .word .ensures) (boards .before .byte .ensures) (boards .read .ensures) (second .if2 .left) (third .if3 .left) (count .byte2 .ensures) (fourth .if4 .left) (rows .read2 .ensures) (fifth .if5 .left) (sixth .if6 .left) (sym (sum .is-overfull .ensures) ∙ c .before .if7 .left)
 
 pub read-spec : {M : Type 1} → statement M
 read-spec =
@@ -188,8 +185,7 @@ read-spec =
     add-if6-2
     refused-requires-6
     returns-6
-    capacity-requires
-    sum-requires
+    is-overfull-requires
     refused-requires-7
     returns-7
     returns-8)

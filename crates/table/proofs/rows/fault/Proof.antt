@@ -42,11 +42,8 @@ returns c =
     (stops-at-fault _ _ _ (at .loop .inv) (omega (arith, n-rows (at .before))) _ (sym (getD-take (at .before .args .n) (at .before .args .t1) (at .loop .i) _ (omega arith)))
     (λ z. c .if1 .taken (c .before .fault-of .ensures ∙ z)))
 
-cast-least : tie.Need-cast-least Inv-loop μ-loop
-cast-least c = search needs
-
-add-least : tie.Need-add-least Inv-loop μ-loop
-add-least c = search needs
+above-requires : tie.Need-above-requires Inv-loop μ-loop
+above-requires c κs = search needs
 
 add-i : tie.Need-add-i Inv-loop μ-loop
 add-i c = search needs
@@ -58,8 +55,10 @@ loop-again : tie.Need-loop-again Inv-loop μ-loop
 loop-again c =
     let found = c .before .before in
     let at = found .before .before .before in
-    one-more-passed _ _ _ (at .loop .inv) (omega (arith, n-rows (at .before))) _ (sym (getD-take (at .before .args .n) (at .before .args .t1) (at .loop .i) _ (omega arith)))
-    (sym (found .fault-of .ensures) ∙ c .before .if1 .left)
+    rw (c .above .ensures)
+    (one-more-passed _ _ _ (at .loop .inv) (omega (arith, n-rows (at .before))) _
+    (sym (getD-take (at .before .args .n) (at .before .args .t1) (at .loop .i) _ (omega arith)))
+    (sym (found .fault-of .ensures) ∙ c .before .if1 .left))
 
 returns-2 : tie.Need-returns-2 Inv-loop μ-loop
 returns-2 c = sym (all-passed _ _ _ (c .before .loop .inv) (omega (arith, n-rows (c .before .before))))
@@ -75,8 +74,7 @@ fault-spec =
     array-copy-out-row
     fault-of-requires
     returns
-    cast-least
-    add-least
+    above-requires
     add-i
     loop-less
     loop-again

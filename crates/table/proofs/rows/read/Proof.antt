@@ -57,11 +57,8 @@ mul-rows c = search needs
 array-set-from-rows : tie.Need-array-set-from-rows Inv-loop μ-loop
 array-set-from-rows c = search needs
 
-cast-least : tie.Need-cast-least Inv-loop μ-loop
-cast-least c = search needs
-
-add-least : tie.Need-add-least Inv-loop μ-loop
-add-least c = search needs
+above-requires : tie.Need-above-requires Inv-loop μ-loop
+above-requires c κs = search needs
 
 add-i : tie.Need-add-i Inv-loop μ-loop
 add-i c = search needs
@@ -75,7 +72,7 @@ loop-again c =
     let at = got .before .before in
     let was = row-was-read _ _ _ _ (got .read-one .ensures) (c .before .before .got .given .1) in
     let past = ap (λ (x : Cursor). x .at) (was .2) in (
-      reading-goes-on _ _ _ _ _ _ _ _ (at .loop .inv .0) (omega arith) (at .loop .inv .1) (omega arith) (was .0) (was .1) (ap tankAbove (was .1)),
+      reading-goes-on _ _ _ _ _ _ _ _ (at .loop .inv .0) (omega arith) (at .loop .inv .1) (omega arith) (was .0) (was .1) (c .above .ensures ∙ ap tankAbove (was .1)),
       omega (arith, past, at .loop .inv .1),
     )
 
@@ -97,8 +94,7 @@ read-spec =
     returns
     mul-rows
     array-set-from-rows
-    cast-least
-    add-least
+    above-requires
     add-i
     loop-less
     loop-again
