@@ -1,5 +1,6 @@
 pub mod Rounding
 pub mod First
+pub mod Counting
 pub mod Tests
 pub mod Faults
 pub mod Filling

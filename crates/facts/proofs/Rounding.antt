@@ -44,3 +44,7 @@ pub ceil-of-part : (a : ℕ) {b : ℕ} → 0 < b → (a % b ≡ 0 → ⊥) → c
 unfolding ceilDiv
 ceil-of-part a {b} h z =
     div-eq-of-lt-le b (omega (arith, div-add-mod' a b)) (omega (arith, div-add-mod' a b, mod-lt a h))
+
+-- Rounded up, a larger number is not smaller.
+pub ceil-grows : {a c : ℕ} (b : ℕ) → 0 < b → a ≤ c → ceilDiv a b ≤ ceilDiv c b
+ceil-grows {a} {c} b h l = ceil-is-enough {a = a} {x = ceilDiv c b} h .1 (omega (arith, ceil-is-near c h))

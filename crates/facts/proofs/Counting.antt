@@ -1,0 +1,136 @@
+-- The laws of counting below a bound. Assumes nothing.
+use Prim.Native.Nat.{ℕ, zero, suc, _+_, _≤_, _<_}
+use mathlib.Core.Path.{_≡_, refl, sym, ap, _∙_}
+use mathlib.Core.List.{[], _∷_}
+use mathlib.Core.Bool.{Bool, true, false, cond, true≢false}
+use mathlib.Core.Logic.{_⊎_, inl, inr}
+use lib.ListN.{length, length-append}
+use native.Mathlib.Decide.{decLt}
+use native.Mathlib.Omega.{arith}
+use borrow.Author.Tests.{lt-ltb, le-ltb}
+use lib.Dec.{ltb}
+use Rattle.facts.specs.Counting.{howMany, those}
+
+-- Tests that agree below the bound count the same.
+pub same-count : (a b : ℕ → Bool) (n : ℕ) → ((i : ℕ) → i < n → a i ≡ b i) → howMany a n ≡ howMany b n
+unfolding howMany
+same-count a b zero h = refl
+same-count a b (suc n) h =
+    rw (same-count a b n (λ i l. h i (omega arith)), h n (omega arith))
+
+-- Of the numbers below n, as many are below c as c says, if c is no more than n.
+pub how-many-below : (c n : ℕ) → c ≤ n → howMany (λ i. ltb i c) n ≡ c
+unfolding howMany
+how-many-below c zero h = omega arith
+how-many-below c (suc n) h = go (decLt n c) (how-many-below c n)
+  where
+    all : (c n : ℕ) → n ≤ c → howMany (λ i. ltb i c) n ≡ n
+    all c zero l = refl
+    all c (suc n) l = rw (all c n (omega arith), lt-ltb n c (omega arith)) (omega arith)
+
+    go : Dec (n < c) → (c ≤ n → howMany (λ i. ltb i c) n ≡ c) → howMany (λ i. ltb i c) n + cond (ltb n c) 1 0 ≡ c
+    go (yes l) rest = rw (all c n (omega arith), lt-ltb n c l) (omega arith)
+    go (no l) rest = rw (rest (omega arith), le-ltb n c (omega arith)) (omega arith)
+
+-- one number more
+module _ (a : ℕ → Bool) (n : ℕ) where
+  counts : a n ≡ true → howMany a (suc n) ≡ howMany a n + 1
+  unfolding howMany
+  counts e = rw e
+
+  does-not-count : a n ≡ false → howMany a (suc n) ≡ howMany a n
+  unfolding howMany
+  does-not-count e = rw e (omega arith)
+
+-- counting on never loses
+grows : (a : ℕ → Bool) (n : ℕ) → howMany a n ≤ howMany a (suc n)
+unfolding howMany
+grows a n = omega arith
+
+-- As many are listed as are counted.
+pub as-many-listed : (a : ℕ → Bool) (n : ℕ) → length (those a n) ≡ howMany a n
+unfolding those howMany
+as-many-listed a zero = refl
+as-many-listed a (suc n) =
+    length-append (those a n) _ ∙ rw (as-many-listed a n) (go (a n))
+  where
+    go : (t : Bool) → howMany a n + length (cond t (n ∷ []) []) ≡ howMany a n + cond t 1 0
+    go true = refl
+    go false = refl
+
+-- Some number below n passes, or none does.
+pub some-or-none : (a : ℕ → Bool) (n : ℕ) → ((i : ℕ) × (i < n) × (a i ≡ true)) ⊎ ((i : ℕ) → i < n → a i ≡ false)
+some-or-none a zero = inr (λ i l. absurd (omega arith))
+some-or-none a (suc n) = go (a n) refl (some-or-none a n)
+  where
+    go : (t : Bool) → a n ≡ t → ((i : ℕ) × (i < n) × (a i ≡ true)) ⊎ ((i : ℕ) → i < n → a i ≡ false) →
+        ((i : ℕ) × (i < suc n) × (a i ≡ true)) ⊎ ((i : ℕ) → i < suc n → a i ≡ false)
+    go true e rest = inl (n, omega arith, e)
+    go false e (inl found) = inl (found .0, omega (arith, found .1), found .2)
+    go false e (inr none) = inr (λ i l. here i l (decLt i n))
+      where
+        here : (i : ℕ) → i < suc n → Dec (i < n) → a i ≡ false
+        here i l (yes h) = none i h
+        here i l (no h) = ap a {x = i} {y = n} (omega arith) ∙ e
+
+-- If what passes one test passes one of two others, there are no more of them than of those two together.
+pub counts-together : (a b c : ℕ → Bool) (n : ℕ) → ((i : ℕ) → i < n → a i ≡ true → (b i ≡ true) ⊎ (c i ≡ true)) →
+    howMany a n ≤ howMany b n + howMany c n
+unfolding howMany
+counts-together a b c zero h = omega arith
+counts-together a b c (suc n) h = go (a n) (b n) (c n) refl refl refl (counts-together a b c n (λ i l. h i (omega arith)))
+  where
+    go : (x y z : Bool) → a n ≡ x → b n ≡ y → c n ≡ z → howMany a n ≤ howMany b n + howMany c n →
+        howMany a n + cond (a n) 1 0 ≤ howMany b n + cond (b n) 1 0 + (howMany c n + cond (c n) 1 0)
+    go true true z p q r k = rw (p, q) (omega arith)
+    go true false true p q r k = rw (p, q, r) (omega arith)
+    go true false false p q r k = absurd (neither (h n (omega arith) p))
+      where
+        neither : (b n ≡ true) ⊎ (c n ≡ true) → ⊥
+        neither (inl t) = true≢false (sym t ∙ q)
+        neither (inr t) = true≢false (sym t ∙ r)
+    go false y z p q r k = rw p (omega arith)
+
+-- Nothing passes a test that never holds.
+pub how-many-never : (n : ℕ) → howMany (λ i. false) n ≡ 0
+unfolding howMany
+how-many-never zero = refl
+how-many-never (suc n) = rw (how-many-never n) (omega arith)
+
+-- If what passes one test passes another, there are no more of the first,
+pub counts-no-more : (a b : ℕ → Bool) (n : ℕ) → ((i : ℕ) → i < n → a i ≡ true → b i ≡ true) → howMany a n ≤ howMany b n
+counts-no-more a b n h = omega (arith, counts-together a b (λ i. false) n (λ i l t. inl (h i l t)), how-many-never n)
+
+-- and fewer, if some number passes the second alone.
+pub counts-fewer : (a b : ℕ → Bool) (n i : ℕ) → i < n → ((j : ℕ) → j < n → a j ≡ true → b j ≡ true) → a i ≡ false → b i ≡ true → howMany a n < howMany b n
+counts-fewer a b zero i l h p q = absurd (omega arith)
+counts-fewer a b (suc n) i l h p q =
+    here (decLt i n) (λ k. counts-fewer a b n i k (λ j m. h j (omega arith)) p q)
+  where
+    inside : howMany a n < howMany b n → (x y : Bool) → a n ≡ x → b n ≡ y → howMany a (suc n) < howMany b (suc n)
+    inside k false y e f = omega (arith, does-not-count a n e, grows b n)
+    inside k true true e f = omega (arith, counts a n e, counts b n f)
+    inside k true false e f = absurd (true≢false (sym (h n (omega arith) e) ∙ f))
+
+    here : Dec (i < n) → (i < n → howMany a n < howMany b n) → howMany a (suc n) < howMany b (suc n)
+    here (yes k) rest = inside (rest k) (a n) (b n) refl refl
+    here (no k) rest =
+        let same : i ≡ n = omega arith in
+        omega (
+          arith,
+          does-not-count a n (ap a (sym same) ∙ p),
+          counts b n (ap b (sym same) ∙ q),
+          counts-no-more a b n (λ j m. h j (omega arith)),
+        )
+
+-- If no two numbers pass, at most one does.
+pub counts-one-at-most : (a : ℕ → Bool) (n : ℕ) → ((i j : ℕ) → i < j → j < n → a i ≡ true → a j ≡ true → ⊥) → howMany a n ≤ 1
+unfolding howMany
+counts-one-at-most a zero h = omega arith
+counts-one-at-most a (suc n) h = go (a n) refl (counts-one-at-most a n (λ i j l k. h i j l (omega arith)))
+  where
+    go : (x : Bool) → a n ≡ x → howMany a n ≤ 1 → howMany a n + cond (a n) 1 0 ≤ 1
+    go true e rest =
+        let none = counts-no-more a (λ i. false) n (λ i l t. absurd (h i n l (omega arith) t e)) in
+        rw e (omega (arith, how-many-never n))
+    go false e rest = rw e (omega arith)

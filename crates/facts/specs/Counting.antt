@@ -1,0 +1,14 @@
+-- Counting and listing the numbers below a bound that pass a test.
+use Prim.Native.Nat.{ℕ, zero, suc, _+_}
+use mathlib.Core.List.{List, [], _∷_, _++_}
+use mathlib.Core.Bool.{Bool, cond}
+
+-- how many pass
+unfoldable pub howMany : (ℕ → Bool) → ℕ → ℕ
+howMany test zero = 0
+howMany test (suc n) = howMany test n + cond (test n) 1 0
+
+-- those that pass, rising
+unfoldable pub those : (ℕ → Bool) → ℕ → List ℕ
+those test zero = []
+those test (suc n) = those test n ++ cond (test n) (n ∷ []) []

@@ -1,0 +1,6 @@
+pub mod Share
+pub mod Order
+pub mod Picks
+pub mod Choice
+pub mod Bench
+pub mod Confession

@@ -1,0 +1,35 @@
+-- PD2's picks: who is ready, by whose order (01, "Who is ready, and who goes first"). Row i has the quanta at place i.
+use Prim.Native.Nat.{ℕ}
+use mathlib.Core.List.{List}
+use mathlib.Core.Bool.{Bool}
+use lib.ListN.{length, getD}
+use Rattle.table.specs.declared.Row.{Row}
+use Rattle.table.specs.RowTests.{zeroRow}
+use Rattle.pd2.specs.Ready.{ready}
+use Rattle.pd2.specs.Order.{Rank, rankOf, before}
+use Rattle.pd2.specs.Picks.{picks, Strict}
+
+abbrev pub rowAt : List Row → ℕ → Row
+rowAt rows i = getD rows i zeroRow
+
+abbrev pub quantaAt : List ℕ → ℕ → ℕ
+quantaAt quanta i = getD quanta i 0
+
+-- Row i is ready in slot t.
+abbrev pub readyIn : List Row → List ℕ → ℕ → ℕ → Bool
+readyIn rows quanta t i = ready (rowAt rows i) (quantaAt quanta i) t
+
+-- Row j goes before row i, by an order of ranks.
+abbrev pub firstBy : (Rank → Rank → Bool) → List Row → List ℕ → ℕ → ℕ → Bool
+firstBy order rows quanta j i = order (rankOf (rowAt rows j) j (quantaAt quanta j)) (rankOf (rowAt rows i) i (quantaAt quanta i))
+
+-- The rows picked for slot t with k cores free, by an order of ranks; PD2's is `before`.
+abbrev pub picksBy : (Rank → Rank → Bool) → List Row → List ℕ → ℕ → ℕ → List ℕ
+picksBy order rows quanta t k = picks (readyIn rows quanta t) (firstBy order rows quanta) (length rows) k
+
+abbrev pub pd2Picks : List Row → List ℕ → ℕ → ℕ → List ℕ
+pd2Picks = picksBy before
+
+-- PD2's order is strict among any rows, whatever their quanta: so O4 holds of its picks.
+abbrev pub Pd2IsStrict : Type 0
+Pd2IsStrict = (rows : List Row) (quanta : List ℕ) (t n : ℕ) → Strict (readyIn rows quanta t) (firstBy before rows quanta) n

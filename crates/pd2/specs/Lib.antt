@@ -1,0 +1,7 @@
+pub mod Ready
+pub mod Share
+pub mod Order
+pub mod Picks
+pub mod Choice
+pub mod Bench
+pub mod Confession

@@ -1,0 +1,1 @@
+// PD2's rules: who is ready, who is late, what each row's share is.
