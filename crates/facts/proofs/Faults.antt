@@ -11,7 +11,7 @@ use lib.Dec.{eqb}
 use lib.ListN.{length, drop, getD, drop-of-length-le}
 use lib.Seq.{drop-cons}
 use borrow.Author.Tests.{eqb-false, not-true}
-use Rattle.facts.specs.Faults.{Test, _then_, _orElse_, firstMet, FirstMet, numbered, rising, Passed}
+use Rattle.facts.specs.Faults.{Test, _then_, _orElse_, firstMet, FirstMet, NoneMet, numbered, rising, Passed}
 use Rattle.facts.proofs.Tests.{both}
 
 -- for callers
@@ -109,6 +109,24 @@ answered-if-met (FirstMet.later {t} {ts} y m) n = rw y (answered-if-met m (numbe
 pub answered-exactly : (ts : List Test) → numbered ts ≡ true → (k : ℕ) → (k ≡ 0 → ⊥) → (firstMet ts ≡ k) ↔ FirstMet ts k
 answered-exactly ts n k h = (met-if-answered ts n h, λ m. answered-if-met m n)
 
+unmet : (ts : List Test) → numbered ts ≡ true → firstMet ts ≡ 0 → NoneMet ts
+unfolding firstMet
+unmet [] n e = NoneMet.end
+unmet (t ∷ ts) n e = go (t .cause) refl (unmet ts (numbered-parts t ts n .1))
+  where
+    go : (c : Bool) → t .cause ≡ c → (firstMet ts ≡ 0 → NoneMet ts) → NoneMet (t ∷ ts)
+    go true y rest = absurd (numbered-parts t ts n .0 (sym (fault-stands (t .number) (firstMet ts) (numbered-parts t ts n .0)) ∙ (rw y at e)))
+    go false y rest = NoneMet.later y (rest (rw y at e))
+
+none-if-unmet : {ts : List Test} → NoneMet ts → firstMet ts ≡ 0
+unfolding firstMet
+none-if-unmet NoneMet.end = refl
+none-if-unmet (NoneMet.later {t} {ts} y m) = rw y (none-if-unmet m)
+
+-- And 0 is answered exactly if no test has its cause.
+pub none-exactly : (ts : List Test) → numbered ts ≡ true → (firstMet ts ≡ 0) ↔ NoneMet ts
+none-exactly ts n = (unmet ts n, none-if-unmet)
+
 -- Tests of elements are numbered if those of each element are.
 pub rising-numbered : {A : Type 0} (tests : ℕ → A → List Test) (above : A → ℕ) → ((least : ℕ) (x : A) → numbered (tests least x) ≡ true) →
     (least : ℕ) (l : List A) → numbered (rising tests above least l) ≡ true
@@ -161,3 +179,23 @@ each-passed tests above least [] h i d k = absurd (not-suc-le-zero k)
 each-passed tests above least (x ∷ l) h zero d k = (least, neither (firstMet (tests least x)) _ (sym (in-turn (tests least x) _) ∙ h) .0)
 each-passed tests above least (x ∷ l) h (suc i) d k =
     each-passed tests above (above x) l (neither (firstMet (tests least x)) _ (sym (in-turn (tests least x) _) ∙ h) .1) i d (le-of-suc-le-suc k)
+
+-- What has to rise does: if passing means `least` or more, and `above` is one more, then elements without a fault rise strictly.
+module _ {A : Type 0} (tests : ℕ → A → List Test) (above key : A → ℕ) (enough : (least : ℕ) (x : A) → firstMet (tests least x) ≡ 0 → least ≤ key x) (next : (x : A) → above x ≡ key x + 1) (d : A) where
+  at-least : (least : ℕ) (l : List A) → firstMet (rising tests above least l) ≡ 0 → (i : ℕ) → i < length l → least ≤ key (getD l i d)
+  unfolding rising
+  at-least least [] h i k = absurd (not-suc-le-zero k)
+  at-least least (x ∷ l) h zero k = enough least x (neither (firstMet (tests least x)) _ (sym (in-turn (tests least x) _) ∙ h) .0)
+  at-least least (x ∷ l) h (suc i) k =
+      let first = neither (firstMet (tests least x)) _ (sym (in-turn (tests least x) _) ∙ h) in
+      omega (arith, enough least x (first .0), next x, at-least (above x) l (first .1) i (le-of-suc-le-suc k))
+
+  pub passed-rise : (least : ℕ) (l : List A) → firstMet (rising tests above least l) ≡ 0 → (i j : ℕ) → i < j → j < length l → key (getD l i d) < key (getD l j d)
+  unfolding rising
+  passed-rise least [] h i j b k = absurd (not-suc-le-zero k)
+  passed-rise least (x ∷ l) h i zero b k = absurd (not-suc-le-zero b)
+  passed-rise least (x ∷ l) h zero (suc j) b k =
+      let first = neither (firstMet (tests least x)) _ (sym (in-turn (tests least x) _) ∙ h) in
+      omega (arith, next x, at-least (above x) l (first .1) j (le-of-suc-le-suc k))
+  passed-rise least (x ∷ l) h (suc i) (suc j) b k =
+      passed-rise (above x) l (neither (firstMet (tests least x)) _ (sym (in-turn (tests least x) _) ∙ h) .1) i j (le-of-suc-le-suc b) (le-of-suc-le-suc k)

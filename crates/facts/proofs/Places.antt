@@ -5,11 +5,11 @@ use Prim.Native.Nat.{ℕ, zero, suc, _+_, _-_, _*_, _≤_, _<_}
 use native.Mathlib.Nat.{le-of-suc-le-suc, not-suc-le-zero, add-zero}
 use native.Mathlib.Numerals.{add-one}
 use native.Mathlib.Omega.{arith}
-use lib.ListN.{length, getD, set, take, replicate, length-append, length-replicate, length-map}
-use lib.Seq.{take-at}
+use lib.ListN.{length, getD, set, take, replicate, length-append, length-replicate, length-map, getD-replicate}
+use lib.Seq.{take-at, getD-append-add}
 use Rattle.facts.specs.Places.{places, padded, ReadAnswer, ReadSoFar}
 use Rattle.facts.specs.Faults.{Test, firstMet}
-use Rattle.facts.proofs.Filling.{filled-one-more, past-filled}
+use Rattle.facts.proofs.Filling.{filled-one-more}
 use Rattle.facts.proofs.Faults.{none-passed, all-passed, stops-at-fault, one-more-passed}
 
 -- for callers
@@ -57,10 +57,12 @@ module _ {A : Type 0} (read : ℕ → A) (nothing : A) (size from step : ℕ) wh
   first-are-read n = take-at (map read (places from step n)) _ n (how-many-read n)
 
   -- the others are nothing,
-  pub others-are-nothing : {n i : ℕ} → n ≤ i → getD (padded read nothing size from step n) i nothing ≡ nothing
+  pub others-are-nothing : {n i : ℕ} (d : A) → n ≤ i → i < size → getD (padded read nothing size from step n) i d ≡ nothing
   unfolding padded
-  others-are-nothing {n} {i} h =
-      past-filled (map read (places from step n)) (size - n) i nothing (omega (arith, how-many-read n))
+  others-are-nothing {n} {i} d h l =
+      ap (λ k. getD (map read (places from step n) ++ replicate (size - n) nothing) k d) {x = i} {y = length (map read (places from step n)) + (i - n)} (omega (arith, how-many-read n))
+      ∙ getD-append-add (map read (places from step n)) (replicate (size - n) nothing) (i - n) d
+      ∙ getD-replicate (size - n) (i - n) nothing d (omega arith)
 
   -- and there are as many as the array has places.
   pub how-many-padded : {n : ℕ} → n ≤ size → length (padded read nothing size from step n) ≡ size

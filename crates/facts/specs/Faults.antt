@@ -38,6 +38,11 @@ pub data FirstMet : List Test → ℕ → Type 0 where
   here : {t : Test} {ts : List Test} → t .cause ≡ true → FirstMet (t ∷ ts) (t .number)
   later : {t : Test} {ts : List Test} {k : ℕ} → t .cause ≡ false → FirstMet ts k → FirstMet (t ∷ ts) k
 
+-- No test has its cause.
+pub data NoneMet : List Test → Type 0 where
+  end : NoneMet []
+  later : {t : Test} {ts : List Test} → t .cause ≡ false → NoneMet ts → NoneMet (t ∷ ts)
+
 -- No test has the number 0.
 unfoldable pub numbered : List Test → Bool
 numbered [] = true

@@ -4,7 +4,7 @@ use mathlib.Core.List.{List}
 use mathlib.Core.Bool.{Bool}
 use lib.ListN.{length, getD}
 use Rattle.table.specs.declared.Row.{Row}
-use Rattle.table.specs.RowTests.{zeroRow}
+use Rattle.table.specs.Causes.{zeroRow}
 use Rattle.pd2.specs.Ready.{ready}
 use Rattle.pd2.specs.Order.{Rank, rankOf, before}
 use Rattle.pd2.specs.Picks.{picks, Strict}

@@ -15,8 +15,7 @@ use Rattle.table.specs.declared.Row.{Row}
 use Rattle.table.specs.declared.Table.{Table}
 use Rattle.table.specs.declared.Reading.{Reading}
 use Rattle.table.specs.Limits.{cycleLimit, coreLimit, rowLimit}
-use Rattle.table.specs.RowTests.{load, zeroRow}
-use Rattle.table.specs.Value.{outside}
+use Rattle.table.specs.Causes.{load, zeroRow, outside}
 use Rattle.table.specs.Bytes.{formatIn, cycleIn, coresIn, countIn, rowsPlace, rowPlaces, rowAt, headTests, boardsTestsIn, countTestsIn, rowsTestsIn, lastTests, tableNumber, tableIn, readingOf, reading}
 use Rattle.table.specs.Parts.{refusedWith, BoardsAnswer, RowsAnswer}
 

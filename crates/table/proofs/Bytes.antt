@@ -10,8 +10,7 @@ use Rattle.fields.specs.Fields.{byte}
 use Rattle.table.specs.declared.Row.{Row}
 use Rattle.table.specs.declared.Cursor.{Cursor}
 use Rattle.table.specs.declared.RowRead as read
-use Rattle.table.specs.RowTests.{rowTests}
-use Rattle.table.specs.Value.{boardTests}
+use Rattle.table.specs.Causes.{rowTests, boardTests}
 use Rattle.table.specs.Bytes.{rowAt, boardTestsIn, rowTestsIn}
 use Rattle.table.specs.Parts.{numberOf, rowReadOf, rowReadIn}
 

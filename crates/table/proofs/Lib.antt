@@ -1,5 +1,6 @@
-pub mod RowTests
+pub mod Sum
 pub mod Value
 pub mod Bytes
 pub mod Answers
 pub mod Taken
+pub mod Bench

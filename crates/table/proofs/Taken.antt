@@ -1,26 +1,29 @@
 -- What is known of a table that is taken. Assumes nothing.
 use mathlib.Core.Path.{_≡_, refl, sym, ap, _∙_}
-use mathlib.Core.List.{List, map}
+use mathlib.Core.List.{List, [], _∷_, map}
 use mathlib.Core.Bool.{true, false, cond, not}
-use Prim.Native.Nat.{ℕ, zero, suc, _+_, _*_, _%_, _≤_, _<_}
-use native.Mathlib.Nat.{pos-of-ne-zero}
+use Prim.Native.Nat.{ℕ, zero, suc, _+_, _*_, _/_, _%_, _≤_, _<_}
+use native.Mathlib.Nat.{pos-of-ne-zero, le-of-suc-le-suc, not-suc-le-zero, div-add-mod'}
+use native.Mathlib.Numerals.{add-one}
+use native.Mathlib.Omega.{arith}
+use lib.Seq.{length-take-le, getD-take}
 use borrow.Author.Tests.{ltb-true, ltb-false, eqb-true, eqb-false, not-false}
 use lib.Dec.{ltb, eqb}
 use lib.ListN.{length, getD, take}
 use Rattle.facts.specs.Faults.{_then_, firstMet, numbered}
 use Rattle.facts.specs.Determined.{Determined}
 use Rattle.facts.proofs.Determined.{by-value}
-use Rattle.facts.proofs.Faults.{neither, passed, none-at-all, both-numbered, rising-numbered, answered-exactly, passes-as-read, each-passed}
-use Rattle.facts.proofs.Places.{first-are-read, others-are-nothing}
+use Rattle.facts.proofs.Faults.{neither, passed, none-at-all, both-numbered, rising-numbered, answered-exactly, none-exactly, passes-as-read, each-passed, passed-rise}
+use Rattle.facts.proofs.Places.{first-are-read, others-are-nothing, how-many-padded}
 use Rattle.fields.specs.Fields.{byte, shorter}
 use Rattle.table.specs.declared.Row.{Row}
 use Rattle.table.specs.declared.Table.{Table}
 use Rattle.table.specs.declared.Reading.{Reading}
 use Rattle.table.specs.Limits.{cycleLimit, coreLimit, rowLimit}
-use Rattle.table.specs.RowTests.{rowTests, tankAbove, load, zeroRow}
-use Rattle.table.specs.Value.{outside, boardTests, boardAbove, boardsOf, rowsOf, sizeTests, boardsTests, countTests, rowsTests, sumTests, faultOf}
-use Rattle.table.specs.Bytes.{cycleIn, coresIn, countIn, rowsPlace, boardPlaces, rowPlaces, rowAt, boardTestsIn, rowTestsIn, headTests, boardsTestsIn, countTestsIn, rowsTestsIn, lastTests, tableTests, tableNumber, tableIn, readingOf, reading}
-use Rattle.table.specs.Taken.{NumbersAreFirstCauses, TakenHasNoFault, PastIsZero, Sound, RowsAreSound, SumIsWithin}
+use Rattle.table.specs.Causes.{rowTests, tankAbove, load, zeroRow, outside, boardTests, boardAbove}
+use Rattle.table.specs.Value.{boardsOf, rowsOf, sizeTests, boardsTests, countTests, rowsTests, sumTests, faultOf}
+use Rattle.table.specs.Bytes.{cycleIn, coresIn, countIn, rowsPlace, boardPlaces, rowPlaces, rowAt, boardTestsIn, rowTestsIn, headTests, boardsTestsIn, countTestsIn, rowsTestsIn, lastTests, tableTests, tableNumber, tableIn, noTable, readingOf, reading}
+use Rattle.table.specs.Taken.{NumbersAreFirstCauses, TakenWhereNoCause, TakenHasNoFault, PastIsZero, Sound, RowsAreSound, SumIsWithin, SizesAreWithin, BoardsRise, TanksRise}
 use Rattle.table.proofs.Value.{not-outside, no-fault}
 use Rattle.table.proofs.Answers.{head-passed}
 
@@ -55,6 +58,19 @@ pub numbers-are-first-causes : NumbersAreFirstCauses
 unfolding tableNumber
 numbers-are-first-causes s k h = answered-exactly (tableTests s) (all-numbered s) k h
 
+pub taken-where-no-cause : TakenWhereNoCause
+unfolding tableNumber
+taken-where-no-cause s = none-exactly (tableTests s) (all-numbered s)
+
+-- Where there is a fault, it has no table.
+pub no-table-read : (s : List ℕ) → (tableNumber s ≡ 0 → ⊥) → reading s .table ≡ noTable
+unfolding reading
+no-table-read s f = go (tableNumber s) f
+  where
+    go : (k : ℕ) → (k ≡ 0 → ⊥) → readingOf k (tableIn s) .table ≡ noTable
+    go zero h = absurd (h refl)
+    go (suc k) h = refl
+
 -- a board number or row that passed in bytes passes as a value
 board-as-read : (s : List ℕ) (least i : ℕ) → firstMet (boardTestsIn s least i) ≡ 0 → firstMet (boardTests least (byte s i)) ≡ 0
 unfolding firstMet
@@ -77,9 +93,10 @@ within s z =
     let x = neither (cond (ltb (rowsPlace s + 9 * countIn s) (length s)) 21 0) _ z in
     passed above 21 (neither (cond above 22 0) _ (x .1) .0)
 
-pub taken-has-no-fault : TakenHasNoFault
+-- For callers: the table in bytes that are taken has no fault.
+pub taken-value-has-no-fault : (s : List ℕ) → tableNumber s ≡ 0 → faultOf (tableIn s) ≡ 0
 unfolding tableNumber
-taken-has-no-fault s h =
+taken-value-has-no-fault s h =
     let each = none-at-all (headTests s) (boardsTestsIn s) (countTestsIn s) (rowsTestsIn s) (lastTests s) h in
     let head = head-passed s (each .0) in
     sym
@@ -91,10 +108,15 @@ taken-has-no-fault s h =
     (passes-as-read (rowTestsIn s (cycleIn s)) (rowTests (cycleIn s)) tankAbove (rowAt s) (row-as-read s (cycleIn s)) 0 (rowPlaces s) (each .3)))
     (rw (first-are-read (rowAt s) zeroRow rowLimit (rowsPlace s) 9 (countIn s)) (within s (each .4))))
 
+pub taken-has-no-fault : TakenHasNoFault
+taken-has-no-fault s h =
+    let none = sym (number-read s) ∙ h in
+    ap faultOf (table-read s none) ∙ taken-value-has-no-fault s none
+
 pub past-is-zero : PastIsZero
-past-is-zero s i = (
-  others-are-nothing (rowAt s) zeroRow rowLimit (rowsPlace s) 9 {n = countIn s},
-  others-are-nothing (byte s) 0 coreLimit 6 1 {n = coresIn s},
+past-is-zero s i d b = (
+  others-are-nothing (rowAt s) zeroRow rowLimit (rowsPlace s) 9 {n = countIn s} d,
+  others-are-nothing (byte s) 0 coreLimit 6 1 {n = coresIn s} b,
 )
 
 -- a row that passes its tests can be
@@ -127,8 +149,7 @@ sum-is-within t h =
     let above = ltb (t .cores * t .cycle) (load (t .cycle) (rowsOf t)) in
     ltb-false _ _ (passed above 21 (neither (cond above 22 0) _ (each .4) .0))
 
--- The sizes of a table without fault are between their limits.
-pub sizes-are-within : (t : Table) → faultOf t ≡ 0 → ((1 ≤ t .cycle) × (t .cycle ≤ cycleLimit)) × ((1 ≤ t .cores) × (t .cores ≤ coreLimit)) × (t .count ≤ rowLimit)
+pub sizes-are-within : SizesAreWithin
 unfolding faultOf firstMet
 sizes-are-within t h =
     let each = none-at-all (sizeTests t) (boardsTests t) (countTests t) (rowsTests t) (sumTests t) h in
@@ -136,6 +157,58 @@ sizes-are-within t h =
     let cores = neither (cond (outside 1 coreLimit (t .cores)) 13 0) _ (size .1) in
     let count = neither (cond (ltb rowLimit (t .count)) 15 0) _ (each .2) in
     (not-outside (passed _ 11 (size .0)), not-outside (passed _ 12 (cores .0)), ltb-false rowLimit (t .count) (passed _ 14 (count .0)))
+
+-- A table value has its 32 places; then each row below n is sound, whatever is read past the end.
+pub row-is-sound : (t : Table) → faultOf t ≡ 0 → length (t .rows) ≡ rowLimit → (i : ℕ) (d : Row) → i < t .count → Sound (t .cycle) (getD (t .rows) i d)
+unfolding faultOf
+row-is-sound t h l i d k =
+    let each = none-at-all (sizeTests t) (boardsTests t) (countTests t) (rowsTests t) (sumTests t) h in
+    let n = sizes-are-within t h .2 in
+    let many : length (rowsOf t) ≡ t .count = length-take-le (t .count) (t .rows) (omega (arith, n, l)) in
+    let row = each-passed (rowTests (t .cycle)) tankAbove 0 (rowsOf t) (each .3) i d (omega (arith, many, k)) in
+    rw (getD-take (t .count) (t .rows) i d k) at (sound-row (t .cycle) (row .0) (getD (rowsOf t) i d) (row .1))
+
+-- A table that is taken has all its places,
+pub places-are-there : (s : List ℕ) → tableNumber s ≡ 0 → (length (tableIn s .boards) ≡ coreLimit) × (length (tableIn s .rows) ≡ rowLimit)
+places-are-there s h =
+    let sizes = sizes-are-within (tableIn s) (taken-value-has-no-fault s h) in
+    (how-many-padded (byte s) 0 coreLimit 6 1 (sizes .1 .1), how-many-padded (rowAt s) zeroRow rowLimit (rowsPlace s) 9 (sizes .2))
+
+-- The quanta of the rows below i + 1 in a cycle are those of the rows below i and those of row i.
+pub load-one-more : (cycle : ℕ) (rows : List Row) (i : ℕ) (d : Row) → i < length rows →
+    load cycle (take (i + 1) rows) ≡ load cycle (take i rows) + getD rows i d .cost * (cycle / getD rows i d .period)
+unfolding load
+load-one-more cycle rows i d h = rw (add-one i) (go rows i h)
+  where
+    go : (l : List Row) (j : ℕ) → j < length l → load cycle (take (suc j) l) ≡ load cycle (take j l) + getD l j d .cost * (cycle / getD l j d .period)
+    go [] j k = absurd (not-suc-le-zero k)
+    go (x ∷ l) zero k = omega arith
+    go (x ∷ l) (suc j) k = rw (go l j (le-of-suc-le-suc k)) (omega arith)
+
+-- A sound row's jobs fill the cycle.
+pub jobs-fill-cycle : {cycle : ℕ} {row : Row} → Sound cycle row → cycle / row .period * row .period ≡ cycle
+jobs-fill-cycle {cycle} {row} s = omega (arith, div-add-mod' cycle (row .period), s .divides)
+
+-- a board number or tank that passes is at least the least that may stand there
+board-enough : (least board : ℕ) → firstMet (boardTests least board) ≡ 0 → least ≤ board
+unfolding firstMet
+board-enough least board h = ltb-false board least (passed _ 13 (neither (cond (ltb board least) 14 0) _ h .0))
+
+tank-enough : (cycle least : ℕ) (row : Row) → firstMet (rowTests cycle least row) ≡ 0 → least ≤ row .tank
+unfolding firstMet
+tank-enough cycle least row h = ltb-false (row .tank) least (passed _ 15 (neither (cond (ltb (row .tank) least) 16 0) _ h .0))
+
+pub boards-rise : BoardsRise
+unfolding faultOf
+boards-rise t h i j b k =
+    let each = none-at-all (sizeTests t) (boardsTests t) (countTests t) (rowsTests t) (sumTests t) h in
+    passed-rise boardTests boardAbove (λ board. board) board-enough (λ board. refl) 0 0 (boardsOf t) (each .1) i j b k
+
+pub tanks-rise : TanksRise
+unfolding faultOf
+tanks-rise t h i j b k =
+    let each = none-at-all (sizeTests t) (boardsTests t) (countTests t) (rowsTests t) (sumTests t) h in
+    passed-rise (rowTests (t .cycle)) tankAbove (λ row. row .tank) (tank-enough (t .cycle)) (λ row. refl) zeroRow 0 (rowsOf t) (each .3) i j b k
 
 -- The promises of `read` and `fault` give the answer itself, so they determine it.
 pub read-is-determined : (s : List ℕ) → Determined {R = Reading} (λ r. r ≡ reading s)

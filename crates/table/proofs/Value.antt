@@ -10,8 +10,8 @@ use Rattle.facts.proofs.Tests.{neither-holds}
 use Rattle.facts.proofs.Faults.{decides-1, decides-2, decides-3, decides-4, decides-5}
 use Rattle.table.specs.declared.Table.{Table}
 use Rattle.table.specs.Limits.{cycleLimit, coreLimit, rowLimit}
-use Rattle.table.specs.RowTests.{load}
-use Rattle.table.specs.Value.{outside, rowsOf, sizeTests, boardsTests, countTests, rowsTests, sumTests, faultOf}
+use Rattle.table.specs.Causes.{load, outside}
+use Rattle.table.specs.Value.{rowsOf, sizeTests, boardsTests, countTests, rowsTests, sumTests, faultOf}
 
 -- What is not outside is between.
 pub not-outside : {low high x : ℕ} → outside low high x ≡ false → (low ≤ x) × (x ≤ high)

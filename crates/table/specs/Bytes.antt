@@ -1,18 +1,15 @@
 -- The table in bytes, and what reading them answers (01, "The table, in bytes").
 use Prim.Native.Nat.{ℕ, zero, suc, _+_, _*_}
 use mathlib.Core.List.{List, [], _∷_, map}
-use mathlib.Core.Bool.{not}
-use lib.Dec.{ltb, eqb}
-use lib.ListN.{length, replicate}
-use Rattle.facts.specs.Faults.{Test, _⇒_, _then_, firstMet, rising}
+use lib.ListN.{replicate}
+use Rattle.facts.specs.Faults.{Test, _then_, firstMet, rising}
 use Rattle.facts.specs.Places.{places, padded}
-use Rattle.fields.specs.Fields.{byte, half, word, shorter}
+use Rattle.fields.specs.Fields.{byte, half, word}
 use Rattle.table.specs.declared.Row.{Row}
 use Rattle.table.specs.declared.Table.{Table}
 use Rattle.table.specs.declared.Reading.{Reading}
-use Rattle.table.specs.Limits.{cycleLimit, coreLimit, rowLimit}
-use Rattle.table.specs.RowTests.{rowTests, tankAbove, load, zeroRow}
-use Rattle.table.specs.Value.{outside, boardTests, boardAbove}
+use Rattle.table.specs.Limits.{coreLimit, rowLimit}
+use Rattle.table.specs.Causes.{cut, formatTest, cycleTest, coresTest, boardTests, boardAbove, countTest, rowTests, tankAbove, afterTest, sumTest, zeroRow}
 
 -- Where each part stands: "format, 1", "cycle L", "core count M .. then M board numbers", "row count n .. then n rows".
 abbrev pub formatIn : List ℕ → ℕ
@@ -51,15 +48,11 @@ boardPlaces s = places 6 1 (coresIn s)
 abbrev pub rowPlaces : List ℕ → List ℕ
 rowPlaces s = places (rowsPlace s) 9 (countIn s)
 
--- "table ends inside a field or row": a field or row that is to end at place n is not all there
-abbrev pub cut : List ℕ → ℕ → Test
-cut s n = shorter s n ⇒ 10
-
--- "M board numbers rising strictly, each a field": the tests of the board number at place i
+-- "M board numbers rising strictly, each a field": the tests of the board number at place i (docs/DECISIONS.md, 21)
 abbrev pub boardTestsIn : List ℕ → ℕ → ℕ → List Test
 boardTestsIn s least i = cut s (i + 1) ∷ boardTests least (byte s i)
 
--- "a row once all its nine are": the tests of the row in the nine bytes from place i on
+-- "a row once all its nine are": the tests of the row in the nine bytes from place i on (docs/DECISIONS.md, 22)
 abbrev pub rowTestsIn : List ℕ → ℕ → ℕ → ℕ → List Test
 rowTestsIn s cycle least i = cut s (i + 9) ∷ rowTests cycle least (rowAt s i)
 
@@ -73,22 +66,22 @@ rowsTestsIn s = rising (rowTestsIn s (cycleIn s)) (λ i. tankAbove (rowAt s i)) 
 abbrev pub headTests : List ℕ → List Test
 headTests s =
     cut s 1
-    ∷ not (eqb (formatIn s) 1) ⇒ 11
+    ∷ formatTest (formatIn s)
     ∷ cut s 5
-    ∷ outside 1 cycleLimit (cycleIn s) ⇒ 12
+    ∷ cycleTest (cycleIn s)
     ∷ cut s 6
-    ∷ outside 1 coreLimit (coresIn s) ⇒ 13
+    ∷ coresTest (coresIn s)
     ∷ []
 
 -- the row count
 abbrev pub countTestsIn : List ℕ → List Test
-countTestsIn s = cut s (rowsPlace s) ∷ ltb rowLimit (countIn s) ⇒ 15 ∷ []
+countTestsIn s = cut s (rowsPlace s) ∷ countTest (countIn s) ∷ []
 
 -- "after the last row come 21, then 22"
 abbrev pub lastTests : List ℕ → List Test
 lastTests s =
-    ltb (rowsPlace s + 9 * countIn s) (length s) ⇒ 21
-    ∷ ltb (coresIn s * cycleIn s) (load (cycleIn s) (map (rowAt s) (rowPlaces s))) ⇒ 22
+    afterTest s (rowsPlace s + 9 * countIn s)
+    ∷ sumTest (coresIn s) (cycleIn s) (map (rowAt s) (rowPlaces s))
     ∷ []
 
 -- "Reading goes from the front .. the first fault met is answered": all the tests, in the order in which they are made.

@@ -1,6 +1,7 @@
 pub mod Limits
-pub mod RowTests
+pub mod Causes
 pub mod Value
 pub mod Bytes
 pub mod Taken
 pub mod Parts
+pub mod Bench

@@ -9,8 +9,7 @@ use Rattle.table.specs.declared.Reading.{Reading}
 use Rattle.table.specs.declared.Cursor.{Cursor}
 use Rattle.table.specs.declared.RowRead as read
 use Rattle.table.specs.Limits.{coreLimit, rowLimit}
-use Rattle.table.specs.RowTests.{tankAbove, zeroRow}
-use Rattle.table.specs.Value.{boardAbove}
+use Rattle.table.specs.Causes.{tankAbove, zeroRow, boardAbove}
 use Rattle.table.specs.Bytes.{rowAt, rowTestsIn, boardTestsIn, noTable}
 
 -- 01's number for each case of a row that was read

@@ -4,7 +4,7 @@ ghost use mathlib.Core.Path.{_≡_};
 ghost use Prim.Native.Nat.{_≤_, _<_};
 ghost use lib.ListN.{take};
 ghost use Rattle.facts.specs.Faults.{firstMet, rising};
-ghost use Rattle.table.specs.Value.{boardTests, boardAbove};
+ghost use Rattle.table.specs.Causes.{boardTests, boardAbove};
 ghost use Rattle.table.specs.Parts.{BoardsAnswer};
 
 // The m board numbers, which begin at place 6.

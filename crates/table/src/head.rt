@@ -2,7 +2,7 @@
 ghost use mathlib.Core.Path.{_≡_};
 ghost use Rattle.facts.specs.Faults.{firstMet};
 ghost use Rattle.table.specs.Limits.{cycleLimit, coreLimit};
-ghost use Rattle.table.specs.Value.{outside};
+ghost use Rattle.table.specs.Causes.{outside};
 ghost use Rattle.table.specs.Bytes.{headTests};
 
 const CYCLE_LIMIT: u32 = 1_000_000;

@@ -7,7 +7,7 @@ ghost use mathlib.Core.Path.{_≡_};
 ghost use Prim.Native.Nat.{_*_, _≤_};
 ghost use lib.Dec.{ltb};
 ghost use lib.ListN.{take};
-ghost use Rattle.table.specs.RowTests.{load};
+ghost use Rattle.table.specs.Causes.{load};
 ghost use Rattle.table.specs.Value.{faultOf};
 ghost use Rattle.table.specs.Bytes.{reading};
 ghost use Rattle.table.specs.Parts.{refusedWith};

@@ -7,7 +7,7 @@ ghost use mathlib.Core.Path.{_≡_};
 ghost use Prim.Native.Nat.{_+_, _*_, _/_, _≤_, _<_};
 ghost use lib.ListN.{length, take};
 ghost use Rattle.facts.specs.Faults.{firstMet, rising};
-ghost use Rattle.table.specs.RowTests.{rowTests, tankAbove, load, zeroRow};
+ghost use Rattle.table.specs.Causes.{rowTests, tankAbove, load, zeroRow};
 ghost use Rattle.table.specs.Bytes.{rowAt};
 ghost use Rattle.table.specs.Parts.{numberOf, rowReadIn, RowsAnswer};
 

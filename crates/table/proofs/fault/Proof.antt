@@ -4,7 +4,8 @@ use Prim.Native.Nat.{_*_, _≤_, _<_}
 use native.Mathlib.Omega.{arith}
 use Rattle.facts.specs.Faults.{firstMet}
 use Rattle.table.specs.Limits.{cycleLimit, coreLimit}
-use Rattle.table.specs.Value.{outside, boardsTests, rowsTests}
+use Rattle.table.specs.Causes.{outside}
+use Rattle.table.specs.Value.{boardsTests, rowsTests}
 use Rattle.table.proofs.Value.{not-outside, cycle-is-fault, cores-are-fault, boards-are-fault, count-is-fault, rows-are-fault, sum-is-fault, no-fault}
 use borrow.Author.Needs.{needs}
 use Rattle.table.proofs.fault.Statement.{statement}

@@ -6,7 +6,7 @@ use Rattle.facts.specs.Places.{ReadSoFar}
 use Rattle.facts.proofs.Places.{reading-begins, reading-ends, reading-stops, reading-goes-on}
 use Rattle.fields.specs.Fields.{byte}
 use Rattle.table.specs.Limits.{coreLimit}
-use Rattle.table.specs.Value.{boardAbove}
+use Rattle.table.specs.Causes.{boardAbove}
 use Rattle.table.specs.Bytes.{boardTestsIn}
 use Rattle.table.proofs.Bytes.{board-too-low, board-rises, board-cut, board-there}
 use Rattle.table.proofs.boards.read.Statement.{statement}

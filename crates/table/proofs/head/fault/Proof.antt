@@ -6,7 +6,7 @@ use lib.ListN.{length}
 use Rattle.facts.specs.Faults.{firstMet}
 use Rattle.fields.specs.Fields.{byte}
 use Rattle.table.specs.Limits.{cycleLimit, coreLimit}
-use Rattle.table.specs.Value.{outside}
+use Rattle.table.specs.Causes.{outside}
 use borrow.Author.Needs.{needs}
 use Rattle.table.proofs.head.fault.Statement.{statement}
 use Rattle.table.proofs.head.fault.Tie as tie

@@ -5,7 +5,7 @@ use lib.ListN.{length, take}
 use lib.Seq.{length-take-le, getD-take}
 use Rattle.facts.specs.Faults.{Passed}
 use Rattle.facts.proofs.Faults.{none-passed, all-passed, stops-at-fault, one-more-passed}
-use Rattle.table.specs.RowTests.{rowTests, tankAbove}
+use Rattle.table.specs.Causes.{rowTests, tankAbove}
 use borrow.Author.Needs.{needs}
 use Rattle.table.proofs.rows.fault.Statement.{statement}
 use Rattle.table.proofs.rows.fault.Tie as tie

@@ -8,7 +8,7 @@ use Rattle.facts.proofs.Places.{reading-begins, reading-ends, reading-stops, re
 use Rattle.table.specs.declared.Row.{Row}
 use Rattle.table.specs.declared.Cursor.{Cursor}
 use Rattle.table.specs.Limits.{rowLimit}
-use Rattle.table.specs.RowTests.{tankAbove, zeroRow}
+use Rattle.table.specs.Causes.{tankAbove, zeroRow}
 use Rattle.table.specs.Bytes.{rowAt, rowTestsIn}
 use Rattle.table.specs.Parts.{numberOf}
 use Rattle.table.proofs.Bytes.{row-was-read, row-was-faulty}

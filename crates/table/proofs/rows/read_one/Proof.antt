@@ -1,7 +1,7 @@
 use mathlib.Core.Path.{_≡_, sym, ap, _∙_}
 use native.Mathlib.Omega.{arith}
 use Rattle.facts.specs.Faults.{firstMet}
-use Rattle.table.specs.RowTests.{rowTests}
+use Rattle.table.specs.Causes.{rowTests}
 use Rattle.table.proofs.Bytes.{row-cut, row-faulty, row-read}
 use borrow.Author.Needs.{needs}
 use Rattle.table.proofs.rows.read_one.Statement.{statement}

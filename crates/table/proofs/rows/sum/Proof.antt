@@ -2,7 +2,7 @@ use mathlib.Core.Path.{_≡_}
 use Prim.Native.Nat.{_-_, _≤_}
 use native.Mathlib.Omega.{arith}
 use lib.ListN.{length}
-use Rattle.table.proofs.RowTests.{Added, added-none, added-one-more, added-all}
+use Rattle.table.proofs.Sum.{Added, added-none, added-one-more, added-all}
 use borrow.Author.Needs.{needs}
 use Rattle.table.proofs.rows.sum.Statement.{statement}
 use Rattle.table.proofs.rows.sum.Tie as tie

@@ -7,7 +7,7 @@ use native.Mathlib.Omega.{arith}
 use lib.ListN.{length, take, getD}
 use lib.Seq.{slice, slice-cons, slice-empty}
 use Rattle.table.specs.declared.Row.{Row}
-use Rattle.table.specs.RowTests.{load}
+use Rattle.table.specs.Causes.{load}
 
 -- for the loop that adds up: the sum of i rows and what is left give the sum of all
 pub record Added (rows : List Row) (n cycle sum i : ℕ) : Type 0 where

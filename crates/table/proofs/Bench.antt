@@ -1,0 +1,11 @@
+-- The bench values of the table, computed. Assumes nothing.
+use mathlib.Core.Path.{refl}
+use Rattle.facts.specs.Faults.{firstMet, rising}
+use Rattle.facts.specs.Places.{places}
+use Rattle.table.specs.Causes.{load}
+use Rattle.table.specs.Bytes.{tableNumber}
+use Rattle.table.specs.Bench.{Bench}
+
+pub bench : Bench
+unfolding tableNumber firstMet rising places load
+bench = (refl, refl, refl)
