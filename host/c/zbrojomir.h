@@ -74,7 +74,8 @@ uint8_t zb_table_check(const uint8_t *table, size_t length);
  * The bytes of stack that a call of zb_table_check uses, its return address included.
  * Measured on x86-64 (host/c/stack.c): the function runs on a painted stack of its own, for a full table of 8 cores and 32 rows and
  * for refused ones; the depth of the lowest byte written in any of these runs is rounded up to a multiple of 256. The tests measure
- * it again and fail if it is more. A library for another processor has to be measured there.
+ * it again and fail if it is more. Bytes that are reserved and never written are not seen. The figure includes the memcpy of the
+ * library that was linked for the measurement: yours may use more. A library for another processor has to be measured there.
  */
 #define ZB_TABLE_CHECK_STACK 1280
 

@@ -8,8 +8,12 @@ use Rattle.windows.specs.Group.{heavy, stops, stopTime, groupDeadline}
 use Rattle.pd2.specs.Ready.{ready}
 use Rattle.pd2.specs.Order.{before}
 use Rattle.pd2.specs.Picks.{picked}
-use Rattle.pd2.specs.Bench.{BenchPicksHold}
+use Rattle.pd2.specs.Bench.{BenchPicksHold, BitZeroAsksNoGroup}
 
 pub bench-picks-hold : BenchPicksHold
 unfolding start deadline bit windowLength jobStart ceilDiv heavy stops stopTime atFirst groupDeadline howMany those ready before picked
 bench-picks-hold = (refl, refl)
+
+pub bit-zero-asks-no-group : BitZeroAsksNoGroup
+unfolding start deadline bit windowLength jobStart ceilDiv heavy stops stopTime atFirst groupDeadline howMany those ready before picked
+bit-zero-asks-no-group = refl

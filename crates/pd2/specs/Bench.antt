@@ -15,3 +15,8 @@ abbrev pub BenchPicksHold : Type 0
 BenchPicksHold =
     (pd2Picks (plain 1 2 ∷ plain 1 2 ∷ plain 2 3 ∷ []) (0 ∷ 0 ∷ 0 ∷ []) 0 2 ≡ 0 ∷ 2 ∷ [])
     × (pd2Picks (plain 2 3 ∷ plain 2 3 ∷ plain 3 4 ∷ []) (0 ∷ 0 ∷ 0 ∷ []) 0 1 ≡ 2 ∷ [])
+
+-- "if both have b = 1, larger D": D is not asked for where a bit is 0 (docs/DECISIONS.md, 28). On one core at time 3 the rows 1/4, with no
+-- quanta, and 3/4, with two, both have d 4 and b 0; D is 0 and 4, and the lower row number decides.
+abbrev pub BitZeroAsksNoGroup : Type 0
+BitZeroAsksNoGroup = pd2Picks (plain 1 4 ∷ plain 3 4 ∷ []) (0 ∷ 2 ∷ []) 3 1 ≡ 0 ∷ []

@@ -1,1 +1,134 @@
-// PD2's rules: who is ready, who is late, what each row's share is.
+// PD2's rules for one row: is it ready, late, inside its share? By products alone for a plain row: no division.
+use counts::Quanta;
+use counts::Slot;
+use table::Row;
+ghost use mathlib.Core.Path.{_≡_};
+ghost use mathlib.Core.Bool.{true};
+ghost use Prim.Native.Nat.{_*_, _<_, _≤_};
+ghost use Rattle.facts.specs.Rounding.{ceilDiv};
+ghost use Rattle.windows.specs.Fits.{furthest, products};
+ghost use Rattle.pd2.specs.Ready.{origin, ready, late};
+ghost use Rattle.pd2.specs.Share.{lower, upper, upperPlain, upperEarly, within};
+ghost use Rattle.pd2.specs.Verdict.{answered, verdict, Near};
+
+// The answer to a question about one row.
+pub enum Verdict {
+    Yes,
+    No,
+    Unanswered,
+}
+
+// Quanta and times up to here, 2 to the 46, are answered: then no number on the way passes 64 bits.
+const REACH: u64 = 70_368_744_177_664;
+
+// The time from which a row's windows are counted.
+pub fn origin(row: Row) -> Slot
+    ensures { λ r. ⌜ r .0 ≡ origin row ⌝ }
+{
+    Slot::at(row.phase as u64)
+}
+
+// Whether a row with these quanta is ready in this slot: whether one quantum more would be within its upper limit at the slot's end.
+pub fn ready(row: Row, given: Quanta, slot: Slot) -> Verdict
+    ensures { λ r. ⌜ r ≡ verdict (answered row (given .0) (slot .0)) (ready row (given .0) (slot .0)) ⌝ }
+{
+    if !is_answered(row, given, slot) {
+        return Verdict::Unanswered;
+    }
+    said(is_under_upper(row, given.one_more(), slot.later(1)))
+}
+
+// Whether a row with these quanta is late at this time: whether it is below its lower limit.
+pub fn late(row: Row, given: Quanta, time: Slot) -> Verdict
+    ensures { λ r. ⌜ r ≡ verdict (answered row (given .0) (time .0)) (late row (given .0) (time .0)) ⌝ }
+{
+    if !is_answered(row, given, time) {
+        return Verdict::Unanswered;
+    }
+    said(!reaches_lower(row, given, time))
+}
+
+// Whether a row with these quanta is inside its share at this time.
+pub fn within(row: Row, given: Quanta, time: Slot) -> Verdict
+    ensures { λ r. ⌜ r ≡ verdict (answered row (given .0) (time .0)) (within row (given .0) (time .0)) ⌝ }
+{
+    if !is_answered(row, given, time) {
+        return Verdict::Unanswered;
+    }
+    if !reaches_lower(row, given, time) {
+        return Verdict::No;
+    }
+    said(is_under_upper(row, given, time))
+}
+
+fn said(holds: bool) -> Verdict
+    ensures { λ r. ⌜ r ≡ verdict true holds ⌝ }
+{
+    if holds { Verdict::Yes } else { Verdict::No }
+}
+
+fn is_answered(row: Row, given: Quanta, time: Slot) -> bool
+    ensures { λ r. ⌜ r ≡ answered row (given .0) (time .0) ⌝ }
+{
+    if row.cost == 0 {
+        return false;
+    }
+    if row.period < row.cost {
+        return false;
+    }
+    if REACH < given.count() {
+        return false;
+    }
+    time.time() <= REACH
+}
+
+// The lower limit: less than a whole quantum is owed.
+fn reaches_lower(row: Row, given: Quanta, time: Slot) -> bool
+    requires { ⌜ Near row (given .0) (time .0) ⌝ }
+    ensures { λ r. ⌜ r ≡ lower row (given .0) (time .0) ⌝ }
+{
+    let elapsed = time.since(origin(row));
+    let share = product(elapsed, row.cost);
+    let had = product(given.count(), row.period);
+    share < had + row.period as u64
+}
+
+// The upper limit, for each kind of row.
+fn is_under_upper(row: Row, given: Quanta, time: Slot) -> bool
+    requires { ⌜ Near row (given .0) (time .0) ⌝ }
+    ensures { λ r. ⌜ r ≡ upper row (given .0) (time .0) ⌝ }
+{
+    if row.kind == 1 {
+        return is_under_upper_early(row, given, time);
+    }
+    is_under_upper_plain(row, given, time)
+}
+
+fn is_under_upper_plain(row: Row, given: Quanta, time: Slot) -> bool
+    requires { ⌜ Near row (given .0) (time .0) ⌝ }
+    ensures { λ r. ⌜ r ≡ upperPlain row (given .0) (time .0) ⌝ }
+{
+    let elapsed = time.since(origin(row));
+    let share = product(elapsed, row.cost);
+    let had = product(given.count(), row.period);
+    had < share + row.period as u64
+}
+
+// At most the cost of all jobs released.
+fn is_under_upper_early(row: Row, given: Quanta, time: Slot) -> bool
+    requires { ⌜ Near row (given .0) (time .0) ⌝ }
+    ensures { λ r. ⌜ r ≡ upperEarly row (given .0) (time .0) ⌝ }
+{
+    let elapsed = time.since(origin(row));
+    let period = row.period as u64;
+    let jobs = (elapsed + (period - 1)) / period;
+    given.count() <= product(jobs, row.cost)
+}
+
+// A number of slots, quanta or jobs times a number of the table.
+fn product(number: u64, factor: u16) -> u64
+    requires { ⌜ number ≤ furthest ⌝ }
+    ensures { λ r. ⌜ (r ≡ number * factor) × (r < products) ⌝ }
+{
+    number * (factor as u64)
+}
