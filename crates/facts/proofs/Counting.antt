@@ -1,10 +1,11 @@
 -- The laws of counting below a bound. Assumes nothing.
 use Prim.Native.Nat.{ℕ, zero, suc, _+_, _≤_, _<_}
 use mathlib.Core.Path.{_≡_, refl, sym, ap, _∙_}
-use mathlib.Core.List.{[], _∷_}
+use mathlib.Core.List.{[], _∷_, _++_}
 use mathlib.Core.Bool.{Bool, true, false, cond, true≢false}
 use mathlib.Core.Logic.{_⊎_, inl, inr}
-use lib.ListN.{length, length-append}
+use lib.ListN.{length, getD, length-append, List·getD-append}
+use lib.Seq.{getD-append-seam}
 use native.Mathlib.Decide.{decLt}
 use native.Mathlib.Omega.{arith}
 use borrow.Author.Tests.{lt-ltb, le-ltb}
@@ -134,3 +135,44 @@ counts-one-at-most a (suc n) h = go (a n) refl (counts-one-at-most a n (λ i j l
         let none = counts-no-more a (λ i. false) n (λ i l t. absurd (h i n l (omega arith) t e)) in
         rw e (omega (arith, how-many-never n))
     go false e rest = rw e (omega arith)
+
+-- what is listed below n + 1: what is listed below n, and n itself if it passes
+module _ (a : ℕ → Bool) (n j d : ℕ) where
+  listed-before : j < length (those a n) → getD (those a (suc n)) j d ≡ getD (those a n) j d
+  unfolding those
+  listed-before l = List·getD-append (those a n) (cond (a n) (n ∷ []) []) d j l
+
+  listed-last : length (those a n) ≤ j → j < length (those a (suc n)) → (getD (those a (suc n)) j d ≡ n) × (a n ≡ true) × (j ≡ length (those a n))
+  unfolding those
+  listed-last l h = go (a n) refl
+    where
+      go : (t : Bool) → a n ≡ t → (getD (those a n ++ cond (a n) (n ∷ []) []) j d ≡ n) × (a n ≡ true) × (j ≡ length (those a n))
+      go true e =
+          let one : length (those a n ++ (n ∷ [])) ≡ length (those a n) + 1 = length-append (those a n) (n ∷ []) in
+          let same : j ≡ length (those a n) = omega (arith, rw e at h) in
+          (rw (e, same) (getD-append-seam (those a n) n [] d), e, same)
+      go false e = absurd (omega (arith, (rw e at h), length-append (those a n) []))
+
+-- What is listed lies below the bound and passes,
+pub listed-pass : (a : ℕ → Bool) (n j d : ℕ) → j < length (those a n) → (getD (those a n) j d < n) × (a (getD (those a n) j d) ≡ true)
+unfolding those
+listed-pass a zero j d h = absurd (omega arith)
+listed-pass a (suc n) j d h = go (decLt j (length (those a n))) (listed-pass a n j d)
+  where
+    go : Dec (j < length (those a n)) → (j < length (those a n) → (getD (those a n) j d < n) × (a (getD (those a n) j d) ≡ true)) →
+        (getD (those a (suc n)) j d < suc n) × (a (getD (those a (suc n)) j d) ≡ true)
+    go (yes l) rest = let x = rest l in rw (listed-before a n j d l) (omega (arith, x .0), x .1)
+    go (no l) rest = let x = listed-last a n j d (omega arith) h in rw (x .0) (omega arith, x .1)
+
+-- and rises.
+pub listed-rise : (a : ℕ → Bool) (n i j d : ℕ) → i < j → j < length (those a n) → getD (those a n) i d < getD (those a n) j d
+unfolding those
+listed-rise a zero i j d l h = absurd (omega arith)
+listed-rise a (suc n) i j d l h = go (decLt j (length (those a n))) (listed-rise a n i j d l)
+  where
+    go : Dec (j < length (those a n)) → (j < length (those a n) → getD (those a n) i d < getD (those a n) j d) → getD (those a (suc n)) i d < getD (those a (suc n)) j d
+    go (yes k) rest = rw (listed-before a n i d (omega arith), listed-before a n j d k) (rest k)
+    go (no k) rest =
+        let last = listed-last a n j d (omega arith) h in
+        let before : i < length (those a n) = omega (arith, last .2) in
+        rw (last .0, listed-before a n i d before) (listed-pass a n i d before .0)

@@ -11,7 +11,7 @@ use borrow.Author.Tests.{lt-ltb, ltb-true, ltb-false, eq-eqb, eqb-true, not-true
 use lib.Dec.{ltb, eqb}
 use Rattle.facts.specs.Counting.{howMany, those}
 use Rattle.facts.proofs.Tests.{both, hold-both}
-use Rattle.facts.proofs.Counting.{as-many-listed, some-or-none, counts-together, counts-no-more, counts-fewer, counts-one-at-most, how-many-never}
+use Rattle.facts.proofs.Counting.{as-many-listed, listed-rise, some-or-none, counts-together, counts-no-more, counts-fewer, counts-one-at-most, how-many-never}
 use Rattle.pd2.specs.Picks.{ahead, picked, picks, Strict, AreBest, PicksAreBest}
 
 module _ (ready : ℕ → Bool) (first : ℕ → ℕ → Bool) (n : ℕ) (strict : Strict ready first n) where
@@ -120,6 +120,7 @@ module _ (ready : ℕ → Bool) (first : ℕ → ℕ → Bool) (n : ℕ) (strict
 pub picks-are-best : PicksAreBest
 picks-are-best ready first n k strict =
     record {
+      rising = listed-rise (picked ready first n k) n;
       how-many = as-many-listed (picked ready first n k) n ∙ as-many-as-can-be ready first n strict k;
       best = best-is-picked ready first n strict k;
     }
