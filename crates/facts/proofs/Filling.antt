@@ -1,11 +1,10 @@
 -- Filling an array from the front, one place a turn. Assumes nothing.
 use mathlib.Core.Path.{_≡_, sym, ap, _∙_}
 use mathlib.Core.List.{List, [], _∷_, _++_}
-use Prim.Native.Nat.{ℕ, suc, _+_, _-_, _≤_, _<_}
+use Prim.Native.Nat.{ℕ, suc, _+_, _-_, _<_}
 use native.Mathlib.Omega.{arith}
-use lib.ListN.{length, set, getD, replicate, getD-replicate, List·getD-eq-default, length-replicate}
-use lib.Seq.{set-at, append-snoc, getD-append-add}
-use native.Mathlib.Decide.{decLt}
+use lib.ListN.{length, set, replicate}
+use lib.Seq.{set-at, append-snoc}
 
 -- One turn of n - i is left more than after it.
 pub one-left-more : {i n : ℕ} → i < n → n - i ≡ suc (n - (i + 1))
@@ -17,14 +16,3 @@ pub filled-one-more : {A : Type 0} (p : List A) (n i : ℕ) (z v : A) → length
 filled-one-more p n i z v l h =
     ap (λ k. set (p ++ replicate k z) i v) (one-left-more h)
     ∙ (set-at p z (replicate (n - (i + 1)) z) v i l ∙ sym (append-snoc p v (replicate (n - (i + 1)) z)))
-
--- Past what was filled every place holds z.
-pub past-filled : {A : Type 0} (p : List A) (n i : ℕ) (z : A) → length p ≤ i → getD (p ++ replicate n z) i z ≡ z
-past-filled p n i z h =
-    ap (λ k. getD (p ++ replicate n z) k z) {x = i} {y = length p + (i - length p)} (omega arith)
-    ∙ getD-append-add p (replicate n z) (i - length p) z
-    ∙ inside (decLt (i - length p) n)
-  where
-    inside : Dec (i - length p < n) → getD (replicate n z) (i - length p) z ≡ z
-    inside (yes l) = getD-replicate n (i - length p) z z l
-    inside (no l) = List·getD-eq-default (replicate n z) z (simp length-replicate (omega arith))

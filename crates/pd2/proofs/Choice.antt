@@ -1,15 +1,14 @@
 -- PD2's order is strict among the rows of a table. Assumes nothing.
-use Prim.Native.Nat.{ℕ, _+_, _≤_, _<_}
+use Prim.Native.Nat.{ℕ, _+_, _≤_}
 use mathlib.Core.Path.{_≡_, refl}
-use mathlib.Core.List.{List}
 use mathlib.Core.Bool.{Bool, true, false}
 use mathlib.Core.Logic.{_⊎_, inl, inr, ⊎-elim}
 use native.Mathlib.Omega.{arith}
 use Rattle.windows.specs.Windows.{bit}
 use Rattle.windows.proofs.Windows.{bit-is-0-or-1}
 use Rattle.table.specs.declared.Row.{Row}
-use Rattle.pd2.specs.Order.{Rank, rankOf, Before, before}
-use Rattle.pd2.specs.Choice.{rowAt, quantaAt, firstBy, Pd2IsStrict}
+use Rattle.pd2.specs.Order.{Rank, rankOf, before}
+use Rattle.pd2.specs.Choice.{rowAt, quantaAt, Pd2IsStrict}
 use Rattle.pd2.proofs.Order.{order-is-irreflexive, order-is-transitive, order-is-total, before-means-rule}
 
 -- a test that would make a row go before itself fails

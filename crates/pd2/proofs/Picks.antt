@@ -1,7 +1,7 @@
 -- The picks are the best of the ready rows. Assumes nothing.
 -- At most k are picked: raising k by one adds the ready rows with exactly k ahead, and of two such rows one would be ahead of the other.
 -- If a ready row is left out, at least k are picked: follow the rows ahead of it to one that is left out while all ahead of it are picked.
-use Prim.Native.Nat.{ℕ, zero, suc, _+_, _≤_, _<_, min}
+use Prim.Native.Nat.{ℕ, zero, suc, _≤_, _<_, min}
 use mathlib.Core.Path.{_≡_, refl, sym, ap, _∙_}
 use mathlib.Core.Bool.{Bool, true, false, _&&_, not, true≢false}
 use mathlib.Core.Logic.{_⊎_, inl, inr, ⊎-elim}
@@ -9,10 +9,10 @@ use native.Mathlib.Decide.{decLt}
 use native.Mathlib.Omega.{arith}
 use borrow.Author.Tests.{lt-ltb, ltb-true, ltb-false, eq-eqb, eqb-true, not-true}
 use lib.Dec.{ltb, eqb}
-use Rattle.facts.specs.Counting.{howMany, those}
+use Rattle.facts.specs.Counting.{howMany}
 use Rattle.facts.proofs.Tests.{both, hold-both}
 use Rattle.facts.proofs.Counting.{as-many-listed, listed-rise, some-or-none, counts-together, counts-no-more, counts-fewer, counts-one-at-most, how-many-never}
-use Rattle.pd2.specs.Picks.{ahead, picked, picks, Strict, AreBest, PicksAreBest}
+use Rattle.pd2.specs.Picks.{ahead, picked, Strict, PicksAreBest}
 
 module _ (ready : ℕ → Bool) (first : ℕ → ℕ → Bool) (n : ℕ) (strict : Strict ready first n) where
   -- a picked row is ready and has fewer than k ahead; and the other way round

@@ -1,16 +1,15 @@
 -- The laws of shares, for both kinds of row. Assumes nothing.
-use mathlib.Core.Path.{_≡_, refl, sym, ap, _∙_}
+use mathlib.Core.Path.{_≡_, sym, ap, _∙_}
 use mathlib.Core.Logic.{_↔_}
-use mathlib.Core.Bool.{Bool, true, false, cond, not, _&&_}
+use mathlib.Core.Bool.{Bool, true, false, cond, not}
 use Prim.Native.Nat.{ℕ, _+_, _-_, _*_, _/_, _≤_, _<_, zero-le}
 use native.Mathlib.Nat.{mul-zero, mul-le-mul-left, mul-le-mul-right, div-lt-iff-lt-mul, lt-of-mul-lt-mul-left}
 use native.Mathlib.Decide.{decLt}
 use native.Mathlib.Omega.{arith}
 use borrow.Author.Tests.{lt-ltb, le-leb, ltb-true, leb-true}
-use lib.Dec.{ltb, leb}
+use lib.Dec.{ltb}
 use Rattle.facts.specs.Rounding.{ceilDiv}
-use Rattle.facts.specs.Counting.{howMany}
-use Rattle.facts.proofs.Tests.{both, same-test, not-below}
+use Rattle.facts.proofs.Tests.{same-test, not-below}
 use Rattle.facts.proofs.Rounding.{ceil-is-enough, below-ceil-falls-short, ceil-is-near, ceil-grows}
 use Rattle.facts.proofs.Counting.{same-count, how-many-below}
 use Rattle.windows.specs.Windows.{start, deadline, jobStart}

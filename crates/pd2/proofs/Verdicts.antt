@@ -1,11 +1,11 @@
 -- That what the code tests is what the definitions say. Assumes nothing.
-use mathlib.Core.Path.{_≡_, refl, sym, ap, _∙_}
+use mathlib.Core.Path.{_≡_, sym, ap}
 use mathlib.Core.Logic.{_↔_}
 use mathlib.Core.Bool.{Bool, true, false, not, _&&_}
 use Prim.Native.Nat.{ℕ, _+_, _-_, _*_, _≤_, _<_}
 use native.Mathlib.Omega.{arith}
 use borrow.Author.Tests.{ltb-true, leb-true}
-use lib.Dec.{ltb, leb, eqb}
+use lib.Dec.{ltb, leb}
 use Rattle.facts.specs.Rounding.{ceilDiv}
 use Rattle.facts.specs.Determined.{Determined}
 use Rattle.facts.proofs.Tests.{both, same-test}
@@ -14,7 +14,7 @@ use Rattle.counts.specs.Limits.{kept}
 use Rattle.windows.specs.Fits.{reach}
 use Rattle.table.specs.declared.Row.{Row}
 use Rattle.pd2.specs.declared.Verdict.{Verdict}
-use Rattle.pd2.specs.declared.Verdict.the-variants.{Yes, No, Unanswered}
+use Rattle.pd2.specs.declared.Verdict.the-variants.{No, Unanswered}
 use Rattle.pd2.specs.Ready.{ready, late}
 use Rattle.pd2.specs.Share.{elapsed, lower, upperPlain, upperEarly, upper, within, CanBe}
 use Rattle.pd2.specs.Verdict.{answered, verdict, Near}

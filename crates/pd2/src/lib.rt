@@ -5,7 +5,6 @@ use table::Row;
 ghost use mathlib.Core.Path.{_≡_};
 ghost use mathlib.Core.Bool.{true};
 ghost use Prim.Native.Nat.{_*_, _<_, _≤_};
-ghost use Rattle.facts.specs.Rounding.{ceilDiv};
 ghost use Rattle.windows.specs.Fits.{furthest, products};
 ghost use Rattle.pd2.specs.Ready.{origin, ready, late};
 ghost use Rattle.pd2.specs.Share.{lower, upper, upperPlain, upperEarly, within};

@@ -12,7 +12,7 @@ use Rattle.table.specs.declared.Cursor.{Cursor}
 use Rattle.table.specs.declared.RowRead as read
 use Rattle.table.specs.Causes.{rowTests, boardTests}
 use Rattle.table.specs.Bytes.{rowAt, boardTestsIn, rowTestsIn}
-use Rattle.table.specs.Parts.{numberOf, rowReadOf, rowReadIn}
+use Rattle.table.specs.Parts.{rowReadOf, rowReadIn}
 
 -- A board number is a fault if it is too low,
 pub board-too-low : (least board : ℕ) → board < least → firstMet (boardTests least board) ≡ 14

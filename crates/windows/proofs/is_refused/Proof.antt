@@ -1,5 +1,3 @@
-use mathlib.Core.Path.{_≡_, ap}
-use mathlib.Core.Bool.{Bool, not}
 use native.Mathlib.Omega.{arith}
 use borrow.Author.Tests.{eq-eqb, ne-eqb, lt-ltb, le-ltb, le-leb, lt-leb}
 use Rattle.windows.proofs.Question.{above-last}

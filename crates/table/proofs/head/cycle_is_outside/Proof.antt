@@ -1,5 +1,4 @@
-use native.Mathlib.Omega.{arith}
-use borrow.Author.Tests.{eq-eqb, ne-eqb, lt-ltb, le-ltb, le-leb, lt-leb}
+use borrow.Author.Tests.{lt-ltb, le-ltb}
 use Rattle.table.proofs.head.cycle_is_outside.Statement.{statement}
 use Rattle.table.proofs.head.cycle_is_outside.Tie as tie
 
