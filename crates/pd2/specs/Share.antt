@@ -15,7 +15,7 @@ elapsed row t = t - origin row
 unfoldable pub lower : Row → ℕ → ℕ → Bool
 lower row q t = ltb (row .cost * elapsed row t) (row .period * q + row .period)
 
--- "Plain row: quanta q with -p < e·a - p·q"
+-- "Plain row: quanta q with -p < e·a - p·q .."
 abbrev pub upperPlain : Row → ℕ → ℕ → Bool
 upperPlain row q t = ltb (row .period * q) (row .cost * elapsed row t + row .period)
 
