@@ -1,7 +1,7 @@
 -- The laws of shares, for both kinds of row. Assumes nothing.
 use mathlib.Core.Path.{_≡_, sym, ap, _∙_}
 use mathlib.Core.Logic.{_↔_}
-use mathlib.Core.Bool.{Bool, true, false, cond, not}
+use mathlib.Core.Bool.{Bool, true, false, cond, not, _&&_}
 use Prim.Native.Nat.{ℕ, _+_, _-_, _*_, _/_, _≤_, _<_, zero-le}
 use native.Mathlib.Nat.{mul-zero, mul-le-mul-left, mul-le-mul-right, div-lt-iff-lt-mul, lt-of-mul-lt-mul-left}
 use native.Mathlib.Decide.{decLt}
@@ -9,7 +9,7 @@ use native.Mathlib.Omega.{arith}
 use borrow.Author.Tests.{lt-ltb, le-leb, ltb-true, leb-true}
 use lib.Dec.{ltb}
 use Rattle.facts.specs.Rounding.{ceilDiv}
-use Rattle.facts.proofs.Tests.{same-test, not-below}
+use Rattle.facts.proofs.Tests.{both, hold-both, same-test, not-below}
 use Rattle.facts.proofs.Rounding.{ceil-is-enough, below-ceil-falls-short, ceil-is-near, ceil-grows}
 use Rattle.facts.proofs.Counting.{same-count, how-many-below}
 use Rattle.windows.specs.Windows.{start, deadline, jobStart}
@@ -129,3 +129,21 @@ module _ (row : Row) (can : CanBe row) where
   unfolding upper
   upper-means-cost-of-jobs-released is-early q t =
       rw (is-early, jobs-released-are t) (λ h. leb-true q _ h, λ l. le-leb q _ l)
+
+  -- two limits hold together exactly if each means what it says
+  together : {a b : Bool} {A B : Type 0} → (a ≡ true) ↔ A → (b ≡ true) ↔ B → (a && b ≡ true) ↔ (A × B)
+  together {a} {b} f g = (
+    λ h. let x = both a b h in (f .0 (x .0), g .0 (x .1)),
+    λ h. hold-both (f .1 (h .0)) (g .1 (h .1)),
+  )
+
+  -- S6 whole, in demand 3's words: a plain row is inside its share exactly if it "holds at least its exact share rounded down, and at most
+  -- that share rounded up".
+  pub plain-within-means-share : early row ≡ false → (q t : ℕ) →
+      (within row q t ≡ true) ↔ ((row .cost * elapsed row t / row .period ≤ q) × (q ≤ ceilDiv (row .cost * elapsed row t) (row .period)))
+  plain-within-means-share plain q t = together (lower-means-share-rounded-down q t) (upper-means-share-rounded-up plain q t)
+
+  -- The same for an early-release row: "the upper limit is the cost of all jobs released before that time".
+  pub early-within-means-share : early row ≡ true → (q t : ℕ) →
+      (within row q t ≡ true) ↔ ((row .cost * elapsed row t / row .period ≤ q) × (q ≤ row .cost * jobsReleased row t))
+  early-within-means-share is-early q t = together (lower-means-share-rounded-down q t) (upper-means-cost-of-jobs-released is-early q t)

@@ -17,9 +17,6 @@ pub enum Verdict {
     Unanswered,
 }
 
-// Quanta and times up to here, 2 to the 46, are answered: then no number on the way passes 64 bits.
-const REACH: u64 = 70_368_744_177_664;
-
 // The time from which a row's windows are counted.
 pub fn origin(row: Row) -> Slot
     ensures { λ r. ⌜ r .0 ≡ origin row ⌝ }
@@ -66,6 +63,7 @@ fn said(holds: bool) -> Verdict
     if holds { Verdict::Yes } else { Verdict::No }
 }
 
+// Whether quanta and time are within reach, so that no number on the way passes 64 bits.
 fn is_answered(row: Row, given: Quanta, time: Slot) -> bool
     ensures { λ r. ⌜ r ≡ answered row (given .0) (time .0) ⌝ }
 {
@@ -75,10 +73,10 @@ fn is_answered(row: Row, given: Quanta, time: Slot) -> bool
     if row.period < row.cost {
         return false;
     }
-    if REACH < given.count() {
+    if windows::REACH < given.count() {
         return false;
     }
-    time.time() <= REACH
+    time.time() <= windows::REACH
 }
 
 // The lower limit: less than a whole quantum is owed.

@@ -4,8 +4,8 @@ use Rattle.facts.specs.Faults.{firstMet, rising}
 use Rattle.facts.specs.Places.{places}
 use Rattle.table.specs.Causes.{load}
 use Rattle.table.specs.Bytes.{tableNumber}
-use Rattle.table.specs.Bench.{Bench}
+use Rattle.table.specs.Bench.{BenchTableHolds}
 
-pub bench : Bench
+pub bench-table-holds : BenchTableHolds
 unfolding tableNumber firstMet rising places load
-bench = (refl, refl, refl)
+bench-table-holds = (refl, refl, refl)

@@ -6,6 +6,7 @@ use native.Mathlib.Numerals.{add-one}
 use native.Mathlib.Omega.{arith}
 use lib.ListN.{length, take, getD}
 use lib.Seq.{slice, slice-cons, slice-empty}
+use Rattle.table.specs.Limits.{loadLimit}
 use Rattle.table.specs.declared.Row.{Row}
 use Rattle.table.specs.Causes.{load}
 
@@ -13,14 +14,14 @@ use Rattle.table.specs.Causes.{load}
 pub record Added (rows : List Row) (n cycle sum i : ℕ) : Type 0 where
   pub within : i ≤ n
   pub long : n ≤ length rows
-  pub small : sum ≤ 281_474_976_710_656 * i
+  pub small : sum ≤ loadLimit * i
   pub rest : load cycle (take n rows) ≡ sum + load cycle (slice i n rows)
 
 pub added-none : (rows : List Row) (n cycle : ℕ) → n ≤ length rows → Added rows n cycle 0 0
 added-none rows n cycle l = record { within = omega arith; long = l; small = omega arith; rest = omega arith }
 
 module _ {rows : List Row} {n cycle sum i : ℕ} (so : Added rows n cycle sum i) (d : Row) where
-  pub added-one-more : i < n → {q : ℕ} → q ≡ getD rows i d .cost * (cycle / getD rows i d .period) → q < 281_474_976_710_656 → Added rows n cycle (sum + q) (i + 1)
+  pub added-one-more : i < n → {q : ℕ} → q ≡ getD rows i d .cost * (cycle / getD rows i d .period) → q < loadLimit → Added rows n cycle (sum + q) (i + 1)
   unfolding load
   added-one-more h {q} e b =
       record {

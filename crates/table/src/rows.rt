@@ -7,6 +7,7 @@ ghost use mathlib.Core.Path.{_≡_};
 ghost use Prim.Native.Nat.{_+_, _*_, _/_, _≤_, _<_};
 ghost use lib.ListN.{length, take};
 ghost use Rattle.facts.specs.Faults.{firstMet, rising};
+ghost use Rattle.table.specs.Limits.{loadLimit};
 ghost use Rattle.table.specs.Causes.{rowTests, tankAbove, load, zeroRow};
 ghost use Rattle.table.specs.Bytes.{rowAt};
 ghost use Rattle.table.specs.Parts.{numberOf, rowReadIn, RowsAnswer};
@@ -150,7 +151,7 @@ pub(crate) fn sum(rows: [Row; 32], n: usize, cycle: u32) -> u64
 
 // The quanta that a row takes in a cycle; 0 for a row of period 0.
 fn quanta_of(row: Row, cycle: u32) -> u64
-    ensures { λ r. ⌜ (r ≡ row .cost * (cycle / row .period)) × (r < 281_474_976_710_656) ⌝ }
+    ensures { λ r. ⌜ (r ≡ row .cost * (cycle / row .period)) × (r < loadLimit) ⌝ }
 {
     if row.period == 0 {
         return 0;

@@ -37,7 +37,7 @@ pub enum Moment {
 const LAST: u64 = counts::TIME_LIMIT + 1;
 
 // Origins and quanta up to here, 2 to the 46, are answered: then no number on the way passes 64 bits.
-const REACH: u64 = 70_368_744_177_664;
+pub const REACH: u64 = 70_368_744_177_664;
 
 // The window question: a window alone, by cost, period, phase and subtask.
 pub fn window(e: u16, p: u16, f: u16, i: Subtask) -> Answer

@@ -3,11 +3,12 @@ use Prim.Native.Nat.{ℕ, _*_, _/_, _≤_, _<_}
 use native.Mathlib.Nat.{div-le-self, div-zero, mul-zero, mul-le-mul}
 use native.Mathlib.Omega.{arith}
 use borrow.Author.Needs.{needs}
+use Rattle.table.specs.Limits.{loadLimit}
 use Rattle.table.proofs.rows.quanta_of.Statement.{statement}
 use Rattle.table.proofs.rows.quanta_of.Tie as tie
 
 -- 16 bits times 32 bits are 48 bits
-product-fits : (e p cycle : ℕ) → e < 65_536 → cycle < 4_294_967_296 → e * (cycle / p) < 281_474_976_710_656
+product-fits : (e p cycle : ℕ) → e < 65_536 → cycle < 4_294_967_296 → e * (cycle / p) < loadLimit
 product-fits e p cycle he hc =
     let small : cycle / p ≤ 4_294_967_295 = omega (arith, div-le-self cycle p) in
     omega (arith, mul-le-mul {n₁ = e} {n₂ = 65_535} (omega arith) small)
