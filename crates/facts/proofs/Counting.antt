@@ -1,16 +1,45 @@
 -- The laws of counting below a bound. Assumes nothing.
 use Prim.Native.Nat.{ℕ, zero, suc, _+_, _≤_, _<_}
 use mathlib.Core.Path.{_≡_, refl, sym, ap, _∙_}
-use mathlib.Core.List.{[], _∷_, _++_}
-use mathlib.Core.Bool.{Bool, true, false, cond, true≢false}
+use mathlib.Core.List.{List, [], _∷_, _++_, append-nil}
+use mathlib.Core.Bool.{Bool, true, false, cond, _||_, true≢false}
 use mathlib.Core.Logic.{_⊎_, inl, inr}
 use lib.ListN.{length, getD, length-append, List·getD-append}
 use lib.Seq.{getD-append-seam}
 use native.Mathlib.Decide.{decLt}
+use native.Mathlib.Numerals.{add-one}
 use native.Mathlib.Omega.{arith}
 use borrow.Author.Tests.{lt-ltb, le-ltb}
 use lib.Dec.{ltb}
-use Rattle.facts.specs.Counting.{howMany, those}
+use Rattle.facts.specs.Counting.{howMany, those, some}
+use Rattle.facts.specs.First.{Lowest}
+
+-- What passes is counted and listed,
+pub counted-if-passed : (a : ℕ → Bool) (n : ℕ) → a n ≡ true → howMany a (n + 1) ≡ howMany a n + 1
+unfolding howMany
+counted-if-passed a n h = rw (add-one n, h)
+
+pub listed-if-passed : (a : ℕ → Bool) (n : ℕ) → a n ≡ true → those a (n + 1) ≡ those a n ++ (n ∷ [])
+unfolding those
+listed-if-passed a n h = rw (add-one n, h)
+
+-- and what fails is not.
+pub uncounted-if-failed : (a : ℕ → Bool) (n : ℕ) → a n ≡ false → howMany a (n + 1) ≡ howMany a n
+unfolding howMany
+uncounted-if-failed a n h = rw (add-one n, h) (omega arith)
+
+pub unlisted-if-failed : (a : ℕ → Bool) (n : ℕ) → a n ≡ false → those a (n + 1) ≡ those a n
+unfolding those
+unlisted-if-failed a n h = rw (add-one n, h) (append-nil (those a n))
+
+-- Below 0 there is nothing.
+pub none-counted : (a : ℕ → Bool) → howMany a 0 ≡ 0
+unfolding howMany
+none-counted a = refl
+
+pub none-listed : (a : ℕ → Bool) → those a 0 ≡ []
+unfolding those
+none-listed a = refl
 
 -- Tests that agree below the bound count the same.
 pub same-count : (a b : ℕ → Bool) (n : ℕ) → ((i : ℕ) → i < n → a i ≡ b i) → howMany a n ≡ howMany b n
@@ -176,3 +205,146 @@ listed-rise a (suc n) i j d l h = go (decLt j (length (those a n))) (listed-rise
         let last = listed-last a n j d (omega arith) h in
         let before : i < length (those a n) = omega (arith, last .2) in
         rw (last .0, listed-before a n i d before) (listed-pass a n i d before .0)
+
+-- There are no fewer below a larger bound,
+pub counts-grow : (a : ℕ → Bool) (i n : ℕ) → i ≤ n → howMany a i ≤ howMany a n
+unfolding howMany
+counts-grow a i zero h = ap-le (omega arith)
+  where
+    ap-le : i ≡ 0 → howMany a i ≤ howMany a 0
+    ap-le e = rw e (omega arith)
+counts-grow a i (suc n) h = go (decLt n i) (counts-grow a i n)
+  where
+    go : Dec (n < i) → (i ≤ n → howMany a i ≤ howMany a n) → howMany a i ≤ howMany a (suc n)
+    go (yes l) rec = let e : i ≡ suc n = omega arith in rw e (omega arith)
+    go (no l) rec = let r = rec (omega arith) in omega arith
+
+-- and more, if one that passes lies between: so it has a place in the list.
+pub more-listed : (a : ℕ → Bool) (i n : ℕ) → i < n → a i ≡ true → length (those a i) < length (those a n)
+more-listed a i n l h =
+    let grow = counts-grow a (i + 1) n (omega arith) in
+    omega (arith, grow, counted-if-passed a i h, as-many-listed a i, as-many-listed a n)
+
+-- If one passes, some do,
+pub some-if : (a : ℕ → Bool) (n i : ℕ) → i < n → a i ≡ true → some a n ≡ true
+some-if a n i l h = lt-ltb 0 (howMany a n) (omega (arith, more-listed a i n l h, as-many-listed a n))
+
+-- and if none passes, none do,
+pub none-if : (a : ℕ → Bool) (n : ℕ) → ((i : ℕ) → i < n → a i ≡ false) → some a n ≡ false
+none-if a n h = le-ltb 0 (howMany a n) (omega (arith, same-count a (λ i. false) n h, how-many-never n))
+
+-- and the other way round.
+pub each-fails : (a : ℕ → Bool) (n : ℕ) → some a n ≡ false → (i : ℕ) → i < n → a i ≡ false
+each-fails a n h i l = go (a i) refl
+  where
+    go : (x : Bool) → a i ≡ x → a i ≡ false
+    go true e = absurd (true≢false (sym (some-if a n i l e) ∙ h))
+    go false e = e
+
+pub one-passes : (a : ℕ → Bool) (n : ℕ) → some a n ≡ true → (i : ℕ) × (i < n) × (a i ≡ true)
+one-passes a n h = go (some-or-none a n)
+  where
+    go : ((i : ℕ) × (i < n) × (a i ≡ true)) ⊎ ((i : ℕ) → i < n → a i ≡ false) → (i : ℕ) × (i < n) × (a i ≡ true)
+    go (inl one) = one
+    go (inr none) = absurd (true≢false (sym h ∙ none-if a n none))
+
+-- Tests that agree below the bound list the same.
+pub same-list : (a b : ℕ → Bool) (n : ℕ) → ((i : ℕ) → i < n → a i ≡ b i) → those a n ≡ those b n
+unfolding those
+same-list a b zero h = refl
+same-list a b (suc n) h = rw (same-list a b n (λ i l. h i (omega arith)), h n (omega arith))
+
+never-listed : (n : ℕ) → those (λ i. false) n ≡ []
+unfolding those
+never-listed zero = refl
+never-listed (suc n) = rw (never-listed n)
+
+-- The lowest that passes stands first in the list,
+pub lowest-is-first : (a : ℕ → Bool) (n i : ℕ) → Lowest a n i → i < n → (rest : List ℕ) × (those a n ≡ i ∷ rest)
+unfolding those
+lowest-is-first a zero i low l = absurd (omega arith)
+lowest-is-first a (suc n) i low l = go (decLt i n) (lowest-is-first a n i)
+  where
+    at-end : i ≡ n → those a n ++ cond (a n) (n ∷ []) [] ≡ i ∷ []
+    at-end e =
+        let before : those a n ≡ [] = same-list a (λ j. false) n (λ j k. low .none-before j (omega arith)) ∙ never-listed n in
+        let here : a n ≡ true = sym (ap a e) ∙ low .passes l in
+        rw (before, here, e)
+
+    go : Dec (i < n) → (Lowest a n i → i < n → (rest : List ℕ) × (those a n ≡ i ∷ rest)) → (rest : List ℕ) × (those a (suc n) ≡ i ∷ rest)
+    go (yes k) rec =
+        let r = rec record { within = omega arith; passes = λ m. low .passes l; none-before = low .none-before } k in
+        (r .0 ++ cond (a n) (n ∷ []) [], ap (λ x. x ++ cond (a n) (n ∷ []) []) (r .1))
+    go (no k) rec = ([], at-end (omega arith))
+
+-- and where none passes the list is empty.
+pub none-is-listed : (a : ℕ → Bool) (n : ℕ) → ((i : ℕ) → i < n → a i ≡ false) → those a n ≡ []
+none-is-listed a n h = same-list a (λ i. false) n h ∙ never-listed n
+
+-- Two tests that do not hold together: as many pass one of them as pass each.
+pub counts-apart : (a b c : ℕ → Bool) (n : ℕ) → ((i : ℕ) → i < n → c i ≡ a i || b i) → ((i : ℕ) → i < n → a i ≡ true → b i ≡ false) →
+    howMany c n ≡ howMany a n + howMany b n
+unfolding howMany
+counts-apart a b c zero either apart = refl
+counts-apart a b c (suc n) either apart =
+    go (a n) (b n) refl refl (counts-apart a b c n (λ i l. either i (omega arith)) (λ i l. apart i (omega arith)))
+  where
+    go : (x y : Bool) → a n ≡ x → b n ≡ y → howMany c n ≡ howMany a n + howMany b n → howMany c (suc n) ≡ howMany a (suc n) + howMany b (suc n)
+    go true true p q e = absurd (true≢false (sym q ∙ apart n (omega arith) p))
+    go true false p q e = rw (either n (omega arith), p, q, e) (omega arith)
+    go false true p q e = rw (either n (omega arith), p, q, e) (omega arith)
+    go false false p q e = rw (either n (omega arith), p, q, e) (omega arith)
+
+-- For a loop that counts: i of the n numbers have been tested.
+pub record Counted (a : ℕ → Bool) (n count i : ℕ) : Type 0 where
+  pub number : count ≡ howMany a i
+  pub few : count ≤ i
+  pub within : i ≤ n
+
+module _ (a : ℕ → Bool) (n : ℕ) where
+  -- It begins,
+  pub counting-begins : Counted a n 0 0
+  counting-begins = record { number = sym (none-counted a); few = omega arith; within = omega arith }
+
+  module _ {count i : ℕ} (so : Counted a n count i) (l : i < n) where
+    -- counts what passes,
+    pub counts-passed : a i ≡ true → Counted a n (count + 1) (i + 1)
+    counts-passed h =
+        record { number = ap (λ k. k + 1) (so .number) ∙ sym (counted-if-passed a i h); few = omega (arith, so .few); within = omega arith }
+
+    -- passes over what fails,
+    pub skips-failed : a i ≡ false → Counted a n count (i + 1)
+    skips-failed h = record { number = so .number ∙ sym (uncounted-if-failed a i h); few = omega (arith, so .few); within = omega arith }
+
+  -- and ends with the count of all.
+  pub counted-all : {count i : ℕ} → Counted a n count i → n ≤ i → count ≡ howMany a n
+  counted-all so h = so .number ∙ ap (howMany a) (omega (arith, so .within))
+
+-- For a loop that looks for the lowest that passes: none of the first i does.
+pub record NoneYet (a : ℕ → Bool) (n i : ℕ) : Type 0 where
+  pub none : (j : ℕ) → j < i → a j ≡ false
+  pub within : i ≤ n
+
+module _ (a : ℕ → Bool) (n : ℕ) where
+  -- It begins,
+  pub looking-begins : NoneYet a n 0
+  looking-begins = record { none = λ j l. absurd (omega arith); within = omega arith }
+
+  -- goes on past what fails,
+  pub looks-on : {i : ℕ} → NoneYet a n i → i < n → a i ≡ false → NoneYet a n (i + 1)
+  looks-on {i} so l h = record { none = λ j m. at j m (decLt j i); within = omega arith }
+    where
+      at : (j : ℕ) → j < i + 1 → Dec (j < i) → a j ≡ false
+      at j m (yes k) = so .none j k
+      at j m (no k) = let e : j ≡ i = omega arith in ap a e ∙ h
+
+  -- ends at what passes,
+  pub found-lowest : {i : ℕ} → NoneYet a n i → i < n → a i ≡ true → Lowest a n i
+  found-lowest so l h = record { within = so .within; passes = λ m. h; none-before = so .none }
+
+  -- or at the end, where none does.
+  pub found-none : {i : ℕ} → NoneYet a n i → n ≤ i → Lowest a n n
+  found-none so h = record { within = omega arith; passes = λ m. absurd (omega arith); none-before = λ j l. so .none j (omega arith) }
+
+  pub none-at-all : {i : ℕ} → NoneYet a n i → n ≤ i → some a n ≡ false
+  none-at-all so h = none-if a n (λ j l. so .none j (omega arith))

@@ -6,3 +6,4 @@ pub mod Faults
 pub mod Filling
 pub mod Places
 pub mod Determined
+pub mod Lent

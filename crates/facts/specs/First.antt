@@ -28,3 +28,9 @@ pub record Found (fits : ℕ → Bool) (gives : ℕ → ℕ) (i n m : ℕ) : Typ
   pub first : IsFirst fits i at
   pub within : at ≤ m
   pub value : atFirst fits gives i n ≡ gives at
+
+-- The lowest number below n that passes a test; n where none does.
+pub record Lowest (test : ℕ → Bool) (n i : ℕ) : Type 0 where
+  pub within : i ≤ n
+  pub passes : i < n → test i ≡ true
+  pub none-before : (j : ℕ) → j < i → test j ≡ false

@@ -1,14 +1,17 @@
--- PD2's order is strict among the rows of a table. Assumes nothing.
-use Prim.Native.Nat.{ℕ, _+_, _≤_}
-use mathlib.Core.Path.{_≡_, refl}
-use mathlib.Core.Bool.{Bool, true, false}
+-- PD2's order is strict among the rows of a table, and what giving does. Assumes nothing.
+use Prim.Native.Nat.{ℕ, zero, suc, _+_, _≤_, _<_}
+use mathlib.Core.Path.{_≡_, refl, ap, _∙_}
+use mathlib.Core.List.{List, [], _∷_}
+use mathlib.Core.Bool.{Bool, true, false, cond}
 use mathlib.Core.Logic.{_⊎_, inl, inr, ⊎-elim}
+use native.Mathlib.Nat.{le-of-suc-le-suc, not-suc-le-zero}
 use native.Mathlib.Omega.{arith}
+use lib.ListN.{length}
 use Rattle.windows.specs.Windows.{bit}
 use Rattle.windows.proofs.Windows.{bit-is-0-or-1}
 use Rattle.table.specs.declared.Row.{Row}
 use Rattle.pd2.specs.Order.{Rank, rankOf, before}
-use Rattle.pd2.specs.Choice.{rowAt, quantaAt, Pd2IsStrict}
+use Rattle.pd2.specs.Choice.{rowAt, quantaAt, given, Pd2IsStrict}
 use Rattle.pd2.proofs.Order.{order-is-irreflexive, order-is-transitive, order-is-total, before-means-rule}
 
 -- a test that would make a row go before itself fails
@@ -39,3 +42,19 @@ pd2-is-strict rows quanta t n =
   where
     rank : ℕ → Rank
     rank i = rankOf (rowAt rows i) i (quantaAt quanta i)
+
+-- Giving keeps the places,
+pub how-many-given : (isPicked : ℕ → Bool) (i : ℕ) (quanta : List ℕ) → length (given isPicked i quanta) ≡ length quanta
+unfolding given
+how-many-given isPicked i [] = refl
+how-many-given isPicked i (q ∷ quanta) = ap suc (how-many-given isPicked (i + 1) quanta)
+
+-- and each picked row has one quantum more.
+pub given-at : (isPicked : ℕ → Bool) (i : ℕ) (quanta : List ℕ) (j : ℕ) → j < length quanta →
+    quantaAt (given isPicked i quanta) j ≡ quantaAt quanta j + cond (isPicked (i + j)) 1 0
+unfolding given
+given-at isPicked i [] j h = absurd (not-suc-le-zero h)
+given-at isPicked i (q ∷ quanta) zero h = ap (λ k. q + cond (isPicked k) 1 0) {x = i} {y = i + 0} (omega arith)
+given-at isPicked i (q ∷ quanta) (suc j) h =
+    given-at isPicked (i + 1) quanta j (le-of-suc-le-suc h)
+    ∙ ap (λ k. quantaAt quanta j + cond (isPicked k) 1 0) {x = i + 1 + j} {y = i + suc j} (omega arith)

@@ -8,7 +8,8 @@ use Rattle.windows.specs.Group.{heavy, stops, stopTime, groupDeadline}
 use Rattle.pd2.specs.Ready.{ready, late}
 use Rattle.pd2.specs.Order.{before}
 use Rattle.pd2.specs.Picks.{picked}
-use Rattle.pd2.specs.Confession.{given, quantaBy, WithoutBitRowIsLate, ByPd2NobodyIsLate}
+use Rattle.pd2.specs.Choice.{given}
+use Rattle.pd2.specs.Confession.{quantaBy, WithoutBitRowIsLate, ByPd2NobodyIsLate}
 
 pub without-bit-row-is-late : WithoutBitRowIsLate
 unfolding start deadline bit windowLength jobStart ceilDiv heavy stops stopTime atFirst groupDeadline howMany those ready late picked given quantaBy

@@ -1,10 +1,10 @@
 -- That what the code tests is what the definitions say. Assumes nothing.
-use mathlib.Core.Path.{_≡_, sym, ap}
+use mathlib.Core.Path.{_≡_, refl, sym, ap}
 use mathlib.Core.Logic.{_↔_}
 use mathlib.Core.Bool.{Bool, true, false, not, _&&_}
 use Prim.Native.Nat.{ℕ, _+_, _-_, _*_, _≤_, _<_}
 use native.Mathlib.Omega.{arith}
-use borrow.Author.Tests.{ltb-true, leb-true}
+use borrow.Author.Tests.{ltb-true, leb-true, lt-ltb, le-leb}
 use lib.Dec.{ltb, leb}
 use Rattle.facts.specs.Rounding.{ceilDiv}
 use Rattle.facts.specs.Determined.{Determined}
@@ -17,7 +17,7 @@ use Rattle.pd2.specs.declared.Verdict.{Verdict}
 use Rattle.pd2.specs.declared.Verdict.the-variants.{No, Unanswered}
 use Rattle.pd2.specs.Ready.{ready, late}
 use Rattle.pd2.specs.Share.{elapsed, lower, upperPlain, upperEarly, upper, within, CanBe}
-use Rattle.pd2.specs.Verdict.{answered, verdict, Near}
+use Rattle.pd2.specs.Verdict.{isYes, answered, verdict, Near}
 use Rattle.pd2.proofs.Share.{upper-after-quantum-means-ready, late-means-below}
 
 -- for callers
@@ -25,6 +25,15 @@ use Rattle.pd2.proofs.Share.{upper-after-quantum-means-ready, late-mean
 -- A verdict on a question that is answered says whether it holds.
 pub verdict-is-said : {a : Bool} (b : Bool) → a ≡ true → verdict a b ≡ verdict true b
 verdict-is-said b e = rw e
+
+-- A row that can be, with quanta and a time within reach, gets an answer: yes exactly if it holds.
+pub yes-if-it-holds : (row : Row) (q t : ℕ) → CanBe row → q ≤ reach → t ≤ reach → (holds : Bool) → isYes (verdict (answered row q t) holds) ≡ holds
+yes-if-it-holds row q t can near soon holds =
+    rw (lt-ltb _ _ (can .cost), le-leb _ _ (can .weight), le-leb _ _ near, le-leb _ _ soon) (said holds)
+  where
+    said : (holds : Bool) → isYes (verdict true holds) ≡ holds
+    said true = refl
+    said false = refl
 
 -- The promises of the functions give the verdict itself, so they determine it.
 pub verdict-is-determined : (v : Verdict) → Determined {R = Verdict} (λ r. r ≡ v)

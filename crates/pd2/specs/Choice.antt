@@ -1,7 +1,7 @@
 -- PD2's picks: who is ready, by whose order (01, "Who is ready, and who goes first"). Row i has the quanta at place i.
-use Prim.Native.Nat.{ℕ}
-use mathlib.Core.List.{List}
-use mathlib.Core.Bool.{Bool}
+use Prim.Native.Nat.{ℕ, _+_}
+use mathlib.Core.List.{List, [], _∷_}
+use mathlib.Core.Bool.{Bool, cond}
 use lib.ListN.{length, getD}
 use Rattle.table.specs.declared.Row.{Row}
 use Rattle.table.specs.Causes.{zeroRow}
@@ -29,6 +29,11 @@ picksBy order rows quanta t k = picks (readyIn rows quanta t) (firstBy order row
 
 abbrev pub pd2Picks : List Row → List ℕ → ℕ → ℕ → List ℕ
 pd2Picks = picksBy before
+
+-- "each picked row has one quantum more": the quanta from place i on
+unfoldable pub given : (ℕ → Bool) → ℕ → List ℕ → List ℕ
+given isPicked i [] = []
+given isPicked i (q ∷ quanta) = (q + cond (isPicked i) 1 0) ∷ given isPicked (i + 1) quanta
 
 -- PD2's order is strict among any rows, whatever their quanta: so O4 holds of its picks.
 abbrev pub Pd2IsStrict : Type 0

@@ -10,13 +10,8 @@ use Rattle.table.specs.declared.Row.{Row}
 use Rattle.pd2.specs.Ready.{late}
 use Rattle.pd2.specs.Order.{Rank, before}
 use Rattle.pd2.specs.Picks.{picked}
-use Rattle.pd2.specs.Choice.{rowAt, quantaAt, readyIn, firstBy}
+use Rattle.pd2.specs.Choice.{rowAt, quantaAt, readyIn, firstBy, given}
 use Rattle.pd2.specs.Bench.{plain}
-
--- "each picked row has one quantum more": the quanta from place i on
-unfoldable pub given : (ℕ → Bool) → ℕ → List ℕ → List ℕ
-given isPicked i [] = []
-given isPicked i (q ∷ quanta) = (q + cond (isPicked i) 1 0) ∷ given isPicked (i + 1) quanta
 
 -- The quanta at time t, from none at time 0, with k cores free in every slot, by an order of ranks.
 unfoldable pub quantaBy : (Rank → Rank → Bool) → List Row → ℕ → ℕ → List ℕ

@@ -8,13 +8,26 @@ ghost use Prim.Native.Nat.{_*_, _<_, _≤_};
 ghost use Rattle.windows.specs.Fits.{furthest, products};
 ghost use Rattle.pd2.specs.Ready.{origin, ready, late};
 ghost use Rattle.pd2.specs.Share.{lower, upper, upperPlain, upperEarly, within};
-ghost use Rattle.pd2.specs.Verdict.{answered, verdict, Near};
+ghost use Rattle.pd2.specs.Verdict.{isYes, answered, verdict, Near};
 
 // The answer to a question about one row.
 pub enum Verdict {
     Yes,
     No,
     Unanswered,
+}
+
+impl Verdict {
+    // Whether the answer is yes.
+    pub fn is_yes(self) -> bool
+        ensures { λ r. ⌜ r ≡ isYes self ⌝ }
+    {
+        match self {
+            Verdict::Yes => true,
+            Verdict::No => false,
+            Verdict::Unanswered => false,
+        }
+    }
 }
 
 // The time from which a row's windows are counted.

@@ -2,7 +2,7 @@
 use mathlib.Core.Path.{_≡_, ap, _∙_}
 use mathlib.Core.Logic.{_⊎_, inl, inr}
 use Prim.Native.Nat.{ℕ, _+_, _-_, _*_, _/_, _%_, _≤_, _<_}
-use native.Mathlib.Nat.{div-lt-iff-lt-mul, le-div-iff-mul-le, div-mul-le-self, lt-div-mul-add, mul-le-mul-right, mul-mod-left}
+use native.Mathlib.Nat.{div-lt-iff-lt-mul, le-div-iff-mul-le, div-mul-le-self, lt-div-mul-add, mul-le-mul-left, mul-le-mul-right, mul-mod-left}
 use native.Mathlib.Decide.{ℕ-discrete}
 use native.Mathlib.Omega.{arith}
 use borrow.Author.Tests.{eq-eqb, ne-eqb}
@@ -11,6 +11,13 @@ use Rattle.facts.proofs.Rounding.{ceil-is-enough, below-ceil-falls-short, floor
 use Rattle.windows.specs.Windows.{start, deadline, bit, windowLength, jobStart, lastOfJob}
 
 -- for callers
+
+-- A subtask's deadline is at most its number of periods from the origin.
+pub deadline-is-near : (e p o i : ℕ) → 0 < e → deadline e p o i ≤ o + i * p
+unfolding deadline
+deadline-is-near e p o i h =
+    let few = ceil-is-enough {a = i * p} {b = e} {x = i * p} h .1 (omega (arith, mul-le-mul-left {m = 1} {n = e} (i * p) h)) in
+    omega arith
 
 -- The bit is 0 where e divides i·p,
 pub bit-of-whole : (e p i : ℕ) → i * p % e ≡ 0 → bit e p i ≡ 0

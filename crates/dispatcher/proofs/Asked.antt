@@ -1,0 +1,154 @@
+-- What the lower crates answer about a usable row, and what the functions here make of it. Assumes nothing.
+use Prim.Native.Nat.{ℕ, zero, suc, _+_, _-_, _*_, _%_, _≤_, _<_}
+use mathlib.Core.Path.{_≡_, refl, sym, ap, _∙_}
+use mathlib.Core.Bool.{Bool, true, false, not, _&&_, false≢true}
+use mathlib.Core.Logic.{_⊎_, ⊎-elim}
+use native.Mathlib.Nat.{mul-le-mul, le-of-suc-le-suc, not-suc-le-zero}
+use native.Mathlib.Omega.{arith}
+use borrow.Author.Tests.{eq-eqb, ne-eqb}
+use lib.Dec.{eqb}
+use lib.ListN.{length, getD, length-take, List·getD-map}
+use lib.Seq.{getD-take}
+use mathlib.Core.List.{List, [], _∷_}
+use Rattle.counts.specs.declared.Quanta.{Quanta}
+use Rattle.table.specs.Causes.{zeroRow}
+use Rattle.pd2.specs.declared.Verdict.{Verdict}
+use Rattle.pd2.specs.Choice.{rowAt, quantaAt}
+use Rattle.dispatcher.specs.declared.State.{State}
+use Rattle.dispatcher.specs.State.{rowsIn, quantaIn, timeOf}
+use Rattle.dispatcher.specs.Broken.{ofRow}
+use Rattle.counts.specs.Limits.{most}
+use Rattle.windows.specs.Fits.{reach}
+use Rattle.windows.specs.declared.Due.{Due}
+use Rattle.windows.specs.declared.Due.the-variants as due
+use Rattle.windows.specs.declared.Due.the-variants.{By}
+use Rattle.windows.specs.declared.Moment.{Moment}
+use Rattle.windows.specs.declared.Moment.the-variants as moment
+use Rattle.windows.specs.declared.Moment.the-variants.{At}
+use Rattle.windows.specs.Next.{InReach, nextDue, next}
+use Rattle.windows.specs.Group.{groupDeadline}
+use Rattle.windows.proofs.Next.{due-in-reach, next-in-reach}
+use Rattle.windows.specs.Windows.{deadline, bit}
+use Rattle.windows.proofs.Windows.{deadline-is-near, bit-is-0-or-1}
+use Rattle.table.specs.declared.Row.{Row}
+use Rattle.pd2.specs.Ready.{origin, ready}
+use Rattle.pd2.specs.Share.{CanBe}
+use Rattle.pd2.specs.Order.{rankOf}
+use Rattle.pd2.specs.Verdict.{isYes, answered, verdict}
+use Rattle.pd2.proofs.Verdicts.{yes-if-it-holds}
+use Rattle.dispatcher.specs.Usable.{UsableRow, Usable}
+use Rattle.dispatcher.specs.Classes.{keyFor, keyOf, groupOf}
+
+-- What an answer holds.
+abbrev pub dueTime : Due → ℕ
+dueTime (By deadline bit) = deadline .0
+dueTime due.Unanswered = 0
+
+abbrev pub dueBit : Due → ℕ
+dueBit (By deadline bit) = bit
+dueBit due.Unanswered = 0
+
+abbrev pub isDue : Due → Bool
+isDue (By deadline bit) = true
+isDue due.Unanswered = false
+
+abbrev pub momentTime : Moment → ℕ
+momentTime (At time) = time .0
+momentTime moment.Unanswered = 0
+
+abbrev pub isMoment : Moment → Bool
+isMoment (At time) = true
+isMoment moment.Unanswered = false
+
+module _ (row : Row) (q t : ℕ) (u : UsableRow row q t) where
+  -- A question about it is answered: yes exactly if it holds.
+  pub is-answered : (holds : Bool) → isYes (verdict (answered row q t) holds) ≡ holds
+  is-answered =
+      yes-if-it-holds row q t (record { cost = u .cost; weight = omega (arith, u .weight) }) (omega (arith, u .quanta, u .time)) (omega (arith, u .time))
+
+  -- Its windows are within reach, since a phase is.
+  pub in-reach : row .phase < 65_536 → InReach (row .cost) (row .period) (origin row) q
+  in-reach small =
+      record { cost = u .cost; weight = omega (arith, u .weight); origin = omega arith; quanta = omega (arith, u .quanta, u .time) }
+
+  -- When its next quantum is due is answered,
+  pub due-is-said : row .phase < 65_536 → {o : ℕ} → o ≡ origin row → {r : Due} → r ≡ nextDue (row .cost) (row .period) o q →
+      r ≡ By (record { 0 = deadline (row .cost) (row .period) (origin row) (q + 1) }) (bit (row .cost) (row .period) (q + 1))
+  due-is-said small same e = rw (e, same) (due-in-reach (in-reach small))
+
+  -- and its group deadline.
+  pub group-is-said : row .phase < 65_536 → {o : ℕ} → o ≡ origin row → {r : Moment} → r ≡ next groupDeadline (row .cost) (row .period) o q →
+      r ≡ At (record { 0 = groupDeadline (row .cost) (row .period) (origin row) (q + 1) })
+  group-is-said small same e = rw (e, same) (next-in-reach groupDeadline (in-reach small))
+
+  -- Its deadline is far from the largest number.
+  pub deadline-is-small : row .phase < 65_536 → row .period < 65_536 → deadline (row .cost) (row .period) (origin row) (q + 1) < 70_368_744_177_664
+  deadline-is-small phase period =
+      let near = deadline-is-near (row .cost) (row .period) (origin row) (q + 1) (u .cost) in
+      let product = mul-le-mul {n₁ = q + 1} {m₁ = row .period} {n₂ = 1_000_000_001} {m₂ = 65_535} (omega (arith, u .quanta, u .time)) (omega arith) in
+      omega arith
+
+  -- The key of a row that is not ready,
+  pub unready-key : ready row q t ≡ false → (most ≡ keyOf row q t) × (ready row q t ≡ true → most < most)
+  unfolding keyOf
+  unready-key h = rw h (refl, λ e. absurd (false≢true e))
+
+  -- and of one that is.
+  pub ready-key : row .phase < 65_536 → row .period < 65_536 → ready row q t ≡ true → {d b : ℕ} →
+      d ≡ deadline (row .cost) (row .period) (origin row) (q + 1) → b ≡ bit (row .cost) (row .period) (q + 1) →
+      (2 * d + (1 - b) ≡ keyOf row q t) × (ready row q t ≡ true → 2 * d + (1 - b) < most)
+  unfolding keyOf
+  ready-key phase period h pd pb =
+      let small = deadline-is-small phase period in
+      rw (h, pd, pb) (refl, λ e. omega arith)
+
+  -- The group deadline that is asked for,
+  pub group-asked : (key class : ℕ) → key ≡ class → (class % 2 ≡ 1 → ⊥) → {D : ℕ} → D ≡ groupDeadline (row .cost) (row .period) (origin row) (q + 1) →
+      D ≡ groupOf row q key class
+  unfolding groupOf
+  group-asked key class same even e = rw (eq-eqb key class same, ne-eqb (class % 2) 1 even) e
+
+-- and none where the row is not in the class,
+pub no-group-outside : (row : Row) (q key class : ℕ) → (key ≡ class → ⊥) → 0 ≡ groupOf row q key class
+unfolding groupOf
+no-group-outside row q key class other = rw (ne-eqb key class other) refl
+
+-- or the class has b = 0.
+pub no-group-at-bit-0 : (row : Row) (q key class : ℕ) → key ≡ class → class % 2 ≡ 1 → 0 ≡ groupOf row q key class
+unfolding groupOf
+no-group-at-bit-0 row q key class same odd = rw (eq-eqb key class same, eq-eqb (class % 2) 1 odd) refl
+
+-- A place that is there does not depend on what would stand past the end.
+pub getD-any : {A : Type 0} (l : List A) (i : ℕ) (d d′ : A) → i < length l → getD l i d ≡ getD l i d′
+getD-any [] i d d′ h = absurd (not-suc-le-zero h)
+getD-any (x ∷ l) zero d d′ h = refl
+getD-any (x ∷ l) (suc i) d d′ h = getD-any l i d d′ (le-of-suc-le-suc h)
+
+-- The rows of a state stand in its table,
+pub row-there : (s : State) (i : ℕ) (d : Row) → i < length (rowsIn s) → getD (s .table .rows) i d ≡ rowAt (rowsIn s) i
+row-there s i d l =
+    getD-any (s .table .rows) i d zeroRow (omega (arith, length-take (s .table .count) (s .table .rows)))
+    ∙ sym (getD-take (s .table .count) (s .table .rows) i zeroRow (omega (arith, length-take (s .table .count) (s .table .rows))))
+
+-- and their quanta among its counts.
+pub quanta-there : (s : State) (i : ℕ) (d : Quanta) → i < length (s .quanta) → getD (s .quanta) i d .0 ≡ quantaAt (quantaIn s) i
+quanta-there s i d there =
+    ap (λ q. q .0) (getD-any (s .quanta) i d (record { 0 = 0 }) there) ∙ sym (List·getD-map (λ q. q .0) (s .quanta) i (record { 0 = 0 }))
+
+-- Row i of a usable state, as the code reads it.
+module _ (s : State) (u : Usable s) (i : ℕ) (l : i < length (rowsIn s)) (r : Row) (q : Quanta) where
+  there : i < length (s .quanta)
+  there = omega (arith, u .place .few, u .place .all, u .place .long)
+
+  -- It is usable,
+  pub usable-there : UsableRow (getD (s .table .rows) i r) (getD (s .quanta) i q .0) (timeOf s)
+  usable-there = rw (row-there s i r l, quanta-there s i q there) (u .rows i l)
+
+  -- and a question about it is answered as the state's row is.
+  pub answered-there : (is : Row → ℕ → Bool) {answer : Bool} {v : Verdict} →
+      answer ≡ isYes v →
+      v ≡ verdict (answered (getD (s .table .rows) i r) (getD (s .quanta) i q .0) (timeOf s)) (is (getD (s .table .rows) i r) (getD (s .quanta) i q .0)) →
+      answer ≡ ofRow s is i
+  answered-there is e f =
+      e ∙ (ap isYes f ∙ (is-answered _ _ _ usable-there (is (getD (s .table .rows) i r) (getD (s .quanta) i q .0))
+      ∙ rw (row-there s i r l, quanta-there s i q there) refl))

@@ -1,0 +1,314 @@
+-- What one slot keeps, and what its answers mean. Assumes nothing.
+use Prim.Native.Nat.{ℕ, zero, suc, _+_, _≤_, _<_}
+use mathlib.Core.Path.{_≡_, refl, sym, ap, _∙_}
+use mathlib.Core.List.{List, [], _∷_, map}
+use mathlib.Core.Bool.{Bool, true, false, cond}
+use mathlib.Core.Logic.{_↔_, _⊎_, inl, inr, ⊎-elim}
+use native.Mathlib.Decide.{decLt}
+use native.Mathlib.Omega.{arith}
+use lib.Dec.{ltb, eqb}
+use lib.ListN.{length, length-map, List·getD-eq-default}
+use borrow.Author.Tests.{ltb-true, ltb-false, eqb-false, not-false}
+use Rattle.facts.specs.First.{Lowest}
+use Rattle.facts.specs.Faults.{_⇒_, firstMet, numbered}
+use Rattle.facts.proofs.Tests.{both, hold-both, neither-holds}
+use Rattle.facts.proofs.Counting.{some-if, none-if, each-fails, none-is-listed, lowest-is-first}
+use Rattle.facts.proofs.Faults.{neither, passed, answered-exactly}
+use Rattle.counts.specs.Limits.{timeLimit}
+use Rattle.table.specs.declared.Row.{Row}
+use Rattle.table.specs.Limits.{rowLimit}
+use Rattle.table.specs.Value.{faultOf}
+use Rattle.pd2.specs.Share.{lower, upper, CanBe}
+use Rattle.pd2.specs.Picks.{picked}
+use Rattle.pd2.specs.Choice.{rowAt, quantaAt, given, readyIn, firstBy}
+use Rattle.pd2.specs.Order.{before}
+use Rattle.pd2.proofs.Share.{nothing-is-within, upper-kept-when-idle, upper-after-quantum-means-ready, late-means-below}
+use Rattle.pd2.proofs.Choice.{how-many-given, given-at}
+use Rattle.trace.specs.Records.{names}
+use Rattle.trace.proofs.Records.{listed-are-named}
+use Rattle.dispatcher.specs.declared.State.{State}
+use Rattle.dispatcher.specs.State.{rowsIn, quantaIn, timeOf, counted, freshOf}
+use Rattle.dispatcher.specs.Broken.{ofRow, broken}
+use Rattle.dispatcher.specs.Answer.{doneSaid}
+use Rattle.dispatcher.specs.Slot.{picksIn, lateAt, lateIn, oneOn, judged, stepped, lacksRoom, slotTests, refusal, slotBy, slotOf}
+use Rattle.dispatcher.specs.Kept.{RefusalsAreFirstCauses, RefusalChangesNothing, DoneMakesTheStep, UppersHold, After, DoneKeepsWhole, NextIsStopped, FreshIsWhole}
+use Rattle.dispatcher.proofs.Ran.{as-counted}
+use Rattle.dispatcher.proofs.Whole.{Whole, is-whole, is-not-broken, row-can-be, rows-have-places, nothing-given}
+
+-- belongs in facts
+
+-- There is a lowest number that passes, or the bound.
+a-lowest : (a : ℕ → Bool) (n : ℕ) → (i : ℕ) × Lowest a n i
+a-lowest a zero = (0, record { within = omega arith; passes = λ l. absurd (omega arith); none-before = λ j l. absurd (omega arith) })
+a-lowest a (suc n) = let below = a-lowest a n in go (decLt (below .0) n) (a n) refl (below .1)
+  where
+    go : {i : ℕ} → Dec (i < n) → (t : Bool) → a n ≡ t → Lowest a n i → (k : ℕ) × Lowest a (suc n) k
+    go {i} (yes l) t e low = (i, record { within = omega arith; passes = λ m. low .passes l; none-before = low .none-before })
+    go {i} (no l) true e low = (n, record { within = omega arith; passes = λ m. e; none-before = λ j m. low .none-before j (omega (arith, low .within)) })
+    go {i} (no l) false e low = (suc n, record { within = omega arith; passes = λ m. absurd (omega arith); none-before = λ j m. last j m (decLt j n) })
+      where
+        last : (j : ℕ) → j < suc n → Dec (j < n) → a j ≡ false
+        last j m (yes k) = low .none-before j (omega (arith, low .within))
+        last j m (no k) = ap a {x = j} {y = n} (omega arith) ∙ e
+
+-- belongs in pd2
+
+-- A picked row is ready.
+picked-is-ready : (ready : ℕ → Bool) (first : ℕ → ℕ → Bool) (n k i : ℕ) → picked ready first n k i ≡ true → ready i ≡ true
+unfolding picked
+picked-is-ready ready first n k i h = both (ready i) _ h .0
+
+-- a slot is done with 0 or 1
+done-number : (late : List ℕ) (time : ℕ) → doneSaid late time .number < 2
+done-number [] time = omega arith
+done-number (lowest ∷ others) time = omega arith
+
+module _ (s : State) (k : ℕ) (buffer : List ℕ) (place : ℕ) where
+  -- no refusal has the number 1
+  refusal-number : (refusal s k buffer place ≡ 0) ⊎ (1 < refusal s k buffer place)
+  unfolding refusal firstMet
+  refusal-number =
+      go (broken s) (s .stopped) (eqb (timeOf s) timeLimit) (ltb (s .table .cores) k) (lacksRoom buffer place (length (picksIn s k)))
+    where
+      go : (a b c d e : Bool) →
+          let first = firstMet ((a ⇒ 30) ∷ (b ⇒ 31) ∷ (c ⇒ 32) ∷ (d ⇒ 33) ∷ (e ⇒ 34) ∷ []) in
+          (first ≡ 0) ⊎ (1 < first)
+      go true b c d e = inr (omega arith)
+      go false true c d e = inr (omega arith)
+      go false false true d e = inr (omega arith)
+      go false false false true e = inr (omega arith)
+      go false false false false true = inr (omega arith)
+      go false false false false false = inl refl
+
+  -- for callers
+
+  -- A slot whose number is 0 or 1 was not refused,
+  pub done-is-not-refused : slotOf s k buffer place .said .number < 2 → refusal s k buffer place ≡ 0
+  unfolding slotOf
+  done-is-not-refused = go (refusal s k buffer place) refusal-number
+    where
+      go : (r : ℕ) → (r ≡ 0) ⊎ (1 < r) → slotBy r s k buffer place .said .number < 2 → r ≡ 0
+      go zero n h = refl
+      go (suc r) (inl n) h = n
+      go (suc r) (inr n) h = absurd (omega arith)
+
+  -- and one that was not refused makes the step.
+  pub slot-done : refusal s k buffer place ≡ 0 → slotOf s k buffer place ≡ slotBy 0 s k buffer place
+  unfolding slotOf
+  slot-done e = ap (λ r. slotBy r s k buffer place) e
+
+  -- What is known where a slot is not refused.
+  pub record Goes : Type 0 where
+    pub whole : broken s ≡ false
+    pub runs : s .stopped ≡ false
+    pub time : timeOf s < timeLimit
+    pub room : place ≤ length buffer
+
+  -- Such a slot meets none of the causes.
+  pub goes : refusal s k buffer place ≡ 0 → Goes
+  unfolding refusal firstMet
+  goes h =
+      let x₁ = neither (cond (broken s) 30 0) _ h in
+      let x₂ = neither (cond (s .stopped) 31 0) _ (x₁ .1) in
+      let x₃ = neither (cond (eqb (timeOf s) timeLimit) 32 0) _ (x₂ .1) in
+      let x₄ = neither (cond (ltb (s .table .cores) k) 33 0) _ (x₃ .1) in
+      let x₅ = neither (cond (lacksRoom buffer place (length (picksIn s k))) 34 0) _ (x₄ .1) in
+      let whole : broken s ≡ false = passed _ 29 (x₁ .0) in
+      let early : timeOf s ≡ timeLimit → ⊥ = eqb-false (timeOf s) timeLimit (passed _ 31 (x₃ .0)) in
+      let room = neither-holds (ltb (length buffer) place) _ (passed _ 33 (x₅ .0)) in
+      record {
+        whole = whole;
+        runs = passed _ 30 (x₂ .0);
+        time = omega (arith, is-whole s whole .time);
+        room = ltb-false (length buffer) place (room .0);
+      }
+
+  -- a number above 1 is the refusal's
+  refused-number : (number : ℕ) → 1 < number → (slotOf s k buffer place .said .number ≡ number) ↔ (refusal s k buffer place ≡ number)
+  unfolding slotOf
+  refused-number number h = go (refusal s k buffer place)
+    where
+      go : (r : ℕ) → (slotBy r s k buffer place .said .number ≡ number) ↔ (r ≡ number)
+      go zero = (
+        λ e. absurd (omega (arith, done-number (lateIn (oneOn s k) (timeOf s + 1)) (timeOf s + 1), e)),
+        λ e. absurd (omega arith),
+      )
+      go (suc r) = (λ e. e, λ e. e)
+
+-- A slot answers a number above 1 exactly if its cause is the first met,
+pub refusals-are-first-causes : RefusalsAreFirstCauses
+unfolding refusal numbered
+refusals-are-first-causes s k buffer place number h =
+    let same = refused-number s k buffer place number h in
+    let first = answered-exactly (slotTests s k buffer place) refl number (λ z. omega arith) in
+    (λ e. first .0 (same .0 e), λ m. same .1 (first .1 m))
+
+-- and then state and buffer are as they were.
+pub refusal-changes-nothing : RefusalChangesNothing
+unfolding slotOf
+refusal-changes-nothing s k buffer place = go (refusal s k buffer place)
+  where
+    go : (r : ℕ) → 1 < slotBy r s k buffer place .said .number → (slotBy r s k buffer place .state ≡ s) × (slotBy r s k buffer place .bytes ≡ buffer)
+    go zero h = absurd (omega (arith, done-number (lateIn (oneOn s k) (timeOf s + 1)) (timeOf s + 1)))
+    go (suc r) h = (refl, refl)
+
+-- With 0 or 1 it makes the step.
+pub done-makes-the-step : DoneMakesTheStep
+done-makes-the-step s k buffer place h = rw (slot-done s k buffer place (done-is-not-refused s k buffer place h)) (refl, refl)
+
+-- a state has as many places for quanta as its list
+as-many-places : (s : State) → length (quantaIn s) ≡ length (s .quanta)
+as-many-places s = length-map (s .quanta) (λ q. q .0)
+
+-- What a slot gives, with k cores free.
+module _ (s : State) (k : ℕ) where
+  -- The places stay.
+  pub places-stay : length (stepped s k .quanta) ≡ length (s .quanta)
+  places-stay =
+      length-map (given (names (picksIn s k)) 0 (quantaIn s)) (λ q. record { 0 = q })
+      ∙ (how-many-given (names (picksIn s k)) 0 (quantaIn s) ∙ as-many-places s)
+
+  -- a row that is named is picked, so it is a ready row of the table
+  named-is-ready : (i : ℕ) → names (picksIn s k) i ≡ true → (i < length (rowsIn s)) × (readyIn (rowsIn s) (quantaIn s) (timeOf s) i ≡ true)
+  named-is-ready i h =
+      let test = picked (readyIn (rowsIn s) (quantaIn s) (timeOf s)) (firstBy before (rowsIn s) (quantaIn s)) (length (rowsIn s)) k in
+      let x = both (ltb i (length (rowsIn s))) (test i) (sym (listed-are-named test (length (rowsIn s)) i) ∙ h) in
+      (ltb-true i (length (rowsIn s)) (x .0), picked-is-ready _ _ _ k i (x .1))
+
+  -- a row that has a place has one quantum more if it is picked,
+  given-in-place : (i : ℕ) → i < length (s .quanta) → quantaAt (quantaIn (oneOn s k)) i ≡ quantaAt (quantaIn s) i + cond (names (picksIn s k) i) 1 0
+  given-in-place i l =
+      ap (λ l. quantaAt l i) (as-counted (given (names (picksIn s k)) 0 (quantaIn s)))
+      ∙ (given-at (names (picksIn s k)) 0 (quantaIn s) i (omega (arith, as-many-places s))
+      ∙ ap (λ j. quantaAt (quantaIn s) i + cond (names (picksIn s k) j) 1 0) {x = 0 + i} {y = i} (omega arith))
+
+  -- and one that has none has no quanta, as before
+  none-past-places : (i : ℕ) → length (s .quanta) ≤ i → quantaAt (quantaIn (oneOn s k)) i ≡ quantaAt (quantaIn s) i
+  none-past-places i l =
+      List·getD-eq-default (quantaIn (oneOn s k)) 0 {n = i} (omega (arith, as-many-places (oneOn s k), places-stay))
+      ∙ sym (List·getD-eq-default (quantaIn s) 0 {n = i} (omega (arith, as-many-places s)))
+
+  -- Each row has one quantum more if it is picked, in a whole state with places for 32 rows,
+  pub quanta-after : Whole s → length (s .quanta) ≡ rowLimit → (i : ℕ) → quantaAt (quantaIn (oneOn s k)) i ≡ quantaAt (quantaIn s) i + cond (names (picksIn s k) i) 1 0
+  quanta-after whole long i = go (decLt i rowLimit) (names (picksIn s k) i) refl
+    where
+      go : Dec (i < rowLimit) → (t : Bool) → names (picksIn s k) i ≡ t → quantaAt (quantaIn (oneOn s k)) i ≡ quantaAt (quantaIn s) i + cond (names (picksIn s k) i) 1 0
+      go (yes l) t e = given-in-place i (omega (arith, long))
+      go (no l) true e = absurd (omega (arith, named-is-ready i e .0, rows-have-places (s .table) (whole .table)))
+      go (no l) false e = none-past-places i (omega (arith, long)) ∙ rw e (omega arith)
+
+  -- and in any state it has one more and is picked, or as many as before.
+  one-more-or-same : (i : ℕ) →
+      ((names (picksIn s k) i ≡ true) × (quantaAt (quantaIn (oneOn s k)) i ≡ quantaAt (quantaIn s) i + 1))
+      ⊎ (quantaAt (quantaIn (oneOn s k)) i ≡ quantaAt (quantaIn s) i)
+  one-more-or-same i = go (decLt i (length (s .quanta))) (names (picksIn s k) i) refl
+    where
+      go : Dec (i < length (s .quanta)) → (t : Bool) → names (picksIn s k) i ≡ t →
+          ((names (picksIn s k) i ≡ true) × (quantaAt (quantaIn (oneOn s k)) i ≡ quantaAt (quantaIn s) i + 1))
+          ⊎ (quantaAt (quantaIn (oneOn s k)) i ≡ quantaAt (quantaIn s) i)
+      go (yes l) true e = inl (e, given-in-place i l ∙ rw e)
+      go (yes l) false e = inr (given-in-place i l ∙ rw e (omega arith))
+      go (no l) t e = inr (none-past-places i (omega arith))
+
+  -- All upper limits hold after it: a row that is picked was ready, and a row that is not picked only waits.
+  uppers-hold : Whole s → s .stopped ≡ false → UppersHold (oneOn s k)
+  uppers-hold whole runs i l = go (one-more-or-same i)
+    where
+      row : Row
+      row = rowAt (rowsIn s) i
+
+      q : ℕ
+      q = quantaAt (quantaIn s) i
+
+      can : CanBe row
+      can = row-can-be (s .table) (whole .table) i l
+
+      go : ((names (picksIn s k) i ≡ true) × (quantaAt (quantaIn (oneOn s k)) i ≡ q + 1)) ⊎ (quantaAt (quantaIn (oneOn s k)) i ≡ q) →
+          upper row (quantaAt (quantaIn (oneOn s k)) i) (timeOf s + 1) ≡ true
+      go (inl more) = rw (more .1) (upper-after-quantum-means-ready row can q (timeOf s) ∙ named-is-ready i (more .0) .1)
+      go (inr same) = rw same (upper-kept-when-idle row can q (timeOf s) (both (lower row q (timeOf s)) _ (whole .shares runs i l) .1))
+
+  -- No row then has more quanta than the time.
+  quanta-within : Whole s → (i : ℕ) → i < length (rowsIn s) → quantaAt (quantaIn (oneOn s k)) i ≤ timeOf s + 1
+  quanta-within whole i l = ⊎-elim (λ more. omega (arith, more .1, whole .quanta i l)) (λ same. omega (arith, same, whole .quanta i l)) (one-more-or-same i)
+
+-- A state in which all upper limits hold is judged: if a row is late it is named and the state stops, and else every row is within its share.
+module _ (x : State) (table : faultOf (x .table) ≡ 0) (time : timeOf x ≤ timeLimit) (quanta : (i : ℕ) → i < length (rowsIn x) → quantaAt (quantaIn x) i ≤ timeOf x) (uppers : UppersHold x) where
+  -- it is not broken,
+  judged-whole : Whole (judged x)
+  judged-whole =
+      record {
+        table = table;
+        time = time;
+        quanta = quanta;
+        shares = λ runs i l.
+            let none = each-fails (ofRow x (lateAt (timeOf x))) (length (rowsIn x)) runs i l in
+            let low = late-means-below (rowAt (rowsIn x) i) (row-can-be (x .table) table i l) (quantaAt (quantaIn x) i) (timeOf x) in
+            hold-both (not-false (lower (rowAt (rowsIn x) i) (quantaAt (quantaIn x) i) (timeOf x)) (sym low ∙ none)) (uppers i l);
+      }
+
+  -- and what is said of it is so: by the lowest late row, if there is one
+  judged-after : After (judged x) (doneSaid (lateIn x (timeOf x)) (timeOf x))
+  judged-after = let lowest = a-lowest isLate (length (rowsIn x)) in go (lowest .0) (lowest .1) (decLt (lowest .0) (length (rowsIn x)))
+    where
+      isLate : ℕ → Bool
+      isLate = ofRow x (lateAt (timeOf x))
+
+      go : (i : ℕ) → Lowest isLate (length (rowsIn x)) i → Dec (i < length (rowsIn x)) → After (judged x) (doneSaid (lateIn x (timeOf x)) (timeOf x))
+      go i low (yes l) =
+          rw (lowest-is-first isLate (length (rowsIn x)) i low l .1)
+          record {
+            whole = is-not-broken (judged x) judged-whole;
+            uppers = uppers;
+            runs-on = λ e. absurd (omega arith);
+            stops = λ e. some-if isLate (length (rowsIn x)) i l (low .passes l);
+            names-time = λ e. refl;
+            is-row = λ e. l;
+            names-row = λ e. low;
+          }
+      go i low (no l) =
+          let none : (j : ℕ) → j < length (rowsIn x) → isLate j ≡ false = λ j m. low .none-before j (omega arith) in
+          rw (none-is-listed isLate (length (rowsIn x)) none)
+          record {
+            whole = is-not-broken (judged x) judged-whole;
+            uppers = uppers;
+            runs-on = λ e. none-if isLate (length (rowsIn x)) none;
+            stops = λ e. absurd (omega arith);
+            names-time = λ e. absurd (omega arith);
+            is-row = λ e. absurd (omega arith);
+            names-row = λ e. absurd (omega arith);
+          }
+
+-- A slot that is done leads to a state that is not broken, and its answer says of it what is so. The step keeps the upper limits and the quanta
+-- within the time; judging finds the late rows, and where there is none every row has its lower limit too.
+pub done-keeps-whole : DoneKeepsWhole
+done-keeps-whole s k buffer place _ h =
+    let done = done-is-not-refused s k buffer place h in
+    let can = goes s k buffer place done in
+    let whole = is-whole s (can .whole) in
+    rw (slot-done s k buffer place done)
+    (judged-after (oneOn s k) (whole .table) (omega (arith, can .time)) (quanta-within s k whole) (uppers-hold s k whole (can .runs)))
+
+-- a state that is stopped and not broken answers 31
+stopped-answers : (s : State) (k : ℕ) (buffer : List ℕ) (place : ℕ) → broken s ≡ false → s .stopped ≡ true → slotOf s k buffer place .said .number ≡ 31
+unfolding slotOf refusal firstMet
+stopped-answers s k buffer place whole stopped = rw (whole, stopped)
+
+-- The slot after a 1 answers 31.
+pub next-is-stopped : NextIsStopped
+next-is-stopped s k buffer place long h k′ buffer′ place′ =
+    let after = done-keeps-whole s k buffer place long (omega (arith, h)) in
+    stopped-answers (slotOf s k buffer place .state) k′ buffer′ place′ (after .whole) (after .stops h)
+
+-- A fresh state is broken only by its table.
+pub fresh-is-whole : FreshIsWhole
+fresh-is-whole t = (λ h. is-whole (freshOf t) h .table, λ h. is-not-broken (freshOf t) (whole h))
+  where
+    whole : faultOf t ≡ 0 → Whole (freshOf t)
+    whole h =
+        record {
+          table = h;
+          time = omega arith;
+          quanta = λ i l. omega (arith, nothing-given t i);
+          shares = λ runs i l. rw (nothing-given t i) (nothing-is-within (rowAt (rowsIn (freshOf t)) i) (row-can-be t h i l));
+        }

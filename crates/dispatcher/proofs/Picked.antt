@@ -1,0 +1,115 @@
+-- The choice picks what PD2 picks. Assumes nothing.
+use Prim.Native.Nat.{ℕ, _+_, _-_, _*_, _%_, _/_, _≤_, _<_}
+use mathlib.Core.Path.{_≡_, refl, sym, ap, ap₂, _∙_}
+use mathlib.Core.List.{List}
+use mathlib.Core.Bool.{Bool, true, false, cond, not, _&&_, _||_}
+use mathlib.Core.Logic.{_⊎_, inl, inr}
+use native.Mathlib.Nat.{div-add-mod', mod-lt}
+use native.Mathlib.Omega.{arith}
+use borrow.Author.Tests.{le-ltb, eq-eqb, ne-eqb}
+use lib.Dec.{ltb, eqb}
+use lib.ListN.{length}
+use Rattle.facts.specs.Counting.{those}
+use Rattle.facts.proofs.Counting.{same-list}
+use Rattle.counts.specs.Limits.{most}
+use Rattle.windows.proofs.Windows.{bit-is-0-or-1}
+use Rattle.pd2.specs.Ready.{ready}
+use Rattle.pd2.specs.Order.{Rank, rankOf, before}
+use Rattle.pd2.specs.Picks.{picked}
+use Rattle.pd2.specs.Choice.{rowAt, quantaAt, readyIn, firstBy}
+use Rattle.dispatcher.specs.declared.State.{State}
+use Rattle.dispatcher.specs.State.{rowsIn, quantaIn, timeOf}
+use Rattle.dispatcher.specs.Slot.{picksIn}
+use Rattle.dispatcher.specs.Classes.{keyFor, keyOf, keyIn, KeysAre, IsCut, askedOf, groupOf, groupIn, GroupsAre, larger, tied, inCut}
+use Rattle.dispatcher.proofs.Keys.{tie, before-is-by-key}
+use Rattle.dispatcher.proofs.Classes.{cut-takes-picked}
+
+-- nobody ties with itself
+tie-is-irreflexive : (x : Rank) → tie x x ≡ false
+tie-is-irreflexive x = go (eqb (x .b) 1)
+  where
+    go : (b : Bool) → cond b (larger (x .D) (x .row) (x .D) (x .row)) (ltb (x .row) (x .row)) ≡ false
+    go true = rw (le-ltb (x .D) (x .D) (omega arith), le-ltb (x .row) (x .row) (omega arith)) refl
+    go false = le-ltb (x .row) (x .row) (omega arith)
+
+-- an even key says b = 1, an odd one b = 0
+parity : (x : Rank) → (x .b ≡ 0) ⊎ (x .b ≡ 1) → keyFor x % 2 ≡ 1 - x .b
+parity x (inl z) = let rest = mod-lt (keyFor x) {m = 2} (omega arith) in omega (arith, div-add-mod' (keyFor x) 2, z)
+parity x (inr z) = let rest = mod-lt (keyFor x) {m = 2} (omega arith) in omega (arith, div-add-mod' (keyFor x) 2, z)
+
+module _ (s : State) (k : ℕ) (keys groups : List ℕ) (class left : ℕ)
+    (keyed : KeysAre s keys) (cut : IsCut (keyIn keys) (length (rowsIn s)) k class left) (grouped : GroupsAre s keys (askedOf class left) groups) where
+  abbrev rank : ℕ → Rank
+  rank i = rankOf (rowAt (rowsIn s) i) i (quantaAt (quantaIn s) i)
+
+  abbrev isReady : ℕ → Bool
+  isReady = readyIn (rowsIn s) (quantaIn s) (timeOf s)
+
+  abbrev n : ℕ
+  n = length (rowsIn s)
+
+  bit-of : (i : ℕ) → (rank i .b ≡ 0) ⊎ (rank i .b ≡ 1)
+  bit-of i = bit-is-0-or-1 (rowAt (rowsIn s) i .cost) (rowAt (rowsIn s) i .period) (quantaAt (quantaIn s) i + 1)
+
+  -- the key of a row that is ready, and of one that is not
+  ready-key : (i : ℕ) → i < n → isReady i ≡ true → keyIn keys i ≡ keyFor (rank i)
+  unfolding keyOf
+  ready-key i l h = keyed .each i l ∙ rw h refl
+
+  unready-key : (i : ℕ) → i < n → isReady i ≡ false → keyIn keys i ≡ most
+  unfolding keyOf
+  unready-key i l h = keyed .each i l ∙ rw h refl
+
+  is-ready : (i : ℕ) → i < n → keyIn keys i < most → isReady i ≡ true
+  is-ready i l h = go (isReady i) refl
+    where
+      go : (b : Bool) → isReady i ≡ b → isReady i ≡ true
+      go true e = e
+      go false e = absurd (omega (arith, unready-key i l e))
+
+  by-key : (j i : ℕ) → j < n → i < n → isReady j ≡ true → isReady i ≡ true →
+      firstBy before (rowsIn s) (quantaIn s) j i ≡ ltb (keyIn keys j) (keyIn keys i) || (eqb (keyIn keys j) (keyIn keys i) && tie (rank j) (rank i))
+  by-key j i lj li hj hi = rw (ready-key j lj hj, ready-key i li hi) (before-is-by-key (rank j) (rank i) (bit-of j) (bit-of i))
+
+  -- in the class that is cut, group deadlines decide as PD2's rule does
+  group-of : (i : ℕ) → i < n → 0 < left → keyIn keys i ≡ class → class < most → groupIn groups i ≡ cond (eqb (rank i .b) 1) (rank i .D) 0
+  unfolding groupOf
+  group-of i l some same low =
+      rw (grouped .each i l, ne-eqb left 0 (λ z. omega arith), same, eq-eqb class class refl) (go (bit-of i))
+    where
+      key : class ≡ keyFor (rank i)
+      key = sym same ∙ ready-key i l (is-ready i l (omega (arith, same)))
+
+      go : (rank i .b ≡ 0) ⊎ (rank i .b ≡ 1) → cond (not (eqb (class % 2) 1)) (rank i .D) 0 ≡ cond (eqb (rank i .b) 1) (rank i .D) 0
+      go (inl z) = rw (eq-eqb (class % 2) 1 (ap (λ x. x % 2) key ∙ (parity (rank i) (inl z) ∙ ap (λ b. 1 - b) z)), z) refl
+      go (inr z) = rw (ne-eqb (class % 2) 1 (λ e. omega (arith, ap (λ x. x % 2) key, parity (rank i) (inr z), z)), z) refl
+
+  ties : (j i : ℕ) → j < n → i < n → 0 < left → keyIn keys j ≡ class → keyIn keys i ≡ class → class < most →
+      tied (keyIn keys) (groupIn groups) j i ≡ eqb (keyIn keys j) (keyIn keys i) && tie (rank j) (rank i)
+  ties j i lj li some ej ei low =
+      rw (group-of j lj some ej low, group-of i li some ei low) (ap (λ b. eqb (keyIn keys j) (keyIn keys i) && b) (go (bit-of j) (bit-of i)))
+    where
+      one-bit : {x y : ℕ} → (x ≡ 0) ⊎ (x ≡ 1) → (y ≡ 0) ⊎ (y ≡ 1) → 1 - x ≡ 1 - y → x ≡ y
+      one-bit (inl p) (inl q) e = omega arith
+      one-bit (inl p) (inr q) e = omega arith
+      one-bit (inr p) (inl q) e = omega arith
+      one-bit (inr p) (inr q) e = omega arith
+
+      same-bit : rank j .b ≡ rank i .b
+      same-bit =
+          let kj = sym ej ∙ ready-key j lj (is-ready j lj (omega (arith, ej))) in
+          let ki = sym ei ∙ ready-key i li (is-ready i li (omega (arith, ei))) in
+          let parities = sym (parity (rank j) (bit-of j)) ∙ (ap (λ x. x % 2) (sym kj ∙ ki) ∙ parity (rank i) (bit-of i)) in
+          one-bit (bit-of j) (bit-of i) parities
+
+      go : (rank j .b ≡ 0) ⊎ (rank j .b ≡ 1) → (rank i .b ≡ 0) ⊎ (rank i .b ≡ 1) →
+          larger (cond (eqb (rank j .b) 1) (rank j .D) 0) j (cond (eqb (rank i .b) 1) (rank i .D) 0) i ≡ tie (rank j) (rank i)
+      go (inl z) w = rw (← same-bit, z) refl
+      go (inr z) w = rw (← same-bit, z) refl
+
+  -- So the rows in the cut are the rows that PD2 picks.
+  pub cut-picks : those (inCut (keyIn keys) (groupIn groups) (length (rowsIn s)) class left) (length (rowsIn s)) ≡ picksIn s k
+  cut-picks =
+      same-list (inCut (keyIn keys) (groupIn groups) n class left) (picked isReady (firstBy before (rowsIn s) (quantaIn s)) n k) n
+      (cut-takes-picked isReady (firstBy before (rowsIn s) (quantaIn s)) (λ j i. tie (rank j) (rank i)) (keyIn keys) n unready-key
+      (λ i l h. keyed .low i l h) by-key (λ i l. tie-is-irreflexive (rank i)) cut (groupIn groups) ties)

@@ -1,0 +1,183 @@
+-- What is left of a slot once its rows are picked: quanta are given, and lateness is judged. Assumes nothing.
+use Prim.Native.Nat.{ℕ, zero, suc, _+_, _≤_, _<_}
+use mathlib.Core.Path.{_≡_, refl, sym, ap, _∙_}
+use mathlib.Core.List.{List, [], _∷_, map}
+use mathlib.Core.Bool.{Bool, true, false, cond, _&&_, false≢true}
+use native.Mathlib.Decide.{decLt, ℕ-discrete}
+use native.Mathlib.Omega.{arith}
+use borrow.Author.Tests.{lt-ltb, le-ltb, ltb-true}
+use Rattle.facts.proofs.Tests.{both, hold-both}
+use lib.Dec.{ltb}
+use lib.ListN.{length, getD, set, length-set, length-map, List·getD-map, List·getD-eq-default}
+use lib.Seq.{getD-set-same, getD-set-other, ext-getD}
+use Rattle.facts.specs.First.{Lowest}
+use Rattle.facts.proofs.Counting.{some-if, none-if, lowest-is-first, none-is-listed}
+use Rattle.counts.specs.declared.Quanta.{Quanta}
+use Rattle.counts.specs.Limits.{timeLimit, kept, most}
+use Rattle.pd2.specs.Choice.{quantaAt, given}
+use Rattle.pd2.proofs.Choice.{how-many-given, given-at}
+use Rattle.trace.specs.Record.{marked}
+use Rattle.trace.specs.Records.{names}
+use Rattle.trace.proofs.Records.{listed-are-named}
+use Rattle.dispatcher.specs.declared.State.{State}
+use Rattle.dispatcher.specs.State.{rowsIn, quantaIn, timeOf, counted}
+use Rattle.dispatcher.specs.Broken.{ofRow, someRow}
+use Rattle.dispatcher.specs.Answer.{Said, bare, doneSaid}
+use Rattle.dispatcher.specs.Slot.{picksIn, lateAt, lateIn, ran}
+use Rattle.dispatcher.specs.Usable.{quantaOf, Usable, CanRun, GaveMarked}
+use Rattle.dispatcher.proofs.Asked.{getD-any}
+
+-- i places have been gone through.
+pub record GaveBelow (marks : List Bool) (before after : List Quanta) (i : ℕ) : Type 0 where
+  pub places : length after ≡ length before
+  pub each : (j : ℕ) → quantaOf after j ≡ cond (ltb j i && getD marks j false) (kept (quantaOf before j + 1)) (quantaOf before j)
+
+module _ (marks : List Bool) (before : List Quanta) where
+  -- Giving begins with nothing given,
+  pub giving-begins : GaveBelow marks before before 0
+  giving-begins = record { places = refl; each = λ j. rw (le-ltb j 0 (omega arith)) refl }
+
+  -- a test that is made of one place more changes only there
+  below-next : (j i : ℕ) → (j ≡ i → ⊥) → ltb j (i + 1) ≡ ltb j i
+  below-next j i other = go (decLt j i)
+    where
+      go : Dec (j < i) → ltb j (i + 1) ≡ ltb j i
+      go (yes l) = lt-ltb j (i + 1) (omega arith) ∙ sym (lt-ltb j i l)
+      go (no l) = le-ltb j (i + 1) (omega arith) ∙ sym (le-ltb j i (omega arith))
+
+  module _ {after : List Quanta} {i : ℕ} (so : GaveBelow marks before after i) where
+    -- gives to a marked place,
+    pub gives-marked : i < length before → getD marks i false ≡ true → (d v : Quanta) → v .0 ≡ kept (getD after i d .0 + 1) → i < length after →
+        GaveBelow marks before (set after i v) (i + 1)
+    gives-marked l h d v e there =
+        record { places = length-set after i v ∙ so .places; each = λ j. at j (ℕ-discrete j i) }
+      where
+        own : quantaOf after i ≡ quantaOf before i
+        own = so .each i ∙ rw (le-ltb i i (omega arith)) refl
+
+        at : (j : ℕ) → Dec (j ≡ i) → quantaOf (set after i v) j ≡ cond (ltb j (i + 1) && getD marks j false) (kept (quantaOf before j + 1)) (quantaOf before j)
+        at j (yes same) =
+            rw (same, lt-ltb i (i + 1) (omega arith), h)
+            (ap (λ q. q .0) (getD-set-same after i v (record { 0 = 0 }) there)
+            ∙ (e ∙ (ap (λ q. kept (q .0 + 1)) (getD-any after i d (record { 0 = 0 }) there) ∙ ap (λ q. kept (q + 1)) own)))
+        at j (no other) = ap (λ q. q .0) (getD-set-other after i j v (record { 0 = 0 }) other) ∙ (so .each j ∙ rw (below-next j i other) refl)
+
+    -- and passes over one that is not.
+    pub gives-no-unmarked : getD marks i false ≡ false → GaveBelow marks before after (i + 1)
+    gives-no-unmarked h = record { places = so .places; each = λ j. so .each j ∙ at j (ℕ-discrete j i) }
+      where
+        and-false : (b : Bool) → b && false ≡ false
+        and-false true = refl
+        and-false false = refl
+
+        at : (j : ℕ) → Dec (j ≡ i) → cond (ltb j i && getD marks j false) (kept (quantaOf before j + 1)) (quantaOf before j)
+            ≡ cond (ltb j (i + 1) && getD marks j false) (kept (quantaOf before j + 1)) (quantaOf before j)
+        at j (yes same) = rw (same, h, and-false (ltb i i), and-false (ltb i (i + 1))) refl
+        at j (no other) = rw (below-next j i other) refl
+
+  -- At the end each marked place has been given one.
+  pub all-gone-through : {after : List Quanta} {i : ℕ} → GaveBelow marks before after i → length marks ≤ i → GaveMarked marks before after
+  all-gone-through {i = i} so h = record { places = so .places; each = λ j. so .each j ∙ at j (decLt j i) }
+    where
+      at : (j : ℕ) → Dec (j < i) → cond (ltb j i && getD marks j false) (kept (quantaOf before j + 1)) (quantaOf before j)
+          ≡ cond (getD marks j false) (kept (quantaOf before j + 1)) (quantaOf before j)
+      at j (yes l) = rw (lt-ltb j i l) refl
+      at j (no l) = rw (le-ltb j i (omega arith), List·getD-eq-default marks false {n = j} (omega arith)) refl
+
+-- counts as the state keeps them are the numbers they hold
+counted-back : (l : List Quanta) → counted (map (λ q. q .0) l) ≡ l
+counted-back [] = refl
+counted-back (q ∷ l) = ap (λ rest. q ∷ rest) (counted-back l)
+
+-- If only small counts are marked, giving to the marked places is what the definition says.
+pub given-is : (marks : List Bool) (before after : List Quanta) → GaveMarked marks before after → length before ≤ length marks →
+    ((i : ℕ) → getD marks i false ≡ true → quantaOf before i < most) →
+    after ≡ counted (given (names (marked marks)) 0 (map (λ q. q .0) before))
+given-is marks before after so few small = sym (counted-back after) ∙ ap counted (ext-getD 0 (map (λ q. q .0) after) (given isNamed 0 numbers) same-long each)
+  where
+    numbers : List ℕ
+    numbers = map (λ q. q .0) before
+
+    isNamed : ℕ → Bool
+    isNamed = names (marked marks)
+
+    same-long : length (map (λ q. q .0) after) ≡ length (given isNamed 0 numbers)
+    same-long = length-map after (λ q. q .0) ∙ (so .places ∙ (sym (length-map before (λ q. q .0)) ∙ sym (how-many-given isNamed 0 numbers)))
+
+    each : (i : ℕ) → i < length (map (λ q. q .0) after) → getD (map (λ q. q .0) after) i 0 ≡ getD (given isNamed 0 numbers) i 0
+    each i l =
+        let there : i < length before = omega (arith, length-map after (λ q. q .0), so .places) in
+        List·getD-map (λ q. q .0) after i (record { 0 = 0 })
+        ∙ (so .each i
+        ∙ (at (getD marks i false) refl
+        ∙ (ap (λ b. quantaOf before i + cond b 1 0) (sym (named there))
+        ∙ (ap (λ q. q + cond (isNamed i) 1 0) (sym (List·getD-map (λ q. q .0) before i (record { 0 = 0 })))
+        ∙ sym (given-at isNamed 0 numbers i (omega (arith, length-map before (λ q. q .0))) ∙ ap (λ j. quantaAt numbers i + cond (isNamed j) 1 0) {x = 0 + i} {y = i} (omega arith))))))
+      where
+        named : i < length before → isNamed i ≡ getD marks i false
+        named there = listed-are-named (λ j. getD marks j false) (length marks) i ∙ ap (λ b. b && getD marks i false) (lt-ltb i (length marks) (omega arith))
+
+        at : (mark : Bool) → getD marks i false ≡ mark →
+            cond (getD marks i false) (kept (quantaOf before i + 1)) (quantaOf before i) ≡ quantaOf before i + cond (getD marks i false) 1 0
+        at true e = let low = small i e in rw e (omega arith)
+        at false e = rw e (omega arith)
+
+-- Numbers that are kept as counts are those numbers.
+pub as-counted : (l : List ℕ) → map (λ q. q .0) (counted l) ≡ l
+as-counted [] = refl
+as-counted (q ∷ l) = ap (λ rest. q ∷ rest) (as-counted l)
+
+-- If only its rows are given to, a usable state stays usable as long as the time is below its limit.
+pub stays-usable : (s : State) (isPicked : ℕ → Bool) → Usable s → timeOf s < timeLimit → Usable (ran s isPicked)
+stays-usable s isPicked u early =
+    record {
+      place = record { few = u .place .few; all = u .place .all; long = same-long ∙ u .place .long };
+      rows = λ i l. let row = u .rows i l in record { cost = row .cost; weight = row .weight; quanta = few i l; time = omega arith };
+    }
+  where
+    same-long : length (ran s isPicked .quanta) ≡ length (s .quanta)
+    same-long =
+        length-map (given isPicked 0 (quantaIn s)) (λ q. record { 0 = q })
+        ∙ (how-many-given isPicked 0 (quantaIn s) ∙ length-map (s .quanta) (λ q. q .0))
+
+    one-at-most : (b : Bool) → cond b 1 0 ≤ 1
+    one-at-most true = omega arith
+    one-at-most false = omega arith
+
+    few : (i : ℕ) → i < length (rowsIn s) → quantaAt (quantaIn (ran s isPicked)) i ≤ timeOf s + 1
+    few i l =
+        let place = u .place in
+        let there : i < length (quantaIn s) = omega (arith, length-map (s .quanta) (λ q. q .0), place .few, place .all, place .long) in
+        rw (as-counted (given isPicked 0 (quantaIn s)), given-at isPicked 0 (quantaIn s) i there)
+        (omega (arith, u .rows i l .quanta, one-at-most (isPicked (0 + i))))
+
+-- Marks that say what PD2 picks mark only rows of the state.
+pub marks-are-rows : (s : State) (k : ℕ) (marks : List Bool) → marked marks ≡ picksIn s k → (i : ℕ) → getD marks i false ≡ true → i < length (rowsIn s)
+marks-are-rows s k marks e i h = below i h (decLt i (length marks))
+  where
+    below : (i : ℕ) → getD marks i false ≡ true → Dec (i < length marks) → i < length (rowsIn s)
+    below i h (yes l) =
+        let named : names (marked marks) i ≡ true = listed-are-named (λ j. getD marks j false) (length marks) i ∙ hold-both (lt-ltb i (length marks) l) h in
+        let picked = sym (listed-are-named _ (length (rowsIn s)) i) ∙ (ap (λ rows. names rows i) (sym e) ∙ named) in
+        ltb-true i (length (rowsIn s)) (both _ _ picked .0)
+    below i h (no l) = absurd (false≢true (sym (List·getD-eq-default marks false {n = i} (omega arith)) ∙ h))
+
+-- A mark that is set stands at a row, whose quanta are small.
+pub marked-are-small : (s : State) (marks : List Bool) → CanRun s marks → (i : ℕ) → getD marks i false ≡ true → quantaOf (s .quanta) i < most
+marked-are-small s marks can i h =
+    let row = can .usable .rows i (can .only-rows i h) in
+    omega (arith, row .quanta, row .time, sym (List·getD-map (λ q. q .0) (s .quanta) i (record { 0 = 0 })))
+
+-- The lowest late row is named, and the state is stopped;
+pub late-is-said : (s : State) (i : ℕ) → Lowest (ofRow s (lateAt (timeOf s))) (length (rowsIn s)) i → i < length (rowsIn s) →
+    (record { number = 1; row = i; time = timeOf s } ≡ doneSaid (lateIn s (timeOf s)) (timeOf s)) × (true ≡ someRow s (lateAt (timeOf s)))
+late-is-said s i low l =
+    let first = lowest-is-first _ _ i low l in
+    (sym (ap (λ rows. doneSaid rows (timeOf s)) (first .1)), sym (some-if _ _ i l (low .passes l)))
+
+-- where none is late the slot is done, and the state runs on.
+pub none-is-late : (s : State) (i : ℕ) → Lowest (ofRow s (lateAt (timeOf s))) (length (rowsIn s)) i → length (rowsIn s) ≤ i →
+    (bare 0 ≡ doneSaid (lateIn s (timeOf s)) (timeOf s)) × (false ≡ someRow s (lateAt (timeOf s)))
+none-is-late s i low h =
+    let none : (j : ℕ) → j < length (rowsIn s) → ofRow s (lateAt (timeOf s)) j ≡ false = λ j l. low .none-before j (omega arith) in
+    (sym (ap (λ rows. doneSaid rows (timeOf s)) (none-is-listed _ _ none)), sym (none-if _ _ none))

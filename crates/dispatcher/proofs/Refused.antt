@@ -1,0 +1,129 @@
+-- A slot's tests, one after the other: what each refusal gives back, and what a slot that is done gives. Assumes nothing.
+use Prim.Native.Nat.{ℕ, suc, _+_, _-_, _≤_, _<_}
+use mathlib.Core.Path.{_≡_, refl, sym, ap, _∙_}
+use mathlib.Core.List.{List, _++_}
+use mathlib.Core.Bool.{Bool, true, false, cond, true≢false}
+use mathlib.Core.Logic.{_⊎_, inl, inr}
+use native.Mathlib.Decide.{decLe}
+use native.Mathlib.Omega.{arith}
+use borrow.Author.Tests.{lt-ltb, le-ltb, lt-leb, le-leb, eq-eqb, ne-eqb}
+use lib.Dec.{ltb}
+use lib.ListN.{length, take, drop, length-drop, take-append-drop}
+use Rattle.facts.specs.Faults.{firstMet, _orElse_}
+use Rattle.counts.specs.Limits.{timeLimit}
+use Rattle.trace.specs.declared.Stored.{Stored}
+use Rattle.trace.specs.declared.Stored.the-variants.{Written, NoRoom}
+use Rattle.trace.specs.Record.{recordOf, hasRoom, withFront, withRecord, storedWhere, partAfter}
+use Rattle.dispatcher.specs.declared.State.{State}
+use Rattle.dispatcher.specs.declared.Answer.{Answer}
+use Rattle.dispatcher.specs.declared.Outcome.{Outcome}
+use Rattle.dispatcher.specs.State.{timeOf}
+use Rattle.dispatcher.specs.Broken.{broken}
+use Rattle.dispatcher.specs.Answer.{bare, saidOf, doneSaid}
+use Rattle.dispatcher.specs.Slot.{picksIn, recordIn, lateIn, lacksRoom, oneOn, stepped, refusal, slotBy, slotOf}
+
+-- which of its two answers the writer gave
+abbrev isWritten : Stored → Bool
+isWritten Written = true
+isWritten NoRoom = false
+
+module _ (s : State) (k : ℕ) (buffer : List ℕ) (place : ℕ) where
+  -- What a slot gives back, as its promise has it.
+  abbrev pub Gives : Outcome → List ℕ → Type 0
+  Gives r bytes =
+      (saidOf (r .answer) ≡ slotOf s k buffer place .said)
+      × ((r .state ≡ slotOf s k buffer place .state) × (bytes ≡ slotOf s k buffer place .bytes))
+
+  -- A refusal gives its number, the state and the buffer as they came.
+  pub refused-gives : {number : ℕ} → refusal s k buffer place ≡ suc number → (a : Answer) → saidOf a ≡ bare (suc number) →
+      {r : Outcome} → (r .answer ≡ a) × (r .state ≡ s) → {bytes : List ℕ} → bytes ≡ buffer → Gives r bytes
+  unfolding slotOf
+  refused-gives e a said out bytes = rw e (ap saidOf (out .0) ∙ said, (out .1, bytes))
+
+  -- A slot that is not refused gives what the definition says.
+  pub done-gives : refusal s k buffer place ≡ 0 → (r : Outcome) → saidOf (r .answer) ≡ doneSaid (lateIn (oneOn s k) (timeOf s + 1)) (timeOf s + 1) →
+      r .state ≡ stepped s k → {bytes : List ℕ} → bytes ≡ withRecord buffer place (recordIn s k) → Gives r bytes
+  unfolding slotOf
+  done-gives e r said state bytes = rw e (said, (state, bytes))
+
+  -- "Order for a slot: 30, 31, 32, 33, 34."
+  pub first-30 : broken s ≡ true → refusal s k buffer place ≡ 30
+  unfolding refusal firstMet
+  first-30 h = rw h refl
+
+  module _ (whole : broken s ≡ false) where
+    pub first-31 : s .stopped ≡ true → refusal s k buffer place ≡ 31
+    unfolding refusal firstMet
+    first-31 h = rw (whole, h) refl
+
+    module _ (runs : s .stopped ≡ false) where
+      pub first-32 : timeOf s ≡ timeLimit → refusal s k buffer place ≡ 32
+      unfolding refusal firstMet
+      first-32 h = rw (whole, runs, eq-eqb (timeOf s) timeLimit h) refl
+
+      module _ (early : timeOf s < timeLimit) where
+        pub first-33 : s .table .cores < k → refusal s k buffer place ≡ 33
+        unfolding refusal firstMet
+        first-33 h = rw (whole, runs, ne-eqb (timeOf s) timeLimit (λ e. omega arith), lt-ltb (s .table .cores) k h) refl
+
+        module _ (enough : k ≤ s .table .cores) where
+          by-room : {lacks : Bool} → lacksRoom buffer place (length (picksIn s k)) ≡ lacks → refusal s k buffer place ≡ cond lacks 34 0
+          unfolding refusal firstMet
+          by-room {lacks} h =
+              rw (whole, runs, ne-eqb (timeOf s) timeLimit (λ e. omega arith), le-ltb (s .table .cores) k enough, h) (go lacks)
+            where
+              go : (b : Bool) → cond b 34 0 orElse 0 ≡ cond b 34 0
+              go true = refl
+              go false = refl
+
+          -- the place is past the end,
+          pub past-end : length buffer < place → refusal s k buffer place ≡ 34
+          past-end h = by-room {lacks = true} (rw (lt-ltb (length buffer) place h) refl)
+
+          module _ (inside : place ≤ length buffer) {marks : List ℕ} (same : marks ≡ picksIn s k) {stored : Stored}
+              (wrote : stored ≡ storedWhere (hasRoom (drop place buffer) (recordOf k marks))) where
+            -- whether there is room, as the writer and as the definition tests it
+            abbrev room : Bool → Type 0
+            room has =
+                (stored ≡ storedWhere has) × (refusal s k buffer place ≡ cond has 0 34)
+                × (partAfter (drop place buffer) (recordOf k marks) ≡ cond has (withFront (drop place buffer) (recordOf k marks)) (drop place buffer))
+
+            decided : room true ⊎ room false
+            decided = go (decLe (2 + length marks) (length buffer - place))
+              where
+                long : length (drop place buffer) ≡ length buffer - place
+                long = length-drop place buffer
+
+                past : ltb (length buffer) place ≡ false
+                past = le-ltb (length buffer) place inside
+
+                count : length (picksIn s k) ≡ length marks
+                count = sym (ap length same)
+
+                go : Dec (2 + length marks ≤ length buffer - place) → room true ⊎ room false
+                go (yes l) =
+                    let fits = le-leb (length (recordOf k marks)) (length (drop place buffer)) (omega (arith, long)) in
+                    let lacks : lacksRoom buffer place (length (picksIn s k)) ≡ false = rw (past, count) (le-ltb (length buffer - place) (2 + length marks) l) in
+                    inl (wrote ∙ ap storedWhere fits, by-room {lacks = false} lacks, rw fits refl)
+                go (no l) =
+                    let short = lt-leb (length (recordOf k marks)) (length (drop place buffer)) (omega (arith, long)) in
+                    let lacks : lacksRoom buffer place (length (picksIn s k)) ≡ true = rw (past, count) (lt-ltb (length buffer - place) (2 + length marks) (omega arith)) in
+                    inr (wrote ∙ ap storedWhere short, by-room {lacks = true} lacks, rw short refl)
+
+            module _ {part : List ℕ} (left : part ≡ partAfter (drop place buffer) (recordOf k marks)) where
+              -- or too little room is left behind it, and then the part is as it was;
+              pub no-room : stored ≡ NoRoom → (refusal s k buffer place ≡ 34) × (take place buffer ++ part ≡ buffer)
+              no-room e = go decided
+                where
+                  go : room true ⊎ room false → (refusal s k buffer place ≡ 34) × (take place buffer ++ part ≡ buffer)
+                  go (inl has) = absurd (true≢false (sym (ap isWritten (has .0)) ∙ ap isWritten e))
+                  go (inr none) = (none .1, rw (left, none .2) (take-append-drop place buffer))
+
+              -- else the slot is not refused, and the record stands at the place.
+              pub has-room : stored ≡ Written → (refusal s k buffer place ≡ 0) × (take place buffer ++ part ≡ withRecord buffer place (recordIn s k))
+              unfolding withRecord
+              has-room e = go decided
+                where
+                  go : room true ⊎ room false → (refusal s k buffer place ≡ 0) × (take place buffer ++ part ≡ take place buffer ++ withFront (drop place buffer) (recordIn s k))
+                  go (inl has) = (has .1, rw (left, has .2, same) refl)
+                  go (inr none) = absurd (true≢false (sym (ap isWritten e) ∙ ap isWritten (none .0)))

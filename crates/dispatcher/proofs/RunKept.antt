@@ -1,0 +1,212 @@
+-- What a run keeps, however many cores each slot had. Assumes nothing.
+use Prim.Native.Nat.{ℕ, zero, suc, _+_, _*_, _≤_, _<_}
+use mathlib.Core.Path.{_≡_, refl, sym, ap, _∙_, subst}
+use mathlib.Core.List.{List}
+use mathlib.Core.Bool.{true, false, true≢false}
+use mathlib.Core.Logic.{_↔_}
+use native.Mathlib.Decide.{decLt}
+use native.Mathlib.Numerals.{add-one}
+use native.Mathlib.Omega.{arith}
+use lib.ListN.{length}
+use borrow.Author.Tests.{leb-true, le-leb}
+use Rattle.facts.proofs.Tests.{both}
+use Rattle.facts.proofs.Counting.{none-counted}
+use Rattle.windows.specs.Windows.{deadline}
+use Rattle.windows.proofs.Products.{late-means-owed}
+use Rattle.table.specs.declared.Row.{Row}
+use Rattle.table.specs.declared.Table.{Table}
+use Rattle.table.specs.Limits.{rowLimit}
+use Rattle.table.specs.Value.{faultOf, rowsOf}
+use Rattle.pd2.specs.Ready.{origin, late}
+use Rattle.pd2.specs.Share.{elapsed, lower, within, CanBe}
+use Rattle.pd2.specs.Choice.{rowAt, quantaAt}
+use Rattle.pd2.proofs.Share.{late-means-below}
+use Rattle.trace.specs.Record.{withRecord}
+use Rattle.trace.specs.Records.{placeOf, namedIn, count}
+use Rattle.trace.proofs.Records.{next-place, named-once-more}
+use Rattle.dispatcher.specs.declared.State.{State}
+use Rattle.dispatcher.specs.State.{rowsIn, quantaIn, timeOf}
+use Rattle.dispatcher.specs.Broken.{broken}
+use Rattle.dispatcher.specs.Slot.{picksIn, recordIn, stepped, slotOf}
+use Rattle.dispatcher.specs.Kept.{After}
+use Rattle.dispatcher.specs.Run.{Run, placeBy, runWith, oneMore, run}
+use Rattle.dispatcher.specs.RunKept.{quantaNow, Owed, runFor, KeepsShares, LateWhenOwed, QuantaAreRecords, RecordsStandInTurn}
+use Rattle.dispatcher.proofs.Whole.{Whole, is-whole, row-can-be, nothing-given}
+use Rattle.dispatcher.proofs.Kept.{done-is-not-refused, goes, refusal-changes-nothing, done-makes-the-step, places-stay, quanta-after, done-keeps-whole, fresh-is-whole}
+
+-- belongs in pd2
+
+-- A row is late exactly if it is owed a whole quantum.
+late-exactly-if-owed : (row : Row) → CanBe row → (q t : ℕ) → (late row q t ≡ true) ↔ (row .period * (q + 1) ≤ row .cost * elapsed row t)
+unfolding late
+late-exactly-if-owed row can q t =
+    let owed = late-means-owed (row .cost) (row .period) (origin row) (can .cost) (omega (arith, can .cost, can .weight)) q t in
+    (λ h. owed .0 (leb-true _ t h), λ l. le-leb (deadline (row .cost) (row .period) (origin row) (q + 1)) t (owed .1 l))
+
+-- The answer is 1 exactly if some row of the table is owed a whole quantum at time t.
+abbrev OneWhenOwed : Run → Table → ℕ → Type 0
+OneWhenOwed r table t = (r .said .number ≡ 1) ↔ ((i : ℕ) × (i < length (rowsOf table)) × Owed table r i t)
+
+-- So it is after each slot that is done: with 1 the row that is named is late, and with 0 all rows are within their shares, so none is.
+one-when-owed : (r : Run) → After (r .state) (r .said) → r .said .number < 2 → OneWhenOwed r (r .state .table) (timeOf (r .state))
+one-when-owed r after h = (
+  λ e. (r .said .row, after .is-row e, is-owed (r .said .row) (after .is-row e) .0 (after .names-row e .passes (after .is-row e))),
+  λ found. go (r .said .number) refl h found,
+)
+  where
+    whole : Whole (r .state)
+    whole = is-whole (r .state) (after .whole)
+
+    is-owed : (i : ℕ) → i < length (rowsIn (r .state)) →
+        (late (rowAt (rowsIn (r .state)) i) (quantaNow r i) (timeOf (r .state)) ≡ true) ↔ Owed (r .state .table) r i (timeOf (r .state))
+    is-owed i l = late-exactly-if-owed (rowAt (rowsIn (r .state)) i) (row-can-be (r .state .table) (whole .table) i l) (quantaNow r i) (timeOf (r .state))
+
+    not-within : r .said .number ≡ 0 → (i : ℕ) → i < length (rowsIn (r .state)) → Owed (r .state .table) r i (timeOf (r .state)) → ⊥
+    not-within e i l owed =
+        let row = rowAt (rowsIn (r .state)) i in
+        let inside = both (lower row (quantaNow r i) (timeOf (r .state))) _ (whole .shares (after .runs-on e) i l) .0 in
+        let below = late-means-below row (row-can-be (r .state .table) (whole .table) i l) (quantaNow r i) (timeOf (r .state)) in
+        true≢false (sym (is-owed i l .1 owed) ∙ rw inside at below)
+
+    go : (n : ℕ) → r .said .number ≡ n → n < 2 → (i : ℕ) × (i < length (rowsIn (r .state))) × Owed (r .state .table) r i (timeOf (r .state)) → n ≡ 1
+    go zero e l found = absurd (not-within e (found .0) (found .1) (found .2))
+    go (suc zero) e l found = refl
+    go (suc (suc n)) e l found = absurd (omega arith)
+
+-- After m slots that answered 0: what the run has come to.
+record Going (table : Table) (s : State) (m : ℕ) : Type 0 where
+  same : s .table ≡ table
+  clock : timeOf s ≡ m
+  whole : broken s ≡ false
+  runs : s .stopped ≡ false
+  long : length (s .quanta) ≡ rowLimit
+
+-- every row is then within its share
+going-shares : (table : Table) (s : State) (m : ℕ) → Going table s m → (i : ℕ) → i < length (rowsOf table) → within (rowAt (rowsOf table) i) (quantaAt (quantaIn s) i) m ≡ true
+going-shares table s m g i l =
+    let inside = is-whole s (g .whole) .shares (g .runs) i (rw (g .same) l) in
+    ap (λ t. within (rowAt (rowsOf t) i) (quantaAt (quantaIn s) i) m) (sym (g .same))
+    ∙ (ap (λ t. within (rowAt (rowsIn s) i) (quantaAt (quantaIn s) i) t) (sym (g .clock)) ∙ inside)
+
+-- Where the records of a run stand: as many as the time says, one behind the other up to the next place; and the quanta are counted in them.
+record Stands (from : ℕ) (s : State) (b : List ℕ) (next : ℕ) : Type 0 where
+  long : length (s .quanta) ≡ rowLimit
+  place : next ≡ placeOf b from (timeOf s)
+  counts : (i : ℕ) → quantaAt (quantaIn s) i ≡ count b from i (timeOf s)
+
+-- one record more
+stands-after : (from : ℕ) (s : State) (b : List ℕ) (next k : ℕ) → Stands from s b next → Whole s → next ≤ length b →
+    Stands from (stepped s k) (withRecord b next (recordIn s k)) (next + length (recordIn s k))
+stands-after from s b next k so whole room =
+    let inside : placeOf b from (timeOf s) ≤ length b = rw (← so .place) room in
+    record {
+      long = places-stay s k ∙ so .long;
+      place = rw (so .place, add-one (timeOf s)) (sym (next-place b from (timeOf s) k (picksIn s k) inside));
+      counts = λ i.
+          quanta-after s k whole (so .long) i
+          ∙ rw (so .counts i, so .place, add-one (timeOf s)) (sym (named-once-more b from (timeOf s) k (picksIn s k) inside i));
+    }
+
+-- the place goes behind the record with 0 and 1,
+place-behind : (number place : ℕ) (entry : List ℕ) → number < 2 → placeBy number place entry ≡ place + length entry
+place-behind zero place entry l = refl
+place-behind (suc zero) place entry l = refl
+place-behind (suc (suc n)) place entry l = absurd (omega arith)
+
+-- and with another number it stays
+place-kept : (number place : ℕ) (entry : List ℕ) → 1 < number → placeBy number place entry ≡ place
+place-kept zero place entry l = absurd (omega arith)
+place-kept (suc zero) place entry l = absurd (omega arith)
+place-kept (suc (suc n)) place entry l = refl
+
+-- one slot more, done or refused
+stands-on : (from : ℕ) (s : State) (b : List ℕ) (next k : ℕ) → Stands from s b next →
+    Stands from (slotOf s k b next .state) (slotOf s k b next .bytes) (placeBy (slotOf s k b next .said .number) next (recordIn s k))
+stands-on from s b next k so = go (decLt (slotOf s k b next .said .number) 2)
+  where
+    go : Dec (slotOf s k b next .said .number < 2) →
+        Stands from (slotOf s k b next .state) (slotOf s k b next .bytes) (placeBy (slotOf s k b next .said .number) next (recordIn s k))
+    go (yes h) =
+        let step = done-makes-the-step s k b next h in
+        let can = goes s k b next (done-is-not-refused s k b next h) in
+        rw (step .0, step .1, place-behind _ next (recordIn s k) h) (stands-after from s b next k so (is-whole s (can .whole)) (can .room))
+    go (no h) =
+        let refused : 1 < slotOf s k b next .said .number = omega arith in
+        let same = refusal-changes-nothing s k b next refused in
+        rw (same .0, same .1, place-kept _ next (recordIn s k) refused) so
+
+module _ (table : Table) (free : ℕ → ℕ) (buffer : List ℕ) (place : ℕ) where
+  -- a run goes on with one slot if its last answer was 0
+  next-run : (m : ℕ) → runFor table free buffer place m .said .number ≡ 0 →
+      let r = runFor table free buffer place m in
+      runFor table free buffer place (suc m) ≡ runWith (slotOf (r .state) (free m) (r .bytes) (r .place)) r (recordIn (r .state) (free m))
+  unfolding run
+  next-run m e = rw e
+
+  -- so where it answers 0 it answered 0 before
+  before-too : (m : ℕ) → runFor table free buffer place (suc m) .said .number ≡ 0 → runFor table free buffer place m .said .number ≡ 0
+  unfolding run
+  before-too m = let r = runFor table free buffer place m in go r (r .said .number) refl
+    where
+      go : (r : Run) (n : ℕ) → r .said .number ≡ n → oneMore n r (free m) .said .number ≡ 0 → r .said .number ≡ 0
+      go r zero e h = e
+      go r (suc n) e h = h
+
+  -- one slot more that is done: it keeps the table and the places, and the time is one higher
+  one-on : (m : ℕ) → (let r = runFor table free buffer place m in Going table (r .state) m) →
+      runFor table free buffer place m .said .number ≡ 0 → runFor table free buffer place (suc m) .said .number < 2 →
+      let r = runFor table free buffer place (suc m) in
+      After (r .state) (r .said) × (r .state .table ≡ table) × (timeOf (r .state) ≡ m + 1) × (length (r .state .quanta) ≡ rowLimit)
+  one-on m g e h =
+      let r = runFor table free buffer place m in
+      let next = next-run m e in
+      let done : slotOf (r .state) (free m) (r .bytes) (r .place) .said .number < 2 = rw next at h in
+      let step = done-makes-the-step (r .state) (free m) (r .bytes) (r .place) done .0 in
+      rw next (
+        done-keeps-whole (r .state) (free m) (r .bytes) (r .place) (g .long) done,
+        ap (λ s. s .table) step ∙ g .same,
+        ap timeOf step ∙ ap (λ t. t + 1) (g .clock),
+        ap (λ s. length (s .quanta)) step ∙ (places-stay (r .state) (free m) ∙ g .long),
+      )
+
+  -- while every answer is 0 the run goes on
+  going : faultOf table ≡ 0 → (m : ℕ) → runFor table free buffer place m .said .number ≡ 0 → Going table (runFor table free buffer place m .state) m
+  unfolding run
+  going h zero e = record { same = refl; clock = refl; whole = fresh-is-whole table .1 h; runs = refl; long = refl }
+  going h (suc m) e =
+      let earlier = before-too m e in
+      let on = one-on m (going h m earlier) earlier (omega (arith, e)) in
+      record { same = on .1; clock = on .2 ∙ add-one m; whole = on .0 .whole; runs = on .0 .runs-on e; long = on .3 }
+
+  -- While every answer is 0, m slots lead to time m, and every row is within its share.
+  pub keeps-shares : KeepsShares table free buffer place
+  keeps-shares h m e = let g = going h m e in (g .clock, going-shares table (runFor table free buffer place m .state) m g)
+
+  -- A slot that is done answers 1 exactly if some row is then owed a whole quantum.
+  pub late-when-owed : LateWhenOwed table free buffer place
+  late-when-owed h m e l =
+      let on = one-on m (going h m e) e l in
+      let r = runFor table free buffer place (suc m) in
+      subst (λ t. OneWhenOwed r table t) (on .2) (subst (λ t. OneWhenOwed r t (timeOf (r .state))) (on .1) (one-when-owed r (on .0) l))
+
+  -- Slot after slot the records stand: a slot that is done writes one behind the others, a refused one changes nothing, and after an answer
+  -- that is not 0 the run is at its end.
+  stands : (m : ℕ) → let r = runFor table free buffer place m in Stands place (r .state) (r .bytes) (r .place)
+  unfolding run placeOf
+  stands zero =
+      record { long = refl; place = refl; counts = λ i. nothing-given table i ∙ sym (none-counted (namedIn buffer place i)) }
+  stands (suc m) = let r = runFor table free buffer place m in go r (r .said .number) (stands m)
+    where
+      go : (r : Run) (n : ℕ) → Stands place (r .state) (r .bytes) (r .place) →
+          let next = oneMore n r (free m) in
+          Stands place (next .state) (next .bytes) (next .place)
+      go r zero so = stands-on place (r .state) (r .bytes) (r .place) (free m) so
+      go r (suc n) so = so
+
+  -- The quanta of each row are as many as the records that name it,
+  pub quanta-are-records : QuantaAreRecords table free buffer place
+  quanta-are-records m i = stands m .counts i
+
+  -- and the records stand one behind the other.
+  pub records-stand-in-turn : RecordsStandInTurn table free buffer place
+  records-stand-in-turn m = stands m .place

@@ -1,0 +1,17 @@
+use Rattle.dispatcher.proofs.Ran.{stays-usable}
+use borrow.Author.Needs.{needs}
+use Rattle.dispatcher.proofs.State.one_on.Statement.{statement}
+use Rattle.dispatcher.proofs.State.one_on.Tie as tie
+
+run-requires : tie.Need-run-requires
+run-requires c κs = search needs
+
+judge-requires : tie.Need-judge-requires
+judge-requires c κs = rw (c .run .ensures) (stays-usable _ _ (c .before .pre .usable) (c .before .pre .early))
+
+returns : tie.Need-returns
+returns c =
+    rw (c .before .run .ensures) at (c .judge .ensures)
+
+pub one-on-spec : {M : Type 1} → statement M
+one-on-spec = tie.close (tie.spec run-requires judge-requires returns)

@@ -1,0 +1,38 @@
+-- A broken state (01, "What comes back").
+use Prim.Native.Nat.{ℕ}
+use mathlib.Core.Bool.{Bool, not, _&&_, _||_}
+use lib.Dec.{ltb, eqb}
+use lib.ListN.{length}
+use Rattle.facts.specs.Counting.{some}
+use Rattle.counts.specs.Limits.{timeLimit}
+use Rattle.table.specs.declared.Row.{Row}
+use Rattle.table.specs.Value.{faultOf}
+use Rattle.pd2.specs.Share.{within}
+use Rattle.pd2.specs.Choice.{rowAt, quantaAt}
+use Rattle.dispatcher.specs.declared.State.{State}
+use Rattle.dispatcher.specs.State.{rowsIn, quantaIn, timeOf}
+
+-- A question about a row and its quanta, put to row i of a state.
+abbrev pub ofRow : State → (Row → ℕ → Bool) → ℕ → Bool
+ofRow s is i = is (rowAt (rowsIn s) i) (quantaAt (quantaIn s) i)
+
+-- Some row of the state is so.
+abbrev pub someRow : State → (Row → ℕ → Bool) → Bool
+someRow s is = some (ofRow s is) (length (rowsIn s))
+
+-- "a row's quanta exceed time"
+abbrev pub exceeds : State → Row → ℕ → Bool
+exceeds s row q = ltb (timeOf s) q
+
+-- "some row is outside its share at its time"
+abbrev pub outsideShare : State → Row → ℕ → Bool
+outsideShare s row q = not (within row q (timeOf s))
+
+-- "A state is broken (30) if its table has a fault 12 to 20 or 22, if time is above 1,000,000,000, if a row's quanta exceed time, or if it is
+-- not stopped and some row is outside its share at its time."
+unfoldable pub broken : State → Bool
+broken s =
+    not (eqb (faultOf (s .table)) 0)
+    || ltb timeLimit (timeOf s)
+    || someRow s (exceeds s)
+    || (not (s .stopped) && someRow s (outsideShare s))

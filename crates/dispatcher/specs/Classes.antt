@@ -1,0 +1,86 @@
+-- How the choice goes about it: rows of the same deadline and bit form a class. What its functions promise one another; that it picks as
+-- PD2 does is proved.
+use Prim.Native.Nat.{ℕ, _+_, _-_, _*_, _%_, _≤_, _<_}
+use mathlib.Core.Path.{_≡_}
+use mathlib.Core.List.{List}
+use mathlib.Core.Bool.{Bool, true, cond, not, _&&_, _||_}
+use lib.Dec.{ltb, eqb}
+use lib.ListN.{length, getD}
+use Rattle.facts.specs.Counting.{howMany}
+use Rattle.counts.specs.Limits.{most}
+use Rattle.table.specs.declared.Row.{Row}
+use Rattle.pd2.specs.Ready.{ready}
+use Rattle.pd2.specs.Order.{Rank, rankOf}
+use Rattle.pd2.specs.Choice.{rowAt, quantaAt}
+use Rattle.dispatcher.specs.declared.State.{State}
+use Rattle.dispatcher.specs.State.{rowsIn, quantaIn, timeOf}
+
+-- The key of a rank: two for each deadline, b = 1 before b = 0. A row that is not ready has the largest number there is.
+abbrev pub keyFor : Rank → ℕ
+keyFor x = 2 * x .d + (1 - x .b)
+
+unfoldable pub keyOf : Row → ℕ → ℕ → ℕ
+keyOf row q t = cond (ready row q t) (keyFor (rankOf row 0 q)) most
+
+abbrev pub keyIn : List ℕ → ℕ → ℕ
+keyIn keys i = getD keys i 0
+
+pub record KeysAre (s : State) (keys : List ℕ) : Type 0 where
+  pub each : (i : ℕ) → i < length (rowsIn s) → keyIn keys i ≡ keyOf (rowAt (rowsIn s) i) (quantaAt (quantaIn s) i) (timeOf s)
+  pub low : (i : ℕ) → i < length (rowsIn s) → ready (rowAt (rowsIn s) i) (quantaAt (quantaIn s) i) (timeOf s) ≡ true → keyIn keys i < most
+
+-- The first class among the keys from `past` on, of n rows: its key and how many rows it has; the largest number where there is none.
+pub record NextClass (key : ℕ → ℕ) (past n class rows : ℕ) : Type 0 where
+  pub range : class ≤ most
+  pub from : past ≤ class
+  pub least : (i : ℕ) → i < n → past ≤ key i → class ≤ key i
+  pub number : rows ≡ howMany (λ i. eqb (key i) class) n
+  pub some : class < most → 0 < rows
+  pub few : rows ≤ n
+
+-- the class with one key more
+abbrev pub nextKey : ℕ → ℕ → ℕ → ℕ
+nextKey class past key = cond (ltb key past) class (cond (ltb key class) key class)
+
+abbrev pub nextRows : ℕ → ℕ → ℕ → ℕ → ℕ
+nextRows class rows past key = cond (ltb key past) rows (cond (ltb key class) 1 (cond (ltb class key) rows (rows + 1)))
+
+-- where k picks of n rows end: all rows before the class and `left` of the class fit, and more do not
+pub record IsCut (key : ℕ → ℕ) (n k class left : ℕ) : Type 0 where
+  pub range : class ≤ most
+  pub none : class ≡ most → left ≡ 0
+  pub fits : howMany (λ i. ltb (key i) class) n + left ≤ k
+  pub full : (i : ℕ) → i < n → class ≤ key i → key i < most → howMany (λ i. ltb (key i) class) n + left ≡ k
+  pub crowded : (i : ℕ) → i < n → class < key i → key i < most → left ≤ howMany (λ i. eqb (key i) class) n
+
+-- the class whose group deadlines are asked for
+abbrev pub askedOf : ℕ → ℕ → ℕ
+askedOf class left = cond (eqb left 0) most class
+
+-- the group deadline of a row in a class with b = 1, else 0
+unfoldable pub groupOf : Row → ℕ → ℕ → ℕ → ℕ
+groupOf row q key class = cond (eqb key class && not (eqb (class % 2) 1)) (rankOf row 0 q .D) 0
+
+abbrev pub groupIn : List ℕ → ℕ → ℕ
+groupIn groups i = getD groups i 0
+
+pub record GroupsAre (s : State) (keys : List ℕ) (class : ℕ) (groups : List ℕ) : Type 0 where
+  pub each : (i : ℕ) → i < length (rowsIn s) →
+      groupIn groups i ≡ groupOf (rowAt (rowsIn s) i) (quantaAt (quantaIn s) i) (keyIn keys i) class
+
+-- In a class the larger group deadline goes first, then the lower row.
+abbrev pub larger : ℕ → ℕ → ℕ → ℕ → Bool
+larger group row against other = ltb against group || (not (ltb group against) && ltb row other)
+
+-- A row goes before another of its class.
+abbrev pub goesFirst : ℕ → ℕ → ℕ → ℕ → ℕ → ℕ → Bool
+goesFirst key group row key′ group′ row′ = eqb key key′ && larger group row group′ row′
+
+-- Row j goes before row i, both of one class.
+abbrev pub tied : (ℕ → ℕ) → (ℕ → ℕ) → ℕ → ℕ → Bool
+tied key group j i = goesFirst (key j) (group j) j (key i) (group i) i
+
+-- Row i is picked, by where the picks end.
+unfoldable pub inCut : (ℕ → ℕ) → (ℕ → ℕ) → ℕ → ℕ → ℕ → ℕ → Bool
+inCut key group n class left i =
+    ltb (key i) class || (not (ltb class (key i)) && ltb (howMany (λ j. tied key group j i) n) left)

@@ -1,0 +1,9 @@
+pub mod State
+pub mod Broken
+pub mod Answer
+pub mod Slot
+pub mod Kept
+pub mod Run
+pub mod RunKept
+pub mod Usable
+pub mod Classes

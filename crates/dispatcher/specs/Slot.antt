@@ -1,0 +1,91 @@
+-- One slot (01, "What comes back").
+use Prim.Native.Nat.{ℕ, zero, suc, _+_, _-_}
+use mathlib.Core.List.{List, [], _∷_}
+use mathlib.Core.Bool.{Bool, _||_}
+use lib.Dec.{ltb, eqb}
+use lib.ListN.{length}
+use Rattle.facts.specs.Counting.{those}
+use Rattle.facts.specs.Faults.{Test, _⇒_, firstMet}
+use Rattle.counts.specs.Limits.{timeLimit}
+use Rattle.table.specs.declared.Row.{Row}
+use Rattle.pd2.specs.Ready.{late}
+use Rattle.pd2.specs.Choice.{pd2Picks, given}
+use Rattle.trace.specs.Record.{recordOf, withRecord}
+use Rattle.trace.specs.Records.{names}
+use Rattle.dispatcher.specs.declared.State.{State}
+use Rattle.dispatcher.specs.State.{rowsIn, quantaIn, timeOf, counted}
+use Rattle.dispatcher.specs.Broken.{ofRow, someRow, broken}
+use Rattle.dispatcher.specs.Answer.{Said, bare, doneSaid}
+
+-- the rows that PD2 picks in a state's slot, with k cores free
+abbrev pub picksIn : State → ℕ → List ℕ
+picksIn s k = pd2Picks (rowsIn s) (quantaIn s) (timeOf s) k
+
+-- the record of the slot
+abbrev pub recordIn : State → ℕ → List ℕ
+recordIn s k = recordOf k (picksIn s k)
+
+-- the rows that are late at a time
+abbrev pub lateAt : ℕ → Row → ℕ → Bool
+lateAt time row q = late row q time
+
+abbrev pub lateIn : State → ℕ → List ℕ
+lateIn s time = those (ofRow s (lateAt time)) (length (rowsIn s))
+
+-- "time is one higher, each picked row has one quantum more"
+abbrev pub ran : State → (ℕ → Bool) → State
+ran s isPicked =
+    record {
+      table = s .table;
+      time = record { 0 = timeOf s + 1 };
+      stopped = s .stopped;
+      quanta = counted (given isPicked 0 (quantaIn s));
+    }
+
+-- "with 1 the state is also stopped"
+abbrev pub judged : State → State
+judged s = record { table = s .table; time = s .time; stopped = someRow s (lateAt (timeOf s)); quanta = s .quanta }
+
+-- One slot's effect, as a step without refusals or limits.
+abbrev pub oneOn : State → ℕ → State
+oneOn s k = ran s (names (picksIn s k))
+
+abbrev pub stepped : State → ℕ → State
+stepped s k = judged (oneOn s k)
+
+-- "the place is past the buffer's end, or fewer than 2 + c bytes remain after it"
+abbrev pub lacksRoom : List ℕ → ℕ → ℕ → Bool
+lacksRoom buffer place c = ltb (length buffer) place || ltb (length buffer - place) (2 + c)
+
+-- "Order for a slot: 30, 31, 32, 33, 34."
+abbrev pub slotTests : State → ℕ → List ℕ → ℕ → List Test
+slotTests s k buffer place =
+    (broken s ⇒ 30)
+    ∷ (s .stopped ⇒ 31)
+    ∷ (eqb (timeOf s) timeLimit ⇒ 32)
+    ∷ (ltb (s .table .cores) k ⇒ 33)
+    ∷ (lacksRoom buffer place (length (picksIn s k)) ⇒ 34)
+    ∷ []
+
+unfoldable pub refusal : State → ℕ → List ℕ → ℕ → ℕ
+refusal s k buffer place = firstMet (slotTests s k buffer place)
+
+-- What a slot gives back: the answer, the state and the buffer.
+pub record Given : Type 0 where
+  pub said : Said
+  pub state : State
+  pub bytes : List ℕ
+
+-- "With 30 to 34 the state returns equal and the buffer is untouched."
+-- "With 0 and 1 the record stands at the given place in the lent buffer, every other byte is as before"
+abbrev pub slotBy : ℕ → State → ℕ → List ℕ → ℕ → Given
+slotBy zero s k buffer place =
+    record {
+      said = doneSaid (lateIn (oneOn s k) (timeOf s + 1)) (timeOf s + 1);
+      state = stepped s k;
+      bytes = withRecord buffer place (recordIn s k);
+    }
+slotBy (suc number) s k buffer place = record { said = bare (suc number); state = s; bytes = buffer }
+
+unfoldable pub slotOf : State → ℕ → List ℕ → ℕ → Given
+slotOf s k buffer place = slotBy (refusal s k buffer place) s k buffer place

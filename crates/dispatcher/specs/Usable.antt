@@ -1,0 +1,46 @@
+-- What the functions of this crate ask of a state, and of its rows, once it is known not to be broken.
+use Prim.Native.Nat.{ℕ, _+_, _≤_, _<_}
+use mathlib.Core.Path.{_≡_}
+use mathlib.Core.List.{List}
+use mathlib.Core.Bool.{Bool, true, false, cond}
+use lib.ListN.{length, getD}
+use Rattle.counts.specs.declared.Quanta.{Quanta}
+use Rattle.counts.specs.Limits.{timeLimit, kept}
+use Rattle.table.specs.declared.Row.{Row}
+use Rattle.table.specs.Limits.{rowLimit}
+use Rattle.pd2.specs.Choice.{rowAt, quantaAt}
+use Rattle.dispatcher.specs.declared.State.{State}
+use Rattle.dispatcher.specs.State.{rowsIn, quantaIn, timeOf}
+
+-- the quanta at a place
+abbrev pub quantaOf : List Quanta → ℕ → ℕ
+quantaOf quanta i = getD quanta i (record { 0 = 0 }) .0
+
+-- A row that can be, with quanta and a time within their limits.
+pub record UsableRow (row : Row) (q t : ℕ) : Type 0 where
+  pub cost : 0 < row .cost
+  pub weight : row .cost < row .period
+  pub quanta : q ≤ t
+  pub time : t ≤ timeLimit
+
+-- A state whose rows and quanta stand in their arrays.
+pub record InPlace (s : State) : Type 0 where
+  pub few : s .table .count ≤ rowLimit
+  pub all : length (rowsIn s) ≡ s .table .count
+  pub long : length (s .quanta) ≡ rowLimit
+
+-- A state whose rows are all usable.
+pub record Usable (s : State) : Type 0 where
+  pub place : InPlace s
+  pub rows : (i : ℕ) → i < length (rowsIn s) → UsableRow (rowAt (rowsIn s) i) (quantaAt (quantaIn s) i) (timeOf s)
+
+-- The marked rows can be given a quantum: only rows of the state are marked, and there is a slot left.
+pub record CanRun (s : State) (marks : List Bool) : Type 0 where
+  pub usable : Usable s
+  pub only-rows : (i : ℕ) → getD marks i false ≡ true → i < length (rowsIn s)
+  pub early : timeOf s < timeLimit
+
+-- Each marked place has one quantum more.
+pub record GaveMarked (marks : List Bool) (before after : List Quanta) : Type 0 where
+  pub places : length after ≡ length before
+  pub each : (i : ℕ) → quantaOf after i ≡ cond (getD marks i false) (kept (quantaOf before i + 1)) (quantaOf before i)

@@ -1,0 +1,284 @@
+// Which rows are picked. Rows of the same deadline and bit form a class, and a number, the key, says which class goes first. Whole
+// classes are picked while they fit; only in the one that does not fit are group deadlines asked for.
+use crate::State;
+use counts::Quanta;
+use counts::Slot;
+use table::Row;
+use windows::Due;
+use windows::Moment;
+ghost use mathlib.Core.Path.{_≡_};
+ghost use Prim.Native.Nat.{_≤_, _<_};
+ghost use mathlib.Core.Bool.{true};
+ghost use Rattle.pd2.specs.Ready.{ready};
+ghost use Rattle.trace.specs.Record.{marked};
+ghost use Rattle.dispatcher.specs.Slot.{picksIn};
+ghost use Rattle.facts.specs.Counting.{howMany, those};
+ghost use Rattle.counts.specs.Limits.{most};
+ghost use Rattle.dispatcher.specs.Usable.{Usable, UsableRow};
+ghost use Rattle.dispatcher.specs.Classes.{
+  keyOf,
+  keyIn,
+  KeysAre,
+  NextClass,
+  nextKey,
+  nextRows,
+  IsCut,
+  askedOf,
+  groupOf,
+  groupIn,
+  GroupsAre,
+  goesFirst,
+  tied,
+  inCut,
+};
+
+// The key of a row that is not ready: it lies past all others.
+const NOT_READY: u64 = 18_446_744_073_709_551_615;
+
+// The class that goes first among those from some key on: its key, and how many rows it has.
+struct Class {
+    key: u64,
+    rows: u8,
+}
+
+// Where the picks end: all rows before the class are picked, and so many of the class are left to be.
+struct Cut {
+    class: u64,
+    left: u8,
+}
+
+// What decides in a class.
+struct Standing {
+    key: u64,
+    group: u64,
+    row: usize,
+}
+
+// The rows picked with k cores free, as marks.
+pub(crate) fn picks(state: State, k: u8) -> [bool; 32]
+    requires { ⌜ Usable state ⌝ }
+    ensures { λ r. ⌜ marked r ≡ picksIn state k ⌝ }
+{
+    let keys = keys(state);
+    let table = state.table;
+    let n = table.count as usize;
+    let cut = cut_at(keys, n, k);
+    let groups = groups(state, keys, asked(cut));
+    marks(keys, groups, n, cut)
+}
+
+// The key of each row.
+fn keys(state: State) -> [u64; 32]
+    requires { ⌜ Usable state ⌝ }
+    ensures { λ r. ⌜ KeysAre state r ⌝ }
+{
+    let mut keys = [NOT_READY; 32];
+    let table = state.table;
+    let n = table.count as usize;
+    let mut i: usize = 0;
+    while i < n {
+        let row = table.rows[i];
+        let given = state.quanta[i];
+        keys[i] = key(row, given, state.time);
+        i += 1;
+    }
+    keys
+}
+
+// Two keys for each deadline: b = 1 goes before b = 0.
+fn key(row: Row, given: Quanta, slot: Slot) -> u64
+    requires { ⌜ UsableRow row (given .0) (slot .0) ⌝ }
+    ensures { λ r. ⌜ (r ≡ keyOf row (given .0) (slot .0)) × (ready row (given .0) (slot .0) ≡ true → r < most) ⌝ }
+{
+    let verdict = pd2::ready(row, given, slot);
+    if !verdict.is_yes() {
+        return NOT_READY;
+    }
+    let due = windows::next_due(row.cost, row.period, pd2::origin(row), given);
+    let Due::By { deadline, bit } = due else {
+        return NOT_READY;
+    };
+    2 * deadline.time() + (1 - bit) as u64
+}
+
+// Where k picks end.
+fn cut_at(keys: [u64; 32], n: usize, k: u8) -> Cut
+    requires { ⌜ n ≤ 32 ⌝ }
+    ensures { λ r. ⌜ IsCut (keyIn keys) n k (r .class) (r .left) ⌝ }
+{
+    let mut past: u64 = 0;
+    let mut left = k;
+    while 0 < left {
+        let class = class_from(keys, n, past);
+        if class.key == NOT_READY {
+            return Cut {
+                class: NOT_READY,
+                left: 0,
+            };
+        }
+        if left < class.rows {
+            return Cut {
+                class: class.key,
+                left,
+            };
+        }
+        past = class.key + 1;
+        left -= class.rows;
+    }
+    Cut {
+        class: past,
+        left: 0,
+    }
+}
+
+// The first class among the keys from `past` on.
+fn class_from(keys: [u64; 32], n: usize, past: u64) -> Class
+    requires { ⌜ (n ≤ 32) × (past ≤ most) ⌝ }
+    ensures { λ r. ⌜ NextClass (keyIn keys) past n (r .key) (r .rows) ⌝ }
+{
+    let mut class = Class {
+        key: NOT_READY,
+        rows: 0,
+    };
+    let mut i: usize = 0;
+    while i < n {
+        class = with_key(class, keys[i], past);
+        i += 1;
+    }
+    class
+}
+
+// The class with one key more.
+fn with_key(class: Class, key: u64, past: u64) -> Class
+    requires { ⌜ class .rows < 32 ⌝ }
+    ensures { λ r. ⌜ (r .key ≡ nextKey (class .key) past key) × (r .rows ≡ nextRows (class .key) (class .rows) past key) ⌝ }
+{
+    if key < past {
+        return class;
+    }
+    if key < class.key {
+        return Class { key, rows: 1 };
+    }
+    if class.key < key {
+        return class;
+    }
+    Class {
+        key,
+        rows: class.rows + 1,
+    }
+}
+
+// The class whose group deadlines are asked for: none if no row of it is left to be picked.
+fn asked(cut: Cut) -> u64
+    ensures { λ r. ⌜ r ≡ askedOf (cut .class) (cut .left) ⌝ }
+{
+    if cut.left == 0 { NOT_READY } else { cut.class }
+}
+
+// The group deadlines of the rows of the class, 0 for all others.
+fn groups(state: State, keys: [u64; 32], class: u64) -> [u64; 32]
+    requires { ⌜ Usable state ⌝ }
+    ensures { λ r. ⌜ GroupsAre state keys class r ⌝ }
+{
+    let mut groups = [0u64; 32];
+    let table = state.table;
+    let n = table.count as usize;
+    let mut i: usize = 0;
+    while i < n {
+        let row = table.rows[i];
+        let given = state.quanta[i];
+        let key = keys[i];
+        groups[i] = group(row, given, state.time, key, class);
+        i += 1;
+    }
+    groups
+}
+
+// The group deadline of a row in the class. "If both have b = 1": a class with b = 0, whose key is odd, asks for none.
+fn group(row: Row, given: Quanta, time: Slot, key: u64, class: u64) -> u64
+    requires { ⌜ UsableRow row (given .0) (time .0) ⌝ }
+    ensures { λ r. ⌜ r ≡ groupOf row (given .0) key class ⌝ }
+{
+    if key != class {
+        return 0;
+    }
+    if class % 2 == 1 {
+        return 0;
+    }
+    let group = windows::next_group_deadline(row.cost, row.period, pd2::origin(row), given);
+    match group {
+        Moment::At(time) => time.time(),
+        Moment::Unanswered => 0,
+    }
+}
+
+// The rows that are picked, by where the picks end.
+fn marks(keys: [u64; 32], groups: [u64; 32], n: usize, cut: Cut) -> [bool; 32]
+    requires { ⌜ n ≤ 32 ⌝ }
+    ensures { λ r. ⌜ marked r ≡ those (inCut (keyIn keys) (groupIn groups) n (cut .class) (cut .left)) n ⌝ }
+{
+    let mut marks = [false; 32];
+    let mut i: usize = 0;
+    while i < n {
+        marks[i] = is_picked(keys, groups, n, cut, i);
+        i += 1;
+    }
+    marks
+}
+
+fn is_picked(keys: [u64; 32], groups: [u64; 32], n: usize, cut: Cut, i: usize) -> bool
+    requires { ⌜ (n ≤ 32) × (i < n) ⌝ }
+    ensures { λ r. ⌜ r ≡ inCut (keyIn keys) (groupIn groups) n (cut .class) (cut .left) i ⌝ }
+{
+    let key = keys[i];
+    if key < cut.class {
+        return true;
+    }
+    if cut.class < key {
+        return false;
+    }
+    ahead(keys, groups, n, i) < cut.left
+}
+
+// How many rows of its class go before row i.
+fn ahead(keys: [u64; 32], groups: [u64; 32], n: usize, i: usize) -> u8
+    requires { ⌜ (n ≤ 32) × (i < n) ⌝ }
+    ensures { λ r. ⌜ r ≡ howMany (λ j. tied (keyIn keys) (groupIn groups) j i) n ⌝ }
+{
+    let own = standing_of(keys, groups, i);
+    let mut count: u8 = 0;
+    let mut j: usize = 0;
+    while j < n {
+        let rival = standing_of(keys, groups, j);
+        if goes_first(rival, own) {
+            count += 1;
+        }
+        j += 1;
+    }
+    count
+}
+
+fn standing_of(keys: [u64; 32], groups: [u64; 32], row: usize) -> Standing
+    requires { ⌜ row < 32 ⌝ }
+    ensures { λ r. ⌜ r ≡ record { key = keyIn keys row; group = groupIn groups row; row = row } ⌝ }
+{
+    let key = keys[row];
+    let group = groups[row];
+    Standing { key, group, row }
+}
+
+// In a class the larger group deadline goes first, then the lower row.
+fn goes_first(rival: Standing, own: Standing) -> bool
+    ensures { λ r. ⌜ r ≡ goesFirst (rival .key) (rival .group) (rival .row) (own .key) (own .group) (own .row) ⌝ }
+{
+    if rival.key != own.key {
+        return false;
+    }
+    if own.group < rival.group {
+        return true;
+    }
+    if rival.group < own.group {
+        return false;
+    }
+    rival.row < own.row
+}

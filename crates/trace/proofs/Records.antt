@@ -1,0 +1,167 @@
+-- What records in bytes mean: the rows they name, and what one record more does. Assumes nothing.
+use Prim.Native.Nat.{ℕ, zero, suc, _+_, _≤_, _<_}
+use mathlib.Core.Path.{_≡_, refl, sym, ap, _∙_}
+use mathlib.Core.List.{List, [], _∷_, _++_}
+use mathlib.Core.Bool.{Bool, true, false, cond, _&&_, _||_}
+use native.Mathlib.Decide.{decLt}
+use native.Mathlib.Numerals.{add-one}
+use native.Mathlib.Omega.{arith}
+use borrow.Author.Tests.{lt-ltb, le-ltb, eq-eqb, ne-eqb}
+use lib.Dec.{ltb, eqb}
+use lib.ListN.{length, take, drop, length-drop, take-append-drop, List·getD-append}
+use lib.Seq.{length-take-le, take-append-seam, take-append-le, drop-append-le, drop-append-add, getD-append-add}
+use Rattle.facts.specs.Counting.{howMany, those}
+use Rattle.facts.proofs.Counting.{same-count, none-listed, listed-if-passed, unlisted-if-failed}
+use Rattle.fields.specs.Fields.{byte}
+use Rattle.trace.specs.Record.{recordOf, withFront, withRecord}
+use Rattle.trace.specs.Records.{countAt, rowsAt, pastRecord, placeOf, names, namedIn, count}
+
+-- A longer list names what its parts name.
+names-either : (a b : List ℕ) (row : ℕ) → names (a ++ b) row ≡ names a row || names b row
+unfolding names
+names-either [] b row = refl
+names-either (x ∷ a) b row = rw (names-either a b row) (or-assoc (eqb x row) (names a row) (names b row))
+  where
+    or-assoc : (x y z : Bool) → x || (y || z) ≡ (x || y) || z
+    or-assoc true y z = refl
+    or-assoc false y z = refl
+
+or-false : (b : Bool) → b || false ≡ b
+or-false true = refl
+or-false false = refl
+
+-- one number more is listed if it passes
+one-more-named : (a : ℕ → Bool) (n row : ℕ) (x : Bool) → a n ≡ x → names (those a (n + 1)) row ≡ names (those a n) row || (x && eqb n row)
+unfolding names
+one-more-named a n row true e = rw (listed-if-passed a n e) (names-either (those a n) (n ∷ []) row ∙ rw (or-false (eqb n row)))
+one-more-named a n row false e = rw (unlisted-if-failed a n e) (sym (or-false (names (those a n) row)))
+
+-- The list of those that pass names a row exactly if it is below the bound and passes.
+pub listed-are-named : (a : ℕ → Bool) (n row : ℕ) → names (those a n) row ≡ ltb row n && a row
+unfolding names
+listed-are-named a zero row = rw (none-listed a, le-ltb row 0 (omega arith))
+listed-are-named a (suc n) row =
+    rw (← add-one n) (one-more-named a n row (a n) refl ∙ rw (listed-are-named a n row) (go (decLt row n) (decLt n row)))
+  where
+    or-none : (x y : Bool) → x || (y && false) ≡ x
+    or-none true y = refl
+    or-none false true = refl
+    or-none false false = refl
+
+    and-true : (x : Bool) → x && true ≡ x
+    and-true true = refl
+    and-true false = refl
+
+    go : Dec (row < n) → Dec (n < row) → (ltb row n && a row) || (a n && eqb n row) ≡ ltb row (n + 1) && a row
+    go (yes l) d =
+        let k : row < n + 1 = omega arith in
+        simp (lt-ltb _ _ l, lt-ltb _ _ k, ne-eqb n row (λ e. omega arith), or-none (a row) (a n))
+    go (no l) (yes m) =
+        let h : n ≤ row = omega arith in
+        let k : n + 1 ≤ row = omega arith in
+        simp (le-ltb _ _ h, le-ltb _ _ k, ne-eqb n row (λ e. omega arith), or-none false (a n))
+    go (no l) (no m) =
+        let same : n ≡ row = omega arith in
+        let h : row ≤ row = omega arith in
+        let k : row < row + 1 = omega arith in
+        rw same (simp (le-ltb _ _ h, lt-ltb _ _ k, eq-eqb row row refl, and-true (a row)))
+
+-- Records stand one behind the other: a later one begins at a later place.
+pub places-rise : (s : List ℕ) (from j t : ℕ) → j ≤ t → placeOf s from j ≤ placeOf s from t
+unfolding placeOf
+places-rise s from j zero h = let e : j ≡ 0 = omega arith in rw e (omega arith)
+places-rise s from j (suc t) h = go (decLt t j) (places-rise s from j t)
+  where
+    go : Dec (t < j) → (j ≤ t → placeOf s from j ≤ placeOf s from t) → placeOf s from j ≤ placeOf s from (suc t)
+    go (yes l) rest = let e : j ≡ suc t = omega arith in rw e (omega arith)
+    go (no l) rest = let r = rest (omega arith) in omega arith
+
+-- Records that lie wholly in the front of the bytes are the same, whatever comes behind it.
+module _ (front x y : List ℕ) where
+  -- each byte of the front,
+  byte-stays : (i : ℕ) → i < length front → byte (front ++ y) i ≡ byte (front ++ x) i
+  byte-stays i l = List·getD-append front y 0 i l ∙ sym (List·getD-append front x 0 i l)
+
+  -- each part of it,
+  part-stays : (i c : ℕ) → i + c ≤ length front → take c (drop i (front ++ y)) ≡ take c (drop i (front ++ x))
+  part-stays i c l = alone y ∙ sym (alone x)
+    where
+      alone : (z : List ℕ) → take c (drop i (front ++ z)) ≡ take c (drop i front)
+      alone z =
+          ap (take c) (drop-append-le i front z (omega arith))
+          ∙ take-append-le c (drop i front) z (omega (arith, length-drop i front))
+
+  -- The rows of a record that ends in the front stay,
+  pub rows-stay : (place : ℕ) → pastRecord (front ++ x) place ≤ length front → rowsAt (front ++ y) place ≡ rowsAt (front ++ x) place
+  rows-stay place l =
+      ap (λ c. take c (drop (place + 2) (front ++ y))) (byte-stays (place + 1) (omega arith))
+      ∙ part-stays (place + 2) (countAt (front ++ x) place) (omega arith)
+
+  module _ (from : ℕ) where
+    -- and so does the place of slot t, if it is no later than the end of the front,
+    pub place-stays : (t : ℕ) → placeOf (front ++ x) from t ≤ length front → placeOf (front ++ y) from t ≡ placeOf (front ++ x) from t
+    unfolding placeOf
+    place-stays zero l = refl
+    place-stays (suc t) l =
+        let same = place-stays t (omega arith) in
+        rw same (ap (λ c. placeOf (front ++ x) from t + 2 + c) (byte-stays (placeOf (front ++ x) from t + 1) (omega arith)))
+
+    -- and the count of the records before it that name a row.
+    pub count-stays : (row t : ℕ) → placeOf (front ++ x) from t ≤ length front → count (front ++ y) from row t ≡ count (front ++ x) from row t
+    unfolding placeOf
+    count-stays row t l = same-count (namedIn (front ++ y) from row) (namedIn (front ++ x) from row) t each
+      where
+        each : (j : ℕ) → j < t → namedIn (front ++ y) from row j ≡ namedIn (front ++ x) from row j
+        each j h =
+            let past : pastRecord (front ++ x) (placeOf (front ++ x) from j) ≤ length front = omega (arith, places-rise (front ++ x) from (suc j) t (omega arith), l) in
+            rw (place-stays j (omega arith)) (ap (λ rows. names rows row) (rows-stay (placeOf (front ++ x) from j) past))
+
+-- The record that stands behind a front of the bytes is found there.
+module _ (front rest rows : List ℕ) (k : ℕ) where
+  -- Its second byte says how many rows it has,
+  pub count-found : countAt (front ++ (recordOf k rows ++ rest)) (length front) ≡ length rows
+  count-found = getD-append-add front (recordOf k rows ++ rest) 1 0
+
+  -- and behind it stand its rows.
+  pub rows-found : rowsAt (front ++ (recordOf k rows ++ rest)) (length front) ≡ rows
+  rows-found =
+      rw (count-found, drop-append-add front (recordOf k rows ++ rest) 2) (take-append-seam rows rest)
+
+-- t records fill the front from a place on, and one more stands behind it
+module _ (front x rest rows : List ℕ) (k from t : ℕ) (full : placeOf (front ++ x) from t ≡ length front) where
+  -- the front stays full,
+  full-still : placeOf (front ++ (recordOf k rows ++ rest)) from t ≡ length front
+  full-still = place-stays front x (recordOf k rows ++ rest) from t (omega (arith, full)) ∙ full
+
+  -- the next place is behind the record,
+  next-behind : placeOf (front ++ (recordOf k rows ++ rest)) from (suc t) ≡ length front + length (recordOf k rows)
+  unfolding placeOf
+  next-behind = rw (full-still, count-found front rest rows k) (omega arith)
+
+  -- and what it names is counted
+  named-too : (row : ℕ) → count (front ++ (recordOf k rows ++ rest)) from row (suc t) ≡ count (front ++ x) from row t + cond (names rows row) 1 0
+  unfolding howMany
+  named-too row =
+      rw (count-stays front x (recordOf k rows ++ rest) from row t (omega (arith, full)), full-still, rows-found front rest rows k)
+
+-- For callers: t records stand in the bytes from a place on, and that of slot t is written behind them.
+module _ (b : List ℕ) (from t k : ℕ) (rows : List ℕ) (inside : placeOf b from t ≤ length b) where
+  -- the bytes before the place are as many as the place says,
+  as-long : placeOf b from t ≡ length (take (placeOf b from t) b)
+  as-long = sym (length-take-le (placeOf b from t) b inside)
+
+  -- and the t records fill them
+  fills : placeOf (take (placeOf b from t) b ++ drop (placeOf b from t) b) from t ≡ length (take (placeOf b from t) b)
+  fills = ap (λ s. placeOf s from t) (take-append-drop (placeOf b from t) b) ∙ as-long
+
+  -- Then the place of the next slot is behind that record,
+  pub next-place : placeOf (withRecord b (placeOf b from t) (recordOf k rows)) from (suc t) ≡ placeOf b from t + length (recordOf k rows)
+  unfolding withRecord withFront
+  next-place = next-behind (take (placeOf b from t) b) (drop (placeOf b from t) b) _ rows k from t fills ∙ ap (λ n. n + length (recordOf k rows)) (sym as-long)
+
+  -- and a row that it names is named once more.
+  pub named-once-more : (row : ℕ) → count (withRecord b (placeOf b from t) (recordOf k rows)) from row (suc t) ≡ count b from row t + cond (names rows row) 1 0
+  unfolding withRecord withFront
+  named-once-more row =
+      named-too (take (placeOf b from t) b) (drop (placeOf b from t) b) _ rows k from t fills row
+      ∙ ap (λ s. count s from row t + cond (names rows row) 1 0) (take-append-drop (placeOf b from t) b)

@@ -1,0 +1,40 @@
+-- What records in bytes mean (01, "The trace, in bytes"). The records stand one behind the other from a place on; slot 0 is first.
+use Prim.Native.Nat.{ℕ, zero, suc, _+_}
+use mathlib.Core.List.{List, [], _∷_}
+use mathlib.Core.Bool.{Bool, false, _||_}
+use lib.Dec.{eqb}
+use lib.ListN.{take, drop}
+use Rattle.facts.specs.Counting.{howMany}
+use Rattle.fields.specs.Fields.{byte}
+
+-- "cores free k (1), rows picked c (1), and c row numbers rising strictly (1 each)": the record that begins at a place
+abbrev pub freeAt : List ℕ → ℕ → ℕ
+freeAt s place = byte s place
+
+abbrev pub countAt : List ℕ → ℕ → ℕ
+countAt s place = byte s (place + 1)
+
+abbrev pub rowsAt : List ℕ → ℕ → List ℕ
+rowsAt s place = take (countAt s place) (drop (place + 2) s)
+
+-- where the next record begins
+abbrev pub pastRecord : List ℕ → ℕ → ℕ
+pastRecord s place = place + 2 + countAt s place
+
+-- where the record of slot t begins, if that of slot 0 begins at `from`
+unfoldable pub placeOf : List ℕ → ℕ → ℕ → ℕ
+placeOf s from zero = from
+placeOf s from (suc t) = let place = placeOf s from t in pastRecord s place
+
+-- A record's rows name a row.
+unfoldable pub names : List ℕ → ℕ → Bool
+names [] row = false
+names (r ∷ rows) row = eqb r row || names rows row
+
+-- The record of slot t names a row.
+abbrev pub namedIn : List ℕ → ℕ → ℕ → ℕ → Bool
+namedIn s from row t = names (rowsAt s (placeOf s from t)) row
+
+-- how many of the first t records name a row
+abbrev pub count : List ℕ → ℕ → ℕ → ℕ → ℕ
+count s from row t = howMany (namedIn s from row) t
