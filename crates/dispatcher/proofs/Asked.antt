@@ -1,12 +1,10 @@
 -- What the lower crates answer about a usable row, and what the functions here make of it. Assumes nothing.
-use Prim.Native.Nat.{ℕ, zero, suc, _+_, _-_, _*_, _%_, _≤_, _<_}
+use Prim.Native.Nat.{ℕ, zero, suc, _+_, _-_, _*_, _%_, _<_}
 use mathlib.Core.Path.{_≡_, refl, sym, ap, _∙_}
-use mathlib.Core.Bool.{Bool, true, false, not, _&&_, false≢true}
-use mathlib.Core.Logic.{_⊎_, ⊎-elim}
+use mathlib.Core.Bool.{Bool, true, false, not, false≢true}
 use native.Mathlib.Nat.{mul-le-mul, le-of-suc-le-suc, not-suc-le-zero}
 use native.Mathlib.Omega.{arith}
 use borrow.Author.Tests.{eq-eqb, ne-eqb}
-use lib.Dec.{eqb}
 use lib.ListN.{length, getD, length-take, List·getD-map}
 use lib.Seq.{getD-take}
 use mathlib.Core.List.{List, [], _∷_}
@@ -29,15 +27,13 @@ use Rattle.windows.specs.Next.{InReach, nextDue, next}
 use Rattle.windows.specs.Group.{groupDeadline}
 use Rattle.windows.proofs.Next.{due-in-reach, next-in-reach}
 use Rattle.windows.specs.Windows.{deadline, bit}
-use Rattle.windows.proofs.Windows.{deadline-is-near, bit-is-0-or-1}
+use Rattle.windows.proofs.Windows.{deadline-is-near}
 use Rattle.table.specs.declared.Row.{Row}
 use Rattle.pd2.specs.Ready.{origin, ready}
-use Rattle.pd2.specs.Share.{CanBe}
-use Rattle.pd2.specs.Order.{rankOf}
 use Rattle.pd2.specs.Verdict.{isYes, answered, verdict}
 use Rattle.pd2.proofs.Verdicts.{yes-if-it-holds}
 use Rattle.dispatcher.specs.Usable.{UsableRow, Usable}
-use Rattle.dispatcher.specs.Classes.{keyFor, keyOf, groupOf}
+use Rattle.dispatcher.specs.Classes.{keyOf, groupOf}
 
 -- What an answer holds.
 abbrev pub dueTime : Due → ℕ

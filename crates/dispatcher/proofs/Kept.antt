@@ -1,7 +1,7 @@
 -- What one slot keeps, and what its answers mean. Assumes nothing.
 use Prim.Native.Nat.{ℕ, zero, suc, _+_, _≤_, _<_}
 use mathlib.Core.Path.{_≡_, refl, sym, ap, _∙_}
-use mathlib.Core.List.{List, [], _∷_, map}
+use mathlib.Core.List.{List, [], _∷_}
 use mathlib.Core.Bool.{Bool, true, false, cond}
 use mathlib.Core.Logic.{_↔_, _⊎_, inl, inr, ⊎-elim}
 use native.Mathlib.Decide.{decLt}
@@ -27,7 +27,7 @@ use Rattle.pd2.proofs.Choice.{how-many-given, given-at}
 use Rattle.trace.specs.Records.{names}
 use Rattle.trace.proofs.Records.{listed-are-named}
 use Rattle.dispatcher.specs.declared.State.{State}
-use Rattle.dispatcher.specs.State.{rowsIn, quantaIn, timeOf, counted, freshOf}
+use Rattle.dispatcher.specs.State.{rowsIn, quantaIn, timeOf, freshOf}
 use Rattle.dispatcher.specs.Broken.{ofRow, broken}
 use Rattle.dispatcher.specs.Answer.{doneSaid}
 use Rattle.dispatcher.specs.Slot.{picksIn, lateAt, lateIn, oneOn, judged, stepped, lacksRoom, slotTests, refusal, slotBy, slotOf}
@@ -282,7 +282,7 @@ module _ (x : State) (table : faultOf (x .table) ≡ 0) (time : timeOf x ≤ tim
 -- A slot that is done leads to a state that is not broken, and its answer says of it what is so. The step keeps the upper limits and the quanta
 -- within the time; judging finds the late rows, and where there is none every row has its lower limit too.
 pub done-keeps-whole : DoneKeepsWhole
-done-keeps-whole s k buffer place _ h =
+done-keeps-whole s k buffer place h =
     let done = done-is-not-refused s k buffer place h in
     let can = goes s k buffer place done in
     let whole = is-whole s (can .whole) in
@@ -296,8 +296,8 @@ stopped-answers s k buffer place whole stopped = rw (whole, stopped)
 
 -- The slot after a 1 answers 31.
 pub next-is-stopped : NextIsStopped
-next-is-stopped s k buffer place long h k′ buffer′ place′ =
-    let after = done-keeps-whole s k buffer place long (omega (arith, h)) in
+next-is-stopped s k buffer place h k′ buffer′ place′ =
+    let after = done-keeps-whole s k buffer place (omega (arith, h)) in
     stopped-answers (slotOf s k buffer place .state) k′ buffer′ place′ (after .whole) (after .stops h)
 
 -- A fresh state is broken only by its table.

@@ -1,7 +1,7 @@
 -- The key of a rank orders as PD2 does, up to ties. Assumes nothing.
-use Prim.Native.Nat.{ℕ, _+_, _-_, _*_, _≤_, _<_}
-use mathlib.Core.Path.{_≡_, refl, sym, ap, _∙_}
-use mathlib.Core.Bool.{Bool, true, false, cond, not, _&&_, _||_}
+use Prim.Native.Nat.{ℕ, _-_, _≤_, _<_}
+use mathlib.Core.Path.{_≡_}
+use mathlib.Core.Bool.{Bool, cond, _&&_, _||_}
 use mathlib.Core.Logic.{_⊎_, inl, inr}
 use native.Mathlib.Decide.{decLt}
 use native.Mathlib.Omega.{arith}
@@ -16,10 +16,6 @@ tie x y = cond (eqb (x .b) 1) (larger (x .D) (x .row) (y .D) (y .row)) (ltb (x .
 
 abbrev byKey : Rank → Rank → Bool
 byKey x y = ltb (keyFor x) (keyFor y) || (eqb (keyFor x) (keyFor y) && tie x y)
-
-or-false : (b : Bool) → b || false ≡ b
-or-false true = refl
-or-false false = refl
 
 -- among equal deadlines and bits of 1
 group-is-larger : (D D′ row row′ : ℕ) → ltb D′ D || (eqb D D′ && ltb row row′) ≡ larger D row D′ row′

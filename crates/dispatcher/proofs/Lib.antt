@@ -10,3 +10,5 @@ pub mod Picked
 pub mod Whole
 pub mod Kept
 pub mod RunKept
+pub mod Determined
+pub mod Bench

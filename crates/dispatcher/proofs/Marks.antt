@@ -1,8 +1,8 @@
 -- The arrays of the choice: keys, group deadlines and marks. Assumes nothing.
 use Prim.Native.Nat.{ℕ, zero, suc, _+_, _-_, _≤_, _<_}
-use mathlib.Core.Path.{_≡_, refl, sym, ap, _∙_}
+use mathlib.Core.Path.{_≡_, refl, ap, _∙_}
 use mathlib.Core.List.{List}
-use mathlib.Core.Bool.{Bool, true, false, not, _&&_, _||_}
+use mathlib.Core.Bool.{Bool, true, false, not}
 use native.Mathlib.Decide.{decLt}
 use native.Mathlib.Omega.{arith}
 use borrow.Author.Tests.{lt-ltb, le-ltb}
@@ -21,7 +21,7 @@ use Rattle.trace.specs.Record.{marked}
 use Rattle.dispatcher.specs.declared.State.{State}
 use Rattle.dispatcher.specs.State.{rowsIn, quantaIn, timeOf}
 use Rattle.dispatcher.specs.Usable.{Usable}
-use Rattle.dispatcher.specs.Classes.{keyOf, keyIn, KeysAre, groupOf, groupIn, GroupsAre, tied, inCut}
+use Rattle.dispatcher.specs.Classes.{keyOf, keyIn, KeysAre, groupOf, GroupsAre, tied, inCut}
 use Rattle.dispatcher.proofs.Asked.{row-there, quanta-there}
 
 -- Whether a row is in the cut: its key lies before the class,

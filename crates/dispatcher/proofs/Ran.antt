@@ -1,5 +1,5 @@
 -- What is left of a slot once its rows are picked: quanta are given, and lateness is judged. Assumes nothing.
-use Prim.Native.Nat.{ℕ, zero, suc, _+_, _≤_, _<_}
+use Prim.Native.Nat.{ℕ, _+_, _≤_, _<_}
 use mathlib.Core.Path.{_≡_, refl, sym, ap, _∙_}
 use mathlib.Core.List.{List, [], _∷_, map}
 use mathlib.Core.Bool.{Bool, true, false, cond, _&&_, false≢true}
@@ -22,7 +22,7 @@ use Rattle.trace.proofs.Records.{listed-are-named}
 use Rattle.dispatcher.specs.declared.State.{State}
 use Rattle.dispatcher.specs.State.{rowsIn, quantaIn, timeOf, counted}
 use Rattle.dispatcher.specs.Broken.{ofRow, someRow}
-use Rattle.dispatcher.specs.Answer.{Said, bare, doneSaid}
+use Rattle.dispatcher.specs.Answer.{bare, doneSaid}
 use Rattle.dispatcher.specs.Slot.{picksIn, lateAt, lateIn, ran}
 use Rattle.dispatcher.specs.Usable.{quantaOf, Usable, CanRun, GaveMarked}
 use Rattle.dispatcher.proofs.Asked.{getD-any}

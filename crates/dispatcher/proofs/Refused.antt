@@ -20,7 +20,7 @@ use Rattle.dispatcher.specs.declared.Outcome.{Outcome}
 use Rattle.dispatcher.specs.State.{timeOf}
 use Rattle.dispatcher.specs.Broken.{broken}
 use Rattle.dispatcher.specs.Answer.{bare, saidOf, doneSaid}
-use Rattle.dispatcher.specs.Slot.{picksIn, recordIn, lateIn, lacksRoom, oneOn, stepped, refusal, slotBy, slotOf}
+use Rattle.dispatcher.specs.Slot.{picksIn, recordIn, lateIn, lacksRoom, oneOn, stepped, refusal, slotOf}
 
 -- which of its two answers the writer gave
 abbrev isWritten : Stored → Bool

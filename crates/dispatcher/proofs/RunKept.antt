@@ -18,7 +18,7 @@ use Rattle.table.specs.declared.Table.{Table}
 use Rattle.table.specs.Limits.{rowLimit}
 use Rattle.table.specs.Value.{faultOf, rowsOf}
 use Rattle.pd2.specs.Ready.{origin, late}
-use Rattle.pd2.specs.Share.{elapsed, lower, within, CanBe}
+use Rattle.pd2.specs.Share.{elapsed, lower, upper, within, CanBe}
 use Rattle.pd2.specs.Choice.{rowAt, quantaAt}
 use Rattle.pd2.proofs.Share.{late-means-below}
 use Rattle.trace.specs.Record.{withRecord}
@@ -30,7 +30,7 @@ use Rattle.dispatcher.specs.Broken.{broken}
 use Rattle.dispatcher.specs.Slot.{picksIn, recordIn, stepped, slotOf}
 use Rattle.dispatcher.specs.Kept.{After}
 use Rattle.dispatcher.specs.Run.{Run, placeBy, runWith, oneMore, run}
-use Rattle.dispatcher.specs.RunKept.{quantaNow, Owed, runFor, KeepsShares, LateWhenOwed, QuantaAreRecords, RecordsStandInTurn}
+use Rattle.dispatcher.specs.RunKept.{quantaNow, Owed, runFor, KeepsShares, LateWhenOwed, FirstLate, FirstLateIsOwed, QuantaAreRecords, RecordsStandInTurn}
 use Rattle.dispatcher.proofs.Whole.{Whole, is-whole, row-can-be, nothing-given}
 use Rattle.dispatcher.proofs.Kept.{done-is-not-refused, goes, refusal-changes-nothing, done-makes-the-step, places-stay, quanta-after, done-keeps-whole, fresh-is-whole}
 
@@ -163,7 +163,7 @@ module _ (table : Table) (free : ℕ → ℕ) (buffer : List ℕ) (place : ℕ) 
       let done : slotOf (r .state) (free m) (r .bytes) (r .place) .said .number < 2 = rw next at h in
       let step = done-makes-the-step (r .state) (free m) (r .bytes) (r .place) done .0 in
       rw next (
-        done-keeps-whole (r .state) (free m) (r .bytes) (r .place) (g .long) done,
+        done-keeps-whole (r .state) (free m) (r .bytes) (r .place) done,
         ap (λ s. s .table) step ∙ g .same,
         ap timeOf step ∙ ap (λ t. t + 1) (g .clock),
         ap (λ s. length (s .quanta)) step ∙ (places-stay (r .state) (free m) ∙ g .long),
@@ -188,6 +188,23 @@ module _ (table : Table) (free : ℕ → ℕ) (buffer : List ℕ) (place : ℕ) 
       let on = one-on m (going h m e) e l in
       let r = runFor table free buffer place (suc m) in
       subst (λ t. OneWhenOwed r table t) (on .2) (subst (λ t. OneWhenOwed r t (timeOf (r .state))) (on .1) (one-when-owed r (on .0) l))
+
+  -- At the first late time the named row is owed a whole quantum, and all upper limits hold.
+  pub first-late-is-owed : FirstLateIsOwed table free buffer place
+  first-late-is-owed h m e l =
+      let on = one-on m (going h m e) e (omega (arith, l)) in
+      let r = runFor table free buffer place (suc m) in
+      let after = on .0 in
+      let row = rowAt (rowsIn (r .state)) (r .said .row) in
+      let can = row-can-be (r .state .table) (is-whole (r .state) (after .whole) .table) (r .said .row) (after .is-row l) in
+      let owed = late-exactly-if-owed row can (quantaNow r (r .said .row)) (timeOf (r .state)) .0 (after .names-row l .passes (after .is-row l)) in
+      subst (λ t. FirstLate t free buffer place m r) (on .1)
+      record {
+        time = after .names-time l ∙ on .2;
+        is-row = after .is-row l;
+        owed = subst (λ t. Owed (r .state .table) r (r .said .row) t) (on .2) owed;
+        uppers = λ i k. subst (λ t. upper (rowAt (rowsIn (r .state)) i) (quantaNow r i) t ≡ true) (on .2) (after .uppers i k);
+      }
 
   -- Slot after slot the records stand: a slot that is done writes one behind the others, a refused one changes nothing, and after an answer
   -- that is not 0 the run is at its end.

@@ -1,5 +1,5 @@
 -- What one slot keeps, and what its answers mean.
-use Prim.Native.Nat.{ℕ, _+_, _<_}
+use Prim.Native.Nat.{ℕ, _<_}
 use mathlib.Core.Path.{_≡_}
 use mathlib.Core.List.{List}
 use mathlib.Core.Bool.{true, false}
@@ -8,7 +8,6 @@ use lib.ListN.{length}
 use Rattle.facts.specs.First.{Lowest}
 use Rattle.facts.specs.Faults.{FirstMet}
 use Rattle.table.specs.declared.Table.{Table}
-use Rattle.table.specs.Limits.{rowLimit}
 use Rattle.table.specs.Value.{faultOf}
 use Rattle.pd2.specs.Share.{upper}
 use Rattle.trace.specs.Record.{withRecord}
@@ -16,7 +15,7 @@ use Rattle.dispatcher.specs.declared.State.{State}
 use Rattle.dispatcher.specs.State.{rowsIn, timeOf, freshOf}
 use Rattle.dispatcher.specs.Broken.{ofRow, broken}
 use Rattle.dispatcher.specs.Answer.{Said}
-use Rattle.dispatcher.specs.Slot.{recordIn, lateAt, stepped, slotTests, refusal, slotOf}
+use Rattle.dispatcher.specs.Slot.{recordIn, lateAt, stepped, slotTests, slotOf}
 
 -- Each number 30 to 34 is answered exactly when its cause is the first met.
 abbrev pub RefusalsAreFirstCauses : Type 0
@@ -53,13 +52,13 @@ pub record After (s : State) (said : Said) : Type 0 where
 
 abbrev pub DoneKeepsWhole : Type 0
 DoneKeepsWhole =
-    (s : State) (k : ℕ) (buffer : List ℕ) (place : ℕ) → length (s .quanta) ≡ rowLimit → slotOf s k buffer place .said .number < 2 →
+    (s : State) (k : ℕ) (buffer : List ℕ) (place : ℕ) → slotOf s k buffer place .said .number < 2 →
     After (slotOf s k buffer place .state) (slotOf s k buffer place .said)
 
 -- The slot after a 1 answers 31.
 abbrev pub NextIsStopped : Type 0
 NextIsStopped =
-    (s : State) (k : ℕ) (buffer : List ℕ) (place : ℕ) → length (s .quanta) ≡ rowLimit → slotOf s k buffer place .said .number ≡ 1 → (k′ : ℕ) (buffer′ : List ℕ) (place′ : ℕ) →
+    (s : State) (k : ℕ) (buffer : List ℕ) (place : ℕ) → slotOf s k buffer place .said .number ≡ 1 → (k′ : ℕ) (buffer′ : List ℕ) (place′ : ℕ) →
     slotOf (slotOf s k buffer place .state) k′ buffer′ place′ .said .number ≡ 31
 
 -- "A fresh state can be made from any table value ..; if the table has a fault, its first slot answers 30."

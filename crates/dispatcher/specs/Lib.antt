@@ -5,5 +5,6 @@ pub mod Slot
 pub mod Kept
 pub mod Run
 pub mod RunKept
+pub mod Bench
 pub mod Usable
 pub mod Classes

@@ -7,7 +7,7 @@ use mathlib.Core.Logic.{_↔_}
 use lib.ListN.{length}
 use Rattle.table.specs.declared.Table.{Table}
 use Rattle.table.specs.Value.{faultOf, rowsOf}
-use Rattle.pd2.specs.Share.{elapsed, within}
+use Rattle.pd2.specs.Share.{elapsed, upper, within}
 use Rattle.pd2.specs.Choice.{rowAt, quantaAt}
 use Rattle.trace.specs.Records.{placeOf, count}
 use Rattle.dispatcher.specs.State.{quantaIn, timeOf}
@@ -39,6 +39,17 @@ module _ (table : Table) (free : ℕ → ℕ) (buffer : List ℕ) (place : ℕ) 
   LateWhenOwed =
       faultOf table ≡ 0 → (m : ℕ) → runFor m .said .number ≡ 0 → runFor (suc m) .said .number < 2 →
       (runFor (suc m) .said .number ≡ 1) ↔ ((i : ℕ) × (i < length (rowsOf table)) × Owed table (runFor (suc m)) i (m + 1))
+
+  -- "at that one the upper limits still hold and the named row has e·a - p·q at least p"
+  pub record FirstLate (m : ℕ) (r : Run) : Type 0 where
+    pub time : r .said .time ≡ m + 1
+    pub is-row : r .said .row < length (rowsOf table)
+    pub owed : Owed table r (r .said .row) (m + 1)
+    pub uppers : (i : ℕ) → i < length (rowsOf table) → upper (rowAt (rowsOf table) i) (quantaNow r i) (m + 1) ≡ true
+
+  abbrev pub FirstLateIsOwed : Type 0
+  FirstLateIsOwed =
+      faultOf table ≡ 0 → (m : ℕ) → runFor m .said .number ≡ 0 → runFor (suc m) .said .number ≡ 1 → FirstLate m (runFor (suc m))
 
   -- D6: the quanta of each row are as many as the records that name it; they stand in the buffer from the place on, one a slot.
   abbrev pub QuantaAreRecords : Type 0

@@ -90,10 +90,8 @@ impl State {
     fn refused(self, answer: Answer) -> Outcome
         ensures { λ r. ⌜ (r .answer ≡ answer) × (r .state ≡ self) ⌝ }
     {
-        Outcome {
-            answer,
-            state: self,
-        }
+        let state = self;
+        Outcome { answer, state }
     }
 
     // The slot is over: the marked rows have one quantum more, time is one higher, and lateness is judged.

@@ -1,8 +1,8 @@
 -- The record of a slot (01, "The trace, in bytes"), and a buffer in which it stands.
 use Prim.Native.Nat.{ℕ, _+_}
-use mathlib.Core.List.{List, [], _∷_, _++_}
-use mathlib.Core.Bool.{Bool, true, false, cond, _||_}
-use lib.Dec.{leb, eqb}
+use mathlib.Core.List.{List, _∷_, _++_}
+use mathlib.Core.Bool.{Bool, true, false, cond}
+use lib.Dec.{leb}
 use lib.ListN.{length, getD, take, drop}
 use Rattle.facts.specs.Counting.{those}
 use Rattle.trace.specs.declared.Stored.{Stored}

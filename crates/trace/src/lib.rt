@@ -19,7 +19,7 @@ pub fn write(part: &mut [u8], free: u8, marks: [bool; 32]) -> Stored
     ensures { λ _. ⌜ now (part .exit) ≡ partAfter (now (part .entry)) (recordOf free (marked marks)) ⌝ }
 {
     let count = how_many(marks);
-    let length = count as usize + 2;
+    let length = record_length(count);
     if part.len() < length {
         return Stored::NoRoom;
     }
@@ -27,6 +27,13 @@ pub fn write(part: &mut [u8], free: u8, marks: [bool; 32]) -> Stored
     part[1] = count;
     put_rows(&mut part[2..], marks);
     Stored::Written
+}
+
+// How many bytes a record of so many rows has.
+fn record_length(count: u8) -> usize
+    ensures { λ r. ⌜ r ≡ 2 + count ⌝ }
+{
+    2 + count as usize
 }
 
 // How many marks are set.

@@ -1,9 +1,9 @@
-use mathlib.Core.Path.{_≡_, refl, sym, ap, _∙_}
+use mathlib.Core.Path.{_≡_, refl, sym, _∙_}
 use mathlib.Core.List.{_++_}
 use mathlib.Core.Bool.{false}
-use Prim.Native.Nat.{_≤_, _<_}
+use Prim.Native.Nat.{_<_}
 use native.Mathlib.Omega.{arith}
-use lib.ListN.{length, take, length-map}
+use lib.ListN.{take, length-map}
 use Rattle.facts.proofs.Lent.{lent-from, comes-back}
 use Rattle.counts.specs.Limits.{timeLimit}
 use Rattle.trace.specs.declared.Stored.the-variants as stored
