@@ -1,13 +1,12 @@
 -- What the lower crates answer about a usable row, and what the functions here make of it. Assumes nothing.
-use Prim.Native.Nat.{ℕ, zero, suc, _+_, _-_, _*_, _%_, _<_}
+use Prim.Native.Nat.{ℕ, _+_, _-_, _*_, _%_, _<_}
 use mathlib.Core.Path.{_≡_, refl, sym, ap, _∙_}
 use mathlib.Core.Bool.{Bool, true, false, not, false≢true}
-use native.Mathlib.Nat.{mul-le-mul, le-of-suc-le-suc, not-suc-le-zero}
+use native.Mathlib.Nat.{mul-le-mul}
 use native.Mathlib.Omega.{arith}
 use borrow.Author.Tests.{eq-eqb, ne-eqb}
 use lib.ListN.{length, getD, length-take, List·getD-map}
 use lib.Seq.{getD-take}
-use mathlib.Core.List.{List, [], _∷_}
 use Rattle.counts.specs.declared.Quanta.{Quanta}
 use Rattle.table.specs.Causes.{zeroRow}
 use Rattle.pd2.specs.declared.Verdict.{Verdict}
@@ -31,6 +30,7 @@ use Rattle.windows.proofs.Windows.{deadline-is-near}
 use Rattle.table.specs.declared.Row.{Row}
 use Rattle.pd2.specs.Ready.{origin, ready}
 use Rattle.pd2.specs.Verdict.{isYes, answered, verdict}
+use Rattle.facts.proofs.Filling.{getD-any}
 use Rattle.pd2.proofs.Verdicts.{yes-if-it-holds}
 use Rattle.dispatcher.specs.Usable.{UsableRow, Usable}
 use Rattle.dispatcher.specs.Classes.{keyOf, groupOf}
@@ -113,12 +113,6 @@ no-group-outside row q key class other = rw (ne-eqb key class other) refl
 pub no-group-at-bit-0 : (row : Row) (q key class : ℕ) → key ≡ class → class % 2 ≡ 1 → 0 ≡ groupOf row q key class
 unfolding groupOf
 no-group-at-bit-0 row q key class same odd = rw (eq-eqb key class same, eq-eqb (class % 2) 1 odd) refl
-
--- A place that is there does not depend on what would stand past the end.
-pub getD-any : {A : Type 0} (l : List A) (i : ℕ) (d d′ : A) → i < length l → getD l i d ≡ getD l i d′
-getD-any [] i d d′ h = absurd (not-suc-le-zero h)
-getD-any (x ∷ l) zero d d′ h = refl
-getD-any (x ∷ l) (suc i) d d′ h = getD-any l i d d′ (le-of-suc-le-suc h)
 
 -- The rows of a state stand in its table,
 pub row-there : (s : State) (i : ℕ) (d : Row) → i < length (rowsIn s) → getD (s .table .rows) i d ≡ rowAt (rowsIn s) i

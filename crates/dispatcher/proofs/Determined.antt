@@ -12,7 +12,8 @@ use Rattle.dispatcher.specs.declared.Answer.{Answer}
 use Rattle.dispatcher.specs.declared.Answer.the-variants.{Done, Late, Broken, Stopped, AtLimit, TooManyCores, NoRoom}
 use Rattle.dispatcher.specs.declared.Outcome.{Outcome}
 use Rattle.dispatcher.specs.State.{freshOf}
-use Rattle.dispatcher.specs.Answer.{Said, saidOf}
+use Rattle.trace.specs.Said.{Said}
+use Rattle.dispatcher.specs.Answer.{saidOf}
 use Rattle.dispatcher.proofs.Refused.{Gives}
 
 -- the answer of a number, row and time

@@ -1,16 +1,16 @@
 -- What is left of a slot once its rows are picked: quanta are given, and lateness is judged. Assumes nothing.
-use Prim.Native.Nat.{ℕ, _+_, _≤_, _<_}
-use mathlib.Core.Path.{_≡_, refl, sym, ap, _∙_}
+use Prim.Native.Nat.{ℕ, _+_, _≤_, _<_, min}
+use mathlib.Core.Path.{_≡_, refl, sym, ap, subst, _∙_}
 use mathlib.Core.List.{List, [], _∷_, map}
 use mathlib.Core.Bool.{Bool, true, false, cond, _&&_, false≢true}
-use native.Mathlib.Decide.{decLt, ℕ-discrete}
+use native.Mathlib.Decide.{decLt}
 use native.Mathlib.Omega.{arith}
-use borrow.Author.Tests.{lt-ltb, le-ltb, ltb-true}
+use borrow.Author.Tests.{lt-ltb, ltb-true}
 use Rattle.facts.proofs.Tests.{both, hold-both}
-use lib.Dec.{ltb}
-use lib.ListN.{length, getD, set, length-set, length-map, List·getD-map, List·getD-eq-default}
-use lib.Seq.{getD-set-same, getD-set-other, ext-getD}
+use lib.ListN.{length, getD, set, length-map, List·getD-map, List·getD-eq-default}
+use lib.Seq.{ext-getD}
 use Rattle.facts.specs.First.{Lowest}
+use Rattle.facts.proofs.First.{same-lowest}
 use Rattle.facts.proofs.Counting.{some-if, none-if, lowest-is-first, none-is-listed}
 use Rattle.counts.specs.declared.Quanta.{Quanta}
 use Rattle.counts.specs.Limits.{timeLimit, kept, most}
@@ -22,67 +22,13 @@ use Rattle.trace.proofs.Records.{listed-are-named}
 use Rattle.dispatcher.specs.declared.State.{State}
 use Rattle.dispatcher.specs.State.{rowsIn, quantaIn, timeOf, counted}
 use Rattle.dispatcher.specs.Broken.{ofRow, someRow}
-use Rattle.dispatcher.specs.Answer.{bare, doneSaid}
+use Rattle.trace.specs.Said.{bare}
+use Rattle.dispatcher.specs.Answer.{doneSaid}
 use Rattle.dispatcher.specs.Slot.{picksIn, lateAt, lateIn, ran}
-use Rattle.dispatcher.specs.Usable.{quantaOf, Usable, CanRun, GaveMarked}
-use Rattle.dispatcher.proofs.Asked.{getD-any}
-
--- i places have been gone through.
-pub record GaveBelow (marks : List Bool) (before after : List Quanta) (i : ℕ) : Type 0 where
-  pub places : length after ≡ length before
-  pub each : (j : ℕ) → quantaOf after j ≡ cond (ltb j i && getD marks j false) (kept (quantaOf before j + 1)) (quantaOf before j)
-
-module _ (marks : List Bool) (before : List Quanta) where
-  -- Giving begins with nothing given,
-  pub giving-begins : GaveBelow marks before before 0
-  giving-begins = record { places = refl; each = λ j. rw (le-ltb j 0 (omega arith)) refl }
-
-  -- a test that is made of one place more changes only there
-  below-next : (j i : ℕ) → (j ≡ i → ⊥) → ltb j (i + 1) ≡ ltb j i
-  below-next j i other = go (decLt j i)
-    where
-      go : Dec (j < i) → ltb j (i + 1) ≡ ltb j i
-      go (yes l) = lt-ltb j (i + 1) (omega arith) ∙ sym (lt-ltb j i l)
-      go (no l) = le-ltb j (i + 1) (omega arith) ∙ sym (le-ltb j i (omega arith))
-
-  module _ {after : List Quanta} {i : ℕ} (so : GaveBelow marks before after i) where
-    -- gives to a marked place,
-    pub gives-marked : i < length before → getD marks i false ≡ true → (d v : Quanta) → v .0 ≡ kept (getD after i d .0 + 1) → i < length after →
-        GaveBelow marks before (set after i v) (i + 1)
-    gives-marked l h d v e there =
-        record { places = length-set after i v ∙ so .places; each = λ j. at j (ℕ-discrete j i) }
-      where
-        own : quantaOf after i ≡ quantaOf before i
-        own = so .each i ∙ rw (le-ltb i i (omega arith)) refl
-
-        at : (j : ℕ) → Dec (j ≡ i) → quantaOf (set after i v) j ≡ cond (ltb j (i + 1) && getD marks j false) (kept (quantaOf before j + 1)) (quantaOf before j)
-        at j (yes same) =
-            rw (same, lt-ltb i (i + 1) (omega arith), h)
-            (ap (λ q. q .0) (getD-set-same after i v (record { 0 = 0 }) there)
-            ∙ (e ∙ (ap (λ q. kept (q .0 + 1)) (getD-any after i d (record { 0 = 0 }) there) ∙ ap (λ q. kept (q + 1)) own)))
-        at j (no other) = ap (λ q. q .0) (getD-set-other after i j v (record { 0 = 0 }) other) ∙ (so .each j ∙ rw (below-next j i other) refl)
-
-    -- and passes over one that is not.
-    pub gives-no-unmarked : getD marks i false ≡ false → GaveBelow marks before after (i + 1)
-    gives-no-unmarked h = record { places = so .places; each = λ j. so .each j ∙ at j (ℕ-discrete j i) }
-      where
-        and-false : (b : Bool) → b && false ≡ false
-        and-false true = refl
-        and-false false = refl
-
-        at : (j : ℕ) → Dec (j ≡ i) → cond (ltb j i && getD marks j false) (kept (quantaOf before j + 1)) (quantaOf before j)
-            ≡ cond (ltb j (i + 1) && getD marks j false) (kept (quantaOf before j + 1)) (quantaOf before j)
-        at j (yes same) = rw (same, h, and-false (ltb i i), and-false (ltb i (i + 1))) refl
-        at j (no other) = rw (below-next j i other) refl
-
-  -- At the end each marked place has been given one.
-  pub all-gone-through : {after : List Quanta} {i : ℕ} → GaveBelow marks before after i → length marks ≤ i → GaveMarked marks before after
-  all-gone-through {i = i} so h = record { places = so .places; each = λ j. so .each j ∙ at j (decLt j i) }
-    where
-      at : (j : ℕ) → Dec (j < i) → cond (ltb j i && getD marks j false) (kept (quantaOf before j + 1)) (quantaOf before j)
-          ≡ cond (getD marks j false) (kept (quantaOf before j + 1)) (quantaOf before j)
-      at j (yes l) = rw (lt-ltb j i l) refl
-      at j (no l) = rw (le-ltb j i (omega arith), List·getD-eq-default marks false {n = j} (omega arith)) refl
+use Rattle.table.specs.Causes.{zeroRow}
+use Rattle.pd2.specs.Rows.{quantaOf, GaveMarked, isLate}
+use Rattle.dispatcher.specs.Usable.{Usable, CanRun}
+use Rattle.dispatcher.proofs.Asked.{answered-there}
 
 -- counts as the state keeps them are the numbers they hold
 counted-back : (l : List Quanta) → counted (map (λ q. q .0) l) ≡ l
@@ -167,6 +113,16 @@ pub marked-are-small : (s : State) (marks : List Bool) → CanRun s marks → (i
 marked-are-small s marks can i h =
     let row = can .usable .rows i (can .only-rows i h) in
     omega (arith, row .quanta, row .time, sym (List·getD-map (λ q. q .0) (s .quanta) i (record { 0 = 0 })))
+
+-- The lowest late row that the arrays show is the state's.
+pub lowest-of-state : (s : State) → Usable s → {i : ℕ} → Lowest (isLate (s .table .rows) (s .quanta) (timeOf s)) (min (s .table .count) 32) i →
+    Lowest (ofRow s (lateAt (timeOf s))) (length (rowsIn s)) i
+lowest-of-state s u {i} low =
+    let place = u .place in
+    let bound : min (s .table .count) 32 ≡ length (rowsIn s) = omega (arith, place .few, place .all) in
+    same-lowest (isLate (s .table .rows) (s .quanta) (timeOf s)) (ofRow s (lateAt (timeOf s))) (length (rowsIn s)) i
+    (λ j l. answered-there s u j l zeroRow (record { 0 = 0 }) (lateAt (timeOf s)) refl refl)
+    (subst (λ n. Lowest (isLate (s .table .rows) (s .quanta) (timeOf s)) n i) bound low)
 
 -- The lowest late row is named, and the state is stopped;
 pub late-is-said : (s : State) (i : ℕ) → Lowest (ofRow s (lateAt (timeOf s))) (length (rowsIn s)) i → i < length (rowsIn s) →

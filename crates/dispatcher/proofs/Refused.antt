@@ -19,7 +19,8 @@ use Rattle.dispatcher.specs.declared.Answer.{Answer}
 use Rattle.dispatcher.specs.declared.Outcome.{Outcome}
 use Rattle.dispatcher.specs.State.{timeOf}
 use Rattle.dispatcher.specs.Broken.{broken}
-use Rattle.dispatcher.specs.Answer.{bare, saidOf, doneSaid}
+use Rattle.trace.specs.Said.{bare}
+use Rattle.dispatcher.specs.Answer.{saidOf, doneSaid}
 use Rattle.dispatcher.specs.Slot.{picksIn, recordIn, lateIn, lacksRoom, oneOn, stepped, refusal, slotOf}
 
 -- which of its two answers the writer gave

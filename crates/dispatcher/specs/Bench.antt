@@ -11,7 +11,7 @@ use Rattle.table.specs.declared.Table.{Table}
 use Rattle.table.specs.Limits.{rowLimit}
 use Rattle.table.specs.Causes.{zeroRow}
 use Rattle.trace.specs.Records.{namedIn}
-use Rattle.dispatcher.specs.Answer.{Said, bare}
+use Rattle.trace.specs.Said.{Said, bare}
 use Rattle.dispatcher.specs.Run.{run}
 
 -- rows e/p with phase 0

@@ -14,7 +14,7 @@ use Rattle.trace.specs.Record.{withRecord}
 use Rattle.dispatcher.specs.declared.State.{State}
 use Rattle.dispatcher.specs.State.{rowsIn, timeOf, freshOf}
 use Rattle.dispatcher.specs.Broken.{ofRow, broken}
-use Rattle.dispatcher.specs.Answer.{Said}
+use Rattle.trace.specs.Said.{Said}
 use Rattle.dispatcher.specs.Slot.{recordIn, lateAt, stepped, slotTests, slotOf}
 
 -- Each number 30 to 34 is answered exactly when its cause is the first met.

@@ -5,7 +5,7 @@ use lib.ListN.{length}
 use Rattle.table.specs.declared.Table.{Table}
 use Rattle.dispatcher.specs.declared.State.{State}
 use Rattle.dispatcher.specs.State.{freshOf}
-use Rattle.dispatcher.specs.Answer.{Said, bare}
+use Rattle.trace.specs.Said.{Said, bare}
 use Rattle.dispatcher.specs.Slot.{recordIn, Given, slotOf}
 
 -- The last answer, the state, the buffer, and the place behind the last record.

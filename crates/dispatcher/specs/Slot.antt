@@ -15,7 +15,8 @@ use Rattle.trace.specs.Records.{names}
 use Rattle.dispatcher.specs.declared.State.{State}
 use Rattle.dispatcher.specs.State.{rowsIn, quantaIn, timeOf, counted}
 use Rattle.dispatcher.specs.Broken.{ofRow, someRow, broken}
-use Rattle.dispatcher.specs.Answer.{Said, bare, doneSaid}
+use Rattle.trace.specs.Said.{Said, bare}
+use Rattle.dispatcher.specs.Answer.{doneSaid}
 
 -- the rows that PD2 picks in a state's slot, with k cores free
 abbrev pub picksIn : State → ℕ → List ℕ

@@ -1,20 +1,15 @@
 -- What the functions of this crate ask of a state, and of its rows, once it is known not to be broken.
-use Prim.Native.Nat.{ℕ, _+_, _≤_, _<_}
+use Prim.Native.Nat.{ℕ, _≤_, _<_}
 use mathlib.Core.Path.{_≡_}
 use mathlib.Core.List.{List}
-use mathlib.Core.Bool.{Bool, true, false, cond}
+use mathlib.Core.Bool.{Bool, true, false}
 use lib.ListN.{length, getD}
-use Rattle.counts.specs.declared.Quanta.{Quanta}
-use Rattle.counts.specs.Limits.{timeLimit, kept}
+use Rattle.counts.specs.Limits.{timeLimit}
 use Rattle.table.specs.declared.Row.{Row}
 use Rattle.table.specs.Limits.{rowLimit}
 use Rattle.pd2.specs.Choice.{rowAt, quantaAt}
 use Rattle.dispatcher.specs.declared.State.{State}
 use Rattle.dispatcher.specs.State.{rowsIn, quantaIn, timeOf}
-
--- the quanta at a place
-abbrev pub quantaOf : List Quanta → ℕ → ℕ
-quantaOf quanta i = getD quanta i (record { 0 = 0 }) .0
 
 -- A row that can be, with quanta and a time within their limits.
 pub record UsableRow (row : Row) (q t : ℕ) : Type 0 where
@@ -39,8 +34,3 @@ pub record CanRun (s : State) (marks : List Bool) : Type 0 where
   pub usable : Usable s
   pub only-rows : (i : ℕ) → getD marks i false ≡ true → i < length (rowsIn s)
   pub early : timeOf s < timeLimit
-
--- Each marked place has one quantum more.
-pub record GaveMarked (marks : List Bool) (before after : List Quanta) : Type 0 where
-  pub places : length after ≡ length before
-  pub each : (i : ℕ) → quantaOf after i ≡ cond (getD marks i false) (kept (quantaOf before i + 1)) (quantaOf before i)

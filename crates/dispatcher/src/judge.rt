@@ -1,11 +1,7 @@
-// Whether a state is broken, and which row is late.
+// Whether a state is broken.
 use crate::State;
 ghost use mathlib.Core.Path.{_≡_};
-ghost use lib.ListN.{length};
-ghost use Rattle.facts.specs.First.{Lowest};
-ghost use Rattle.dispatcher.specs.State.{rowsIn, timeOf};
-ghost use Rattle.dispatcher.specs.Broken.{someRow, ofRow, exceeds, outsideShare, broken};
-ghost use Rattle.dispatcher.specs.Slot.{lateAt};
+ghost use Rattle.dispatcher.specs.Broken.{someRow, exceeds, outsideShare, broken};
 ghost use Rattle.dispatcher.specs.Usable.{InPlace, Usable};
 
 // Whether the state is broken. The state may be wild: only what passed is looked at further.
@@ -64,24 +60,4 @@ fn is_outside_share(state: State) -> bool
         i += 1;
     }
     false
-}
-
-// The lowest row that is late at the state's time, or the row count where none is.
-pub(crate) fn lowest_late(state: State) -> usize
-    requires { ⌜ Usable state ⌝ }
-    ensures { λ r. ⌜ Lowest (ofRow state (lateAt (timeOf state))) (length (rowsIn state)) r ⌝ }
-{
-    let table = state.table;
-    let n = table.count as usize;
-    let mut i: usize = 0;
-    while i < n {
-        let row = table.rows[i];
-        let given = state.quanta[i];
-        let verdict = pd2::late(row, given, state.time);
-        if verdict.is_yes() {
-            return i;
-        }
-        i += 1;
-    }
-    n
 }

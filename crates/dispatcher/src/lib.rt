@@ -14,7 +14,7 @@ ghost use Prim.Native.Nat.{_+_};
 ghost use Rattle.trace.specs.Records.{names};
 ghost use Rattle.dispatcher.specs.State.{timeOf};
 ghost use Rattle.dispatcher.specs.Slot.{slotOf, ran, judged, lateIn};
-ghost use Rattle.dispatcher.specs.Usable.{Usable, CanRun, GaveMarked};
+ghost use Rattle.dispatcher.specs.Usable.{Usable, CanRun};
 
 pub struct State {
     pub table: Table,
@@ -109,7 +109,7 @@ impl State {
         ensures { λ r. ⌜ r ≡ ran self (names (marked marks)) ⌝ }
     {
         let given = self.quanta;
-        let quanta = give(given, marks);
+        let quanta = pd2::give(given, marks);
         self.quanta = quanta;
         let time = self.time.later(1);
         self.time = time;
@@ -124,7 +124,9 @@ impl State {
     {
         let table = self.table;
         let n = table.count as usize;
-        let late = judge::lowest_late(self);
+        let rows = table.rows;
+        let quanta = self.quanta;
+        let late = pd2::lowest_late(rows, quanta, n, self.time);
         if late < n {
             self.stopped = true;
             let time = self.time;
@@ -143,19 +145,4 @@ impl State {
             state: self,
         }
     }
-}
-
-// One quantum more for each marked row.
-fn give(mut quanta: [Quanta; 32], marks: [bool; 32]) -> [Quanta; 32]
-    ensures { λ r. ⌜ GaveMarked marks quanta r ⌝ }
-{
-    let mut i: usize = 0;
-    while i < 32 {
-        let given = quanta[i];
-        if marks[i] {
-            quanta[i] = given.one_more();
-        }
-        i += 1;
-    }
-    quanta
 }

@@ -2,16 +2,16 @@
 use Prim.Native.Nat.{ℕ, zero, suc, _+_, _≤_, _<_}
 use mathlib.Core.Path.{_≡_, refl, sym, _∙_}
 use mathlib.Core.List.{List, [], _∷_, map}
-use mathlib.Core.Bool.{Bool, true, false, cond, not}
-use mathlib.Core.Logic.{_↔_}
+use mathlib.Core.Bool.{Bool, true, false, cond, not, _&&_}
+use mathlib.Core.Logic.{_↔_, _⊎_, inl, inr}
 use native.Mathlib.Nat.{le-of-suc-le-suc, not-suc-le-zero}
 use native.Mathlib.Omega.{arith}
 use native.Mathlib.Numerals.{add-one}
-use lib.Dec.{eqb}
+use lib.Dec.{leb, eqb}
 use lib.ListN.{length, drop, getD, drop-of-length-le}
 use lib.Seq.{drop-cons}
-use borrow.Author.Tests.{eqb-false, not-true}
-use Rattle.facts.specs.Faults.{Test, _then_, _orElse_, firstMet, FirstMet, NoneMet, numbered, rising, Passed}
+use borrow.Author.Tests.{eqb-false, not-true, leb-true}
+use Rattle.facts.specs.Faults.{ranged, Test, _then_, _orElse_, firstMet, FirstMet, NoneMet, numbered, rising, Passed}
 use Rattle.facts.proofs.Tests.{both}
 
 -- for callers
@@ -199,3 +199,36 @@ module _ {A : Type 0} (tests : ℕ → A → List Test) (above key : A → ℕ) 
       omega (arith, next x, at-least (above x) l (first .1) j (le-of-suc-le-suc k))
   passed-rise least (x ∷ l) h (suc i) (suc j) b k =
       passed-rise (above x) l (neither (firstMet (tests least x)) _ (sym (in-turn (tests least x) _) ∙ h) .1) i j (le-of-suc-le-suc b) (le-of-suc-le-suc k)
+
+-- Joined lists of tests are ranged if both are,
+pub both-ranged : (lo hi : ℕ) (a b : List Test) → ranged lo hi a ≡ true → ranged lo hi b ≡ true → ranged lo hi (a then b) ≡ true
+unfolding ranged
+both-ranged lo hi [] b p q = q
+both-ranged lo hi (t ∷ a) b p q =
+    let x = both (leb lo (t .number) && leb (t .number) hi) (ranged lo hi a) p in
+    rw (x .0) (both-ranged lo hi a b (x .1) q)
+
+-- and tests of elements if those of each element are.
+pub rising-ranged : {A : Type 0} (lo hi : ℕ) (tests : ℕ → A → List Test) (above : A → ℕ) → ((least : ℕ) (x : A) → ranged lo hi (tests least x) ≡ true) →
+    (least : ℕ) (l : List A) → ranged lo hi (rising tests above least l) ≡ true
+unfolding rising ranged
+rising-ranged lo hi tests above each least [] = refl
+rising-ranged lo hi tests above each least (x ∷ l) = both-ranged lo hi (tests least x) _ (each least x) (rising-ranged lo hi tests above each (above x) l)
+
+-- The number of the first fault met is none, or lies in the range.
+pub met-in-range : (lo hi : ℕ) (ts : List Test) → ranged lo hi ts ≡ true → (firstMet ts ≡ 0) ⊎ ((lo ≤ firstMet ts) × (firstMet ts ≤ hi))
+unfolding ranged firstMet
+met-in-range lo hi [] r = inl refl
+met-in-range lo hi (t ∷ ts) r = go (t .cause) (t .number) refl (met-in-range lo hi ts (rest .1))
+  where
+    rest : (leb lo (t .number) && leb (t .number) hi ≡ true) × (ranged lo hi ts ≡ true)
+    rest = both (leb lo (t .number) && leb (t .number) hi) (ranged lo hi ts) r
+
+    bounds : (lo ≤ t .number) × (t .number ≤ hi)
+    bounds = let x = both (leb lo (t .number)) (leb (t .number) hi) (rest .0) in (leb-true lo (t .number) (x .0), leb-true (t .number) hi (x .1))
+
+    go : (c : Bool) (k : ℕ) → t .number ≡ k → (firstMet ts ≡ 0) ⊎ ((lo ≤ firstMet ts) × (firstMet ts ≤ hi)) →
+        ((cond c k 0 orElse firstMet ts) ≡ 0) ⊎ ((lo ≤ (cond c k 0 orElse firstMet ts)) × ((cond c k 0 orElse firstMet ts) ≤ hi))
+    go true zero e later = later
+    go true (suc k) e later = inr (omega (arith, bounds, e), omega (arith, bounds, e))
+    go false k e later = later

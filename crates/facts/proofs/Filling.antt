@@ -1,7 +1,8 @@
 -- Filling from the front, one place a turn. Assumes nothing.
 use mathlib.Core.Path.{_≡_, refl, sym, ap, _∙_}
 use mathlib.Core.List.{List, [], _∷_, _++_}
-use Prim.Native.Nat.{ℕ, suc, _+_, _-_, _≤_, _<_}
+use Prim.Native.Nat.{ℕ, zero, suc, _+_, _-_, _≤_, _<_}
+use native.Mathlib.Nat.{le-of-suc-le-suc, not-suc-le-zero}
 use native.Mathlib.Numerals.{add-one}
 use native.Mathlib.Omega.{arith}
 use native.Mathlib.Decide.{decLt}
@@ -57,3 +58,9 @@ module _ {A : Type 0} (f : ℕ → A) (z d : A) (size : ℕ) where
       here j k (no m) =
           let same : j ≡ i = omega arith in
           ap (λ x. getD (set l i v) x d) same ∙ (getD-set-same l i v d (omega (arith, so .long)) ∙ (e ∙ ap f (sym same)))
+
+-- A place that is there does not depend on what would stand past the end.
+pub getD-any : {A : Type 0} (l : List A) (i : ℕ) (d d′ : A) → i < length l → getD l i d ≡ getD l i d′
+getD-any [] i d d′ h = absurd (not-suc-le-zero h)
+getD-any (x ∷ l) zero d d′ h = refl
+getD-any (x ∷ l) (suc i) d d′ h = getD-any l i d d′ (le-of-suc-le-suc h)

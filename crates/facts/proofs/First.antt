@@ -4,7 +4,7 @@ use mathlib.Core.Bool.{Bool, true, false, true≢false}
 use Prim.Native.Nat.{ℕ, zero, suc, _+_, _-_, _≤_, _<_}
 use native.Mathlib.Decide.{decLt}
 use native.Mathlib.Omega.{arith}
-use Rattle.facts.specs.First.{atFirst, Reached, Found}
+use Rattle.facts.specs.First.{atFirst, Reached, Found, Lowest}
 
 module _ (fits : ℕ → Bool) (gives : ℕ → ℕ) where
   -- a search of one place or more stops where the place fits
@@ -76,3 +76,21 @@ module _ (fits : ℕ → Bool) (gives : ℕ → ℕ) where
   -- For callers: if some place m of the n fits, the search gives the value of the first that does.
   pub found : {i n m : ℕ} → i ≤ m → m < i + n → fits m ≡ true → Found fits gives i n m
   found {i} {n} {m} l h f = found-from i n m l h f n i refl (begins i n)
+
+-- There is one lowest number that passes,
+pub lowest-is-one : (a : ℕ → Bool) (n i j : ℕ) → Lowest a n i → Lowest a n j → i ≡ j
+lowest-is-one a n i j p q = go (decLt i j) (decLt j i)
+  where
+    go : Dec (i < j) → Dec (j < i) → i ≡ j
+    go (yes l) m = absurd (true≢false (sym (p .passes (omega (arith, q .within))) ∙ q .none-before i l))
+    go (no l) (yes m) = absurd (true≢false (sym (q .passes (omega (arith, p .within))) ∙ p .none-before j m))
+    go (no l) (no m) = omega arith
+
+-- and tests that agree have the same.
+pub same-lowest : (a b : ℕ → Bool) (n i : ℕ) → ((j : ℕ) → j < n → a j ≡ b j) → Lowest a n i → Lowest b n i
+same-lowest a b n i same low =
+    record {
+      within = low .within;
+      passes = λ l. sym (same i l) ∙ low .passes l;
+      none-before = λ j l. sym (same j (omega (arith, low .within))) ∙ low .none-before j l;
+    }

@@ -7,3 +7,4 @@ pub mod Filling
 pub mod Places
 pub mod Determined
 pub mod Lent
+pub mod Findings

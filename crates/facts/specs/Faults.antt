@@ -3,7 +3,7 @@ use Prim.Native.Nat.{ℕ, zero, suc, _≤_}
 use mathlib.Core.Path.{_≡_}
 use mathlib.Core.List.{List, [], _∷_, _++_}
 use mathlib.Core.Bool.{Bool, true, false, cond, _&&_, not}
-use lib.Dec.{eqb}
+use lib.Dec.{leb, eqb}
 use lib.ListN.{length, drop}
 
 infix 70 _⇒_
@@ -47,6 +47,11 @@ pub data NoneMet : List Test → Type 0 where
 unfoldable pub numbered : List Test → Bool
 numbered [] = true
 numbered (t ∷ ts) = not (eqb (t .number) 0) && numbered ts
+
+-- Every test has a number from lo to hi.
+unfoldable pub ranged : ℕ → ℕ → List Test → Bool
+ranged lo hi [] = true
+ranged lo hi (t ∷ ts) = leb lo (t .number) && leb (t .number) hi && ranged lo hi ts
 
 -- Tests of elements one after the other, where something has to rise: each element is tested with the least that may stand in its
 -- place, and `above` it is the least that may stand in the next.

@@ -4,3 +4,4 @@ pub mod Counting
 pub mod Faults
 pub mod Places
 pub mod Determined
+pub mod Findings

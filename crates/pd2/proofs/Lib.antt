@@ -5,3 +5,4 @@ pub mod Choice
 pub mod Verdicts
 pub mod Bench
 pub mod Confession
+pub mod Rows

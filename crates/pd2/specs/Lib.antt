@@ -4,5 +4,6 @@ pub mod Order
 pub mod Picks
 pub mod Choice
 pub mod Verdict
+pub mod Rows
 pub mod Bench
 pub mod Confession

@@ -4,11 +4,13 @@ use counts::Slot;
 use table::Row;
 ghost use mathlib.Core.Path.{_≡_};
 ghost use mathlib.Core.Bool.{true};
-ghost use Prim.Native.Nat.{_*_, _<_, _≤_};
+ghost use Prim.Native.Nat.{_*_, _<_, _≤_, min};
+ghost use Rattle.facts.specs.First.{Lowest};
 ghost use Rattle.windows.specs.Fits.{furthest, products};
 ghost use Rattle.pd2.specs.Ready.{origin, ready, late};
 ghost use Rattle.pd2.specs.Share.{lower, upper, upperPlain, upperEarly, within};
 ghost use Rattle.pd2.specs.Verdict.{isYes, answered, verdict, Near};
+ghost use Rattle.pd2.specs.Rows.{GaveMarked, isLate};
 
 // The answer to a question about one row.
 pub enum Verdict {
@@ -141,4 +143,43 @@ fn product(number: u64, factor: u16) -> u64
     ensures { λ r. ⌜ (r ≡ number * factor) × (r < products) ⌝ }
 {
     number * (factor as u64)
+}
+
+// One quantum more for each marked row: "each picked row has one quantum more".
+pub fn give(mut quanta: [Quanta; 32], marks: [bool; 32]) -> [Quanta; 32]
+    ensures { λ r. ⌜ GaveMarked marks quanta r ⌝ }
+{
+    let mut i: usize = 0;
+    while i < 32 {
+        let given = quanta[i];
+        if marks[i] {
+            quanta[i] = given.one_more();
+        }
+        i += 1;
+    }
+    quanta
+}
+
+// The lowest row below n that is late, or n where none is; no more than 32 rows are looked at.
+pub fn lowest_late(rows: [Row; 32], quanta: [Quanta; 32], n: usize, time: Slot) -> usize
+    ensures { λ r. ⌜ Lowest (isLate rows quanta (time .0)) (min n 32) r ⌝ }
+{
+    let last = at_most_32(n);
+    let mut i: usize = 0;
+    while i < last {
+        let row = rows[i];
+        let given = quanta[i];
+        let verdict = late(row, given, time);
+        if verdict.is_yes() {
+            return i;
+        }
+        i += 1;
+    }
+    last
+}
+
+fn at_most_32(n: usize) -> usize
+    ensures { λ r. ⌜ (r ≡ min n 32) × (r ≤ 32) ⌝ }
+{
+    if n < 32 { n } else { 32 }
 }

@@ -10,10 +10,10 @@ use lib.Seq.{length-take-le, getD-take}
 use borrow.Author.Tests.{ltb-true, ltb-false, eqb-true, eqb-false, not-false}
 use lib.Dec.{ltb, eqb}
 use lib.ListN.{length, getD, take}
-use Rattle.facts.specs.Faults.{_then_, firstMet, numbered}
+use Rattle.facts.specs.Faults.{_then_, firstMet, numbered, ranged}
 use Rattle.facts.specs.Determined.{Determined}
 use Rattle.facts.proofs.Determined.{by-value}
-use Rattle.facts.proofs.Faults.{neither, passed, none-at-all, both-numbered, rising-numbered, answered-exactly, none-exactly, passes-as-read, each-passed, passed-rise}
+use Rattle.facts.proofs.Faults.{neither, passed, none-at-all, both-numbered, rising-numbered, answered-exactly, none-exactly, passes-as-read, each-passed, passed-rise, both-ranged, rising-ranged, met-in-range}
 use Rattle.facts.proofs.Places.{first-are-read, others-are-nothing, how-many-padded}
 use Rattle.fields.specs.Fields.{byte, shorter}
 use Rattle.table.specs.declared.Row.{Row}
@@ -23,7 +23,7 @@ use Rattle.table.specs.Limits.{cycleLimit, coreLimit, rowLimit}
 use Rattle.table.specs.Causes.{rowTests, tankAbove, load, zeroRow, outside, boardTests, boardAbove}
 use Rattle.table.specs.Value.{boardsOf, rowsOf, sizeTests, boardsTests, countTests, rowsTests, sumTests, faultOf}
 use Rattle.table.specs.Bytes.{cycleIn, coresIn, countIn, rowsPlace, boardPlaces, rowPlaces, rowAt, boardTestsIn, rowTestsIn, headTests, boardsTestsIn, countTestsIn, rowsTestsIn, lastTests, tableTests, tableNumber, tableIn, noTable, readingOf, reading}
-use Rattle.table.specs.Taken.{NumbersAreFirstCauses, TakenWhereNoCause, TakenHasNoFault, PastIsZero, Sound, RowsAreSound, SumIsWithin, SizesAreWithin, BoardsRise, TanksRise}
+use Rattle.table.specs.Taken.{NumbersAreFirstCauses, NumbersAre10To22, TakenWhereNoCause, TakenHasNoFault, PastIsZero, Sound, RowsAreSound, SumIsWithin, SizesAreWithin, BoardsRise, TanksRise}
 use Rattle.table.proofs.Value.{not-outside, no-fault}
 use Rattle.table.proofs.Answers.{head-passed}
 
@@ -61,6 +61,17 @@ numbers-are-first-causes s k h = answered-exactly (tableTests s) (all-numbered s
 pub taken-where-no-cause : TakenWhereNoCause
 unfolding tableNumber
 taken-where-no-cause s = none-exactly (tableTests s) (all-numbered s)
+
+-- A number that is answered is 0, or one of 10 to 22.
+pub numbers-are-10-to-22 : NumbersAre10To22
+unfolding tableNumber ranged
+numbers-are-10-to-22 s =
+    let boards = rising-ranged 10 22 (boardTestsIn s) (λ i. boardAbove (byte s i)) (λ least i. refl) 0 (boardPlaces s) in
+    let rows = rising-ranged 10 22 (rowTestsIn s (cycleIn s)) (λ i. tankAbove (rowAt s i)) (λ least i. refl) 0 (rowPlaces s) in
+    let after-rows = both-ranged 10 22 (rowsTestsIn s) (lastTests s) rows refl in
+    let after-count = both-ranged 10 22 (countTestsIn s) (rowsTestsIn s then lastTests s) refl after-rows in
+    let after-boards = both-ranged 10 22 (boardsTestsIn s) (countTestsIn s then rowsTestsIn s then lastTests s) boards after-count in
+    met-in-range 10 22 (tableTests s) (both-ranged 10 22 (headTests s) (boardsTestsIn s then countTestsIn s then rowsTestsIn s then lastTests s) refl after-boards)
 
 -- Where there is a fault, it has no table.
 pub no-table-read : (s : List ℕ) → (tableNumber s ≡ 0 → ⊥) → reading s .table ≡ noTable

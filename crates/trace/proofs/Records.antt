@@ -11,13 +11,13 @@ use lib.Dec.{ltb, eqb}
 use lib.ListN.{length, take, drop, length-drop, take-append-drop, List·getD-append}
 use lib.Seq.{length-take-le, take-append-seam, take-append-le, drop-append-le, drop-append-add, getD-append-add}
 use Rattle.facts.specs.Counting.{howMany, those}
-use Rattle.facts.proofs.Counting.{same-count, none-listed, listed-if-passed, unlisted-if-failed}
+use Rattle.facts.proofs.Counting.{same-count, counted-if-passed, uncounted-if-failed, none-listed, listed-if-passed, unlisted-if-failed}
 use Rattle.fields.specs.Fields.{byte}
 use Rattle.trace.specs.Record.{recordOf, withFront, withRecord}
 use Rattle.trace.specs.Records.{countAt, rowsAt, pastRecord, placeOf, names, namedIn, count}
 
 -- A longer list names what its parts name.
-names-either : (a b : List ℕ) (row : ℕ) → names (a ++ b) row ≡ names a row || names b row
+pub names-either : (a b : List ℕ) (row : ℕ) → names (a ++ b) row ≡ names a row || names b row
 unfolding names
 names-either [] b row = refl
 names-either (x ∷ a) b row = rw (names-either a b row) (or-assoc (eqb x row) (names a row) (names b row))
@@ -165,3 +165,11 @@ module _ (b : List ℕ) (from t k : ℕ) (rows : List ℕ) (inside : placeOf b f
   named-once-more row =
       named-too (take (placeOf b from t) b) (drop (placeOf b from t) b) _ rows k from t fills row
       ∙ ap (λ s. count s from row t + cond (names rows row) 1 0) (take-append-drop (placeOf b from t) b)
+
+-- A row that the record of slot t names is counted,
+pub counted-if-named : (s : List ℕ) (from row t : ℕ) → namedIn s from row t ≡ true → count s from row (t + 1) ≡ count s from row t + 1
+counted-if-named s from row t h = counted-if-passed (namedIn s from row) t h
+
+-- and a row that it does not name is not.
+pub uncounted-if-not-named : (s : List ℕ) (from row t : ℕ) → namedIn s from row t ≡ false → count s from row (t + 1) ≡ count s from row t
+uncounted-if-not-named s from row t h = uncounted-if-failed (namedIn s from row) t h

@@ -1,2 +1,3 @@
 pub mod Record
 pub mod Records
+pub mod Said

@@ -5,7 +5,7 @@ use mathlib.Core.Bool.{Bool, false, _||_}
 use lib.Dec.{eqb}
 use lib.ListN.{take, drop}
 use Rattle.facts.specs.Counting.{howMany}
-use Rattle.fields.specs.Fields.{byte}
+use Rattle.fields.specs.Fields.{byte, word}
 
 -- "cores free k (1), rows picked c (1), and c row numbers rising strictly (1 each)": the record that begins at a place
 abbrev pub freeAt : List ℕ → ℕ → ℕ
@@ -38,3 +38,21 @@ namedIn s from row t = names (rowsAt s (placeOf s from t)) row
 -- how many of the first t records name a row
 abbrev pub count : List ℕ → ℕ → ℕ → ℕ → ℕ
 count s from row t = howMany (namedIn s from row) t
+
+-- "Slot count (4, at most 1,000,000,000), then one record a slot": the trace's count, and where the record of slot 0 begins
+abbrev pub slotsIn : List ℕ → ℕ
+slotsIn s = word s 0
+
+abbrev pub firstPlace : ℕ
+firstPlace = 4
+
+-- where the record of slot t of a trace begins, and its rows
+abbrev pub placeIn : List ℕ → ℕ → ℕ
+placeIn s t = placeOf s firstPlace t
+
+abbrev pub rowsIn : List ℕ → ℕ → List ℕ
+rowsIn s t = rowsAt s (placeIn s t)
+
+-- how many of the first t records of a trace name a row
+abbrev pub countIn : List ℕ → ℕ → ℕ → ℕ
+countIn s row t = count s firstPlace row t

@@ -4,9 +4,9 @@ use Prim.Native.Nat.{_-_, _≤_}
 use native.Mathlib.Omega.{arith}
 use borrow.Author.Needs.{needs}
 use lib.ListN.{length}
-use Rattle.dispatcher.proofs.Ran.{GaveBelow, giving-begins, gives-marked, gives-no-unmarked, all-gone-through}
-use Rattle.dispatcher.proofs.give.Statement.{statement}
-use Rattle.dispatcher.proofs.give.Tie as tie
+use Rattle.pd2.proofs.Rows.{GaveBelow, giving-begins, gives-marked, gives-no-unmarked, all-gone-through}
+use Rattle.pd2.proofs.give.Statement.{statement}
+use Rattle.pd2.proofs.give.Tie as tie
 
 abbrev Inv-loop : tie.InvT-loop
 Inv-loop quanta₀ marks i₀ quanta i = GaveBelow marks quanta₀ quanta i × (i ≤ 32)

@@ -1,0 +1,48 @@
+-- What is asked of the rows of a table in a slot. Assumes nothing.
+use Prim.Native.Nat.{ℕ, _<_}
+use mathlib.Core.Path.{_≡_, refl, sym, _∙_}
+use mathlib.Core.List.{List}
+use mathlib.Core.Bool.{Bool, true, false, not, _&&_}
+use native.Mathlib.Omega.{arith}
+use borrow.Author.Tests.{lt-ltb, le-leb}
+use lib.ListN.{length, getD, length-take}
+use lib.Seq.{getD-take}
+use Rattle.facts.proofs.Filling.{getD-any}
+use Rattle.counts.specs.declared.Quanta.{Quanta}
+use Rattle.table.specs.declared.Row.{Row}
+use Rattle.table.specs.declared.Table.{Table}
+use Rattle.table.specs.Causes.{zeroRow}
+use Rattle.table.specs.Value.{rowsOf}
+use Rattle.table.proofs.Taken.{rows-are-sound}
+use Rattle.pd2.specs.Ready.{ready}
+use Rattle.pd2.specs.Verdict.{isYes, answered, verdict}
+use Rattle.pd2.specs.Choice.{rowAt}
+use Rattle.pd2.specs.Rows.{quantaOf}
+use Rattle.checker.specs.Walking.{Askable, isEarly}
+
+-- An answered question is answered yes exactly if it holds.
+pub yes-when-answered : (holds : Bool) {a : Bool} → a ≡ true → isYes (verdict a holds) ≡ holds
+yes-when-answered true e = rw e refl
+yes-when-answered false e = rw e refl
+
+-- The rows of a table stand in its array.
+pub row-there : (table : Table) (i : ℕ) (d : Row) → i < length (rowsOf table) → getD (table .rows) i d ≡ rowAt (rowsOf table) i
+row-there table i d l =
+    getD-any (table .rows) i d zeroRow (omega (arith, length-take (table .count) (table .rows)))
+    ∙ sym (getD-take (table .count) (table .rows) i zeroRow (omega (arith, length-take (table .count) (table .rows))))
+
+module _ (table : Table) (quanta : List Quanta) (t : ℕ) (ask : Askable table quanta t) (i : ℕ) (l : i < length (rowsOf table)) (d : Row) (q : Quanta) where
+  there : i < length quanta
+  there = omega (arith, ask .long, ask .can .few, ask .can .all)
+
+  -- Each row can be asked,
+  pub can-be-asked : answered (getD (table .rows) i d) (getD quanta i q .0) t ≡ true
+  can-be-asked =
+      let sound = rows-are-sound table (ask .can .sound) i l in
+      rw (row-there table i d l, getD-any quanta i q (record { 0 = 0 }) there)
+      (rw (lt-ltb _ _ (sound .cost), le-leb (rowAt (rowsOf table) i .cost) (rowAt (rowsOf table) i .period) (omega (arith, sound .weight)))
+      (rw (le-leb (quantaOf quanta i) 70_368_744_177_664 (omega (arith, ask .few i l, ask .time)), le-leb t 70_368_744_177_664 (omega (arith, ask .time))) refl))
+
+  -- and is found early as the definition has it.
+  pub early-as-read : (marks : List Bool) {early mark : Bool} → mark ≡ getD marks i false → early ≡ mark && not (ready (getD (table .rows) i d) (getD quanta i q .0) t) → early ≡ isEarly table quanta marks t i
+  early-as-read marks same e = e ∙ rw (same, row-there table i d l, getD-any quanta i q (record { 0 = 0 }) there) refl

@@ -1,0 +1,11 @@
+pub mod Sound
+pub mod Rows
+pub mod Passes
+pub mod Named
+pub mod Asked
+pub mod Shape
+pub mod Judged
+pub mod Traced
+pub mod Checked
+pub mod Determined
+pub mod Bench

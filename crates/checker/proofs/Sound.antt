@@ -1,0 +1,151 @@
+-- A trace passes exactly if it is well formed and each slot is in time: what the findings of the check mean. Assumes nothing.
+use Prim.Native.Nat.{ℕ, zero, suc, _+_, _≤_, _<_}
+use mathlib.Core.Path.{_≡_, refl, sym, ap, _∙_}
+use mathlib.Core.List.{List, [], _∷_, _++_}
+use mathlib.Core.Bool.{Bool, true, false, not, _&&_}
+use mathlib.Core.Logic.{_↔_, _⊎_, inl, inr}
+use native.Mathlib.Decide.{decLt}
+use native.Mathlib.Omega.{arith}
+use borrow.Author.Tests.{ltb-true, not-false}
+use lib.Dec.{ltb}
+use lib.ListN.{length}
+use Rattle.facts.specs.Findings.{Finding, FirstFound, NoneFound}
+use Rattle.facts.proofs.Findings.{none-says-otherwise, first-is-said, none-or-first, none-joined, none-apart}
+use Rattle.facts.proofs.Tests.{both, hold-both}
+use Rattle.facts.proofs.Counting.{none-if, each-fails}
+use Rattle.table.specs.declared.Table.{Table}
+use Rattle.table.specs.Value.{rowsOf}
+use Rattle.pd2.specs.Ready.{ready, late}
+use Rattle.pd2.specs.Choice.{rowAt}
+use Rattle.trace.specs.Records.{names, slotsIn, placeIn, rowsIn, countIn}
+use Rattle.trace.specs.Said.{Said, bare}
+use Rattle.checker.specs.Causes.{early, lateAt, extra}
+use Rattle.checker.specs.Check.{shapeAt, timeFindings, recordFindings, recordsFindings, lastFindings, traceFindings, traceSaid}
+use Rattle.checker.specs.WellFormed.{SoundRecord, WellFormed}
+use Rattle.checker.specs.Passes.{Passes}
+
+-- Slot t is in time: each row that it names was ready, and at its end no row is late.
+pub record InTime (table : Table) (s : List ℕ) (t : ℕ) : Type 0 where
+  pub readied : (row : ℕ) → row < length (rowsOf table) → names (rowsIn s t) row ≡ true → ready (rowAt (rowsOf table) row) (countIn s row t) t ≡ true
+  pub none-late : (row : ℕ) → row < length (rowsOf table) → late (rowAt (rowsOf table) row) (countIn s row (t + 1)) (t + 1) ≡ false
+
+-- All that may be said has a number.
+unfoldable numbered : List (Finding Said) → Bool
+numbered [] = true
+numbered (f ∷ fs) = ltb 0 (f .answer .number) && numbered fs
+
+-- So it is of joined lists,
+both-numbered : (a b : List (Finding Said)) → numbered a ≡ true → numbered b ≡ true → numbered (a ++ b) ≡ true
+unfolding numbered
+both-numbered [] b p q = q
+both-numbered (f ∷ a) b p q = let x = both (ltb 0 (f .answer .number)) (numbered a) p in hold-both (x .0) (both-numbered a b (x .1) q)
+
+-- and then what is found first has a number.
+first-has-number : {fs : List (Finding Said)} {x : Said} → numbered fs ≡ true → FirstFound fs x → 0 < x .number
+unfolding numbered
+first-has-number {fs = f ∷ fs} h (FirstFound.here c) = ltb-true 0 (f .answer .number) (both (ltb 0 (f .answer .number)) (numbered fs) h .0)
+first-has-number {fs = f ∷ fs} h (FirstFound.later c first) = first-has-number (both (ltb 0 (f .answer .number)) (numbered fs) h .1) first
+
+module _ (table : Table) (s : List ℕ) where
+  -- all that may be said of records has a number,
+  records-numbered : (t m : ℕ) → numbered (recordsFindings table s t m) ≡ true
+  unfolding recordsFindings numbered
+  records-numbered t zero = refl
+  records-numbered t (suc m) = both-numbered (recordFindings table s t) (recordsFindings table s (t + 1) m) refl (records-numbered (t + 1) m)
+
+  -- and so has all that may be said of a trace
+  trace-numbered : numbered (traceFindings table s) ≡ true
+  unfolding numbered
+  trace-numbered = both-numbered (recordsFindings table s 0 (slotsIn s)) (lastFindings s) (records-numbered 0 (slotsIn s)) refl
+
+  -- A trace passes exactly if nothing is found in it.
+  pub passes-where-none-found : Passes table s ↔ NoneFound (traceFindings table s)
+  unfolding traceSaid
+  passes-where-none-found = (λ e. go e (none-or-first (traceFindings table s)), none-says-otherwise (bare 0))
+    where
+      go : traceSaid table s ≡ bare 0 → NoneFound (traceFindings table s) ⊎ ((x : Said) × FirstFound (traceFindings table s) x) → NoneFound (traceFindings table s)
+      go e (inl none) = none
+      go e (inr one) =
+          let same : one .0 .number ≡ 0 = ap (λ x. x .number) (sym (first-is-said (bare 0) (one .1)) ∙ e) in
+          absurd (omega (arith, first-has-number trace-numbered (one .1)))
+
+  -- Nothing is found in the shape of a record exactly if it is sound.
+  pub none-in-shape : (place : ℕ) → NoneFound (shapeAt table s place) ↔ SoundRecord table s place
+  none-in-shape place = (
+    to,
+    λ sound.
+        NoneFound.later (sound .head)
+        (NoneFound.later (sound .cores) (NoneFound.later (sound .count) (NoneFound.later (sound .rows) (NoneFound.later (sound .numbers) NoneFound.end)))),
+  )
+    where
+      to : NoneFound (shapeAt table s place) → SoundRecord table s place
+      to (NoneFound.later a (NoneFound.later b (NoneFound.later c (NoneFound.later d (NoneFound.later e NoneFound.end))))) =
+          record { head = a; cores = b; count = c; rows = d; numbers = e }
+
+  -- a row is not early exactly if it was ready where it is named
+  not-early : (t row : ℕ) → (early table s t row ≡ false) ↔ (names (rowsIn s t) row ≡ true → ready (rowAt (rowsOf table) row) (countIn s row t) t ≡ true)
+  not-early t row = (λ h e. not-false _ (rw e at h), go (names (rowsIn s t) row))
+    where
+      go : (named : Bool) →
+          (named ≡ true → ready (rowAt (rowsOf table) row) (countIn s row t) t ≡ true) →
+          named && not (ready (rowAt (rowsOf table) row) (countIn s row t) t) ≡ false
+      go true h = rw (h refl)
+      go false h = refl
+
+  -- Nothing is found in a slot exactly if it is in time.
+  none-in-time : (t : ℕ) → NoneFound (timeFindings table s t) ↔ InTime table s t
+  none-in-time t = (to, from)
+    where
+      to : NoneFound (timeFindings table s t) → InTime table s t
+      to (NoneFound.later a (NoneFound.later b NoneFound.end)) =
+          record {
+            readied = λ row l. not-early t row .0 (each-fails (early table s t) (length (rowsOf table)) a row l);
+            none-late = each-fails (lateAt table s (t + 1)) (length (rowsOf table)) b;
+          }
+
+      from : InTime table s t → NoneFound (timeFindings table s t)
+      from in-time =
+          NoneFound.later (none-if (early table s t) (length (rowsOf table)) (λ row l. not-early t row .1 (in-time .readied row l)))
+          (NoneFound.later (none-if (lateAt table s (t + 1)) (length (rowsOf table)) (in-time .none-late)) NoneFound.end)
+
+  -- If nothing is found in the records of m slots from slot t on, nothing is in each,
+  none-in-each : (t m : ℕ) → NoneFound (recordsFindings table s t m) → (j : ℕ) → t ≤ j → j < t + m → NoneFound (recordFindings table s j)
+  unfolding recordsFindings
+  none-in-each t zero none j l k = absurd (omega arith)
+  none-in-each t (suc m) none j l k =
+      let parts = none-apart (recordFindings table s t) none in
+      go (decLt t j) (parts .0) (none-in-each (t + 1) m (parts .1) j)
+    where
+      go : Dec (t < j) → NoneFound (recordFindings table s t) → (t + 1 ≤ j → j < t + 1 + m → NoneFound (recordFindings table s j)) →
+          NoneFound (recordFindings table s j)
+      go (yes h) here rest = rest (omega arith) (omega arith)
+      go (no h) here rest = let same : j ≡ t = omega arith in rw same here
+
+  -- and the other way round.
+  none-in-all : (t m : ℕ) → ((j : ℕ) → t ≤ j → j < t + m → NoneFound (recordFindings table s j)) → NoneFound (recordsFindings table s t m)
+  unfolding recordsFindings
+  none-in-all t zero each = NoneFound.end
+  none-in-all t (suc m) each = none-joined (each t (omega arith) (omega arith)) (none-in-all (t + 1) m (λ j l k. each j (omega arith) (omega arith)))
+
+  -- A trace passes exactly if it is well formed and each of its slots is in time.
+  pub passes-exactly : Passes table s ↔ (WellFormed table s × ((t : ℕ) → t < slotsIn s → InTime table s t))
+  passes-exactly = (λ e. to (passes-where-none-found .0 e), λ x. passes-where-none-found .1 (from (x .0) (x .1)))
+    where
+      to : NoneFound (traceFindings table s) → WellFormed table s × ((t : ℕ) → t < slotsIn s → InTime table s t)
+      to (NoneFound.later a (NoneFound.later b rest)) =
+          let parts = none-apart (recordsFindings table s 0 (slotsIn s)) rest in
+          let each : (t : ℕ) → t < slotsIn s → NoneFound (shapeAt table s (placeIn s t)) × NoneFound (timeFindings table s t) =
+          λ t l. none-apart (shapeAt table s (placeIn s t)) (none-in-each 0 (slotsIn s) (parts .0) t (omega arith) (omega arith)) in (
+            record { count = a; limit = b; records = λ t l. none-in-shape (placeIn s t) .0 (each t l .0); end = none-last (parts .1) },
+            λ t l. none-in-time t .0 (each t l .1),
+          )
+        where
+          none-last : NoneFound (lastFindings s) → extra s ≡ false
+          none-last (NoneFound.later c NoneFound.end) = c
+
+      from : WellFormed table s → ((t : ℕ) → t < slotsIn s → InTime table s t) → NoneFound (traceFindings table s)
+      from well in-time =
+          let each : (t : ℕ) → t < slotsIn s → NoneFound (recordFindings table s t) =
+          λ t l. none-joined (none-in-shape (placeIn s t) .1 (well .records t l)) (none-in-time t .1 (in-time t l)) in
+          let records = none-in-all 0 (slotsIn s) (λ t l k. each t (omega arith)) in
+          NoneFound.later (well .count) (NoneFound.later (well .limit) (none-joined records (NoneFound.later (well .end) NoneFound.end)))

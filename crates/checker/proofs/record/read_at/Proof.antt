@@ -1,0 +1,126 @@
+use mathlib.Core.Path.{refl, subst}
+use Prim.Native.Nat.{_+_, _≤_}
+use native.Mathlib.Omega.{arith}
+use lib.ListN.{length, take, drop}
+use Rattle.trace.specs.Records.{freeAt, countAt, rowsAt, pastRecord}
+use Rattle.checker.specs.Walking.{NamedAre}
+use Rattle.checker.proofs.Shape.{refuses, head-is-cut, cores-are-too-many, rows-are-too-many, rows-are-cut, rows-are-bad, record-is-read}
+use borrow.Author.Needs.{needs}
+use Rattle.checker.proofs.record.read_at.Statement.{statement}
+use Rattle.checker.proofs.record.read_at.Tie as tie
+
+sub-if1 : tie.Need-sub-if1
+sub-if1 c = search needs
+
+refused-requires : tie.Need-refused-requires
+refused-requires c κs = search needs
+
+-- what is known past each test
+head : (c : tie.Else1) → c .before .before .args .at + 2 ≤ length (c .before .before .args .trace .now)
+head c = omega (arith, c .if1 .left, c .before .before .pre .1)
+
+cores : (c : tie.Else2) → let a = c .before .before .before .before .before .before in freeAt (a .args .trace .now) (a .args .at) ≤ a .args .table .cores
+cores c = omega (arith, c .if2 .left, c .before .before .before .byte .ensures)
+
+few : (c : tie.Else3) → let a = c .before .before .before .before .before .before .before in countAt (a .args .trace .now) (a .args .at) ≤ freeAt (a .args .trace .now) (a .args .at)
+few c = omega (arith, c .if3 .left, c .before .before .before .before .byte .ensures, c .before .before .before .byte2 .ensures)
+
+rows-there : (c : tie.Else4) → let a = c .before .before .before .before .before .before .before .before in pastRecord (a .args .trace .now) (a .args .at) ≤ length (a .args .trace .now)
+rows-there c = omega (arith, c .if4 .left, c .before .before .before .before .byte2 .ensures, head (c .before .before .before .before .before .before))
+
+-- the rows that were read are the record's
+are-named : (c : tie.After-rows-at) → let a = c .before .before .before .before .before .before .before .before .before in NamedAre (rowsAt (a .args .trace .now) (a .args .at)) (a .args .table .count) (c .rows-at .result .bad) (c .rows-at .result .marks)
+are-named c =
+    let a = c .before .before .before .before .before .before .before .before .before in
+    subst (λ n. NamedAre (take n (drop (a .args .at + 2) (a .args .trace .now))) (a .args .table .count) (c .rows-at .result .bad) (c .rows-at .result .marks)) (c .before .before .before .before .before .byte2 .ensures) (c .rows-at .ensures)
+
+returns : tie.Need-returns
+returns c =
+    let a = c .before .before .before in
+    refuses (a .args .table) (a .args .trace .now) (a .args .at) (c .refused .ensures) refl (head-is-cut (a .args .table) (a .args .trace .now) (a .args .at) (a .pre .1) (c .before .if1 .taken))
+
+byte-requires : tie.Need-byte-requires
+byte-requires c κs = search needs
+
+add-byte : tie.Need-add-byte
+add-byte c = search needs
+
+byte-requires-2 : tie.Need-byte-requires-2
+byte-requires-2 c κs = search needs
+
+refused-requires-2 : tie.Need-refused-requires-2
+refused-requires-2 c κs = search needs
+
+returns-2 : tie.Need-returns-2
+returns-2 c =
+    let a = c .before .before .before .before .before .before .before in
+    refuses (a .args .table) (a .args .trace .now) (a .args .at) (c .refused2 .ensures) refl (cores-are-too-many (a .args .table) (a .args .trace .now) (a .args .at) (head (c .before .before .before .before .before)) (omega (arith, c .before .if2 .taken, c .before .before .before .before .byte .ensures)))
+
+refused-requires-3 : tie.Need-refused-requires-3
+refused-requires-3 c κs = search needs
+
+returns-3 : tie.Need-returns-3
+returns-3 c =
+    let a = c .before .before .before .before .before .before .before .before in
+    refuses (a .args .table) (a .args .trace .now) (a .args .at) (c .refused3 .ensures) refl (rows-are-too-many (a .args .table) (a .args .trace .now) (a .args .at) (head (c .before .before .before .before .before .before)) (cores (c .before .before)) (omega (arith, c .before .if3 .taken, c .before .before .before .before .before .byte .ensures, c .before .before .before .before .byte2 .ensures)))
+
+cast-c : tie.Need-cast-c
+cast-c c = search needs
+
+add-first : tie.Need-add-first
+add-first c = search needs
+
+sub-if4 : tie.Need-sub-if4
+sub-if4 c = search needs
+
+refused-requires-4 : tie.Need-refused-requires-4
+refused-requires-4 c κs = search needs
+
+returns-4 : tie.Need-returns-4
+returns-4 c =
+    let a = c .before .before .before .before .before .before .before .before .before in
+    refuses (a .args .table) (a .args .trace .now) (a .args .at) (c .refused4 .ensures) refl (rows-are-cut (a .args .table) (a .args .trace .now) (a .args .at) (head (c .before .before .before .before .before .before .before)) (cores (c .before .before .before)) (few (c .before .before)) (omega (arith, c .before .if4 .taken, c .before .before .before .before .before .byte2 .ensures, head (c .before .before .before .before .before .before .before))))
+
+rows-at-requires : tie.Need-rows-at-requires
+rows-at-requires c κs = search needs
+
+refused-requires-5 : tie.Need-refused-requires-5
+refused-requires-5 c κs = search needs
+
+returns-5 : tie.Need-returns-5
+returns-5 c =
+    let a = c .before .before .before .before .before .before .before .before .before .before .before in
+    refuses (a .args .table) (a .args .trace .now) (a .args .at) (c .refused5 .ensures) refl (rows-are-bad (a .args .table) (a .args .trace .now) (a .args .at) (head (c .before .before .before .before .before .before .before .before .before)) (cores (c .before .before .before .before .before)) (few (c .before .before .before .before)) (rows-there (c .before .before .before)) (a .pre .0) (are-named (c .before .before)) (c .before .if5 .taken))
+
+add-t11 : tie.Need-add-t11
+add-t11 c = search needs
+
+returns-6 : tie.Need-returns-6
+returns-6 c =
+    let a = c .before .before .before .before .before .before .before .before .before .before .before in
+    record-is-read (a .args .table) (a .args .trace .now) (a .args .at) (head (c .before .before .before .before .before .before .before .before .before)) (cores (c .before .before .before .before .before)) (few (c .before .before .before .before)) (rows-there (c .before .before .before)) (a .pre .0) (are-named (c .before .before)) (c .before .if5 .left) refl (omega (arith, c .before .before .before .before .before .before .before .byte2 .ensures))
+
+pub read-at-spec : {M : Type 1} → statement M
+read-at-spec =
+    tie.close
+    (tie.spec
+    sub-if1
+    refused-requires
+    returns
+    byte-requires
+    add-byte
+    byte-requires-2
+    refused-requires-2
+    returns-2
+    refused-requires-3
+    returns-3
+    cast-c
+    add-first
+    sub-if4
+    refused-requires-4
+    returns-4
+    rows-at-requires
+    refused-requires-5
+    returns-5
+    add-t11
+    returns-6)

@@ -1,0 +1,58 @@
+-- The trace check (01, "What comes back"): "The checker judges the table first and answers its refusal without reading the trace. Then the
+-- trace from the front".
+use Prim.Native.Nat.{ℕ, zero, suc, _+_}
+use mathlib.Core.List.{List, [], _∷_, _++_}
+use Rattle.facts.specs.Findings.{Finding, _says_, firstFound}
+use Rattle.table.specs.declared.Table.{Table}
+use Rattle.table.specs.Bytes.{tableNumber, tableIn}
+use Rattle.trace.specs.Records.{slotsIn, placeIn}
+use Rattle.trace.specs.Said.{Said, bare, named}
+use Rattle.checker.specs.Causes.{countCut, tooLong, headCut, tooManyCores, tooManyRows, rowsCut, badRow, early, lateAt, lowest, anyRow, extra}
+
+-- "and for each record 40 (its first two bytes), 41, 42, 40 (its rows), 43, 44 for the lowest row, and 45 for the lowest late row at the
+-- slot's end": what is looked for in a record's shape, and in the slot
+abbrev pub shapeAt : Table → List ℕ → ℕ → List (Finding Said)
+shapeAt table s place =
+    (headCut s place says bare 40)
+    ∷ (tooManyCores table s place says bare 41)
+    ∷ (tooManyRows s place says bare 42)
+    ∷ (rowsCut s place says bare 40)
+    ∷ (badRow table s place says bare 43)
+    ∷ []
+
+abbrev pub timeFindings : Table → List ℕ → ℕ → List (Finding Said)
+timeFindings table s t =
+    (anyRow table (early table s t) says named 44 (lowest table (early table s t)) t)
+    ∷ (anyRow table (lateAt table s (t + 1)) says named 45 (lowest table (lateAt table s (t + 1))) (t + 1))
+    ∷ []
+
+abbrev pub recordFindings : Table → List ℕ → ℕ → List (Finding Said)
+recordFindings table s t = shapeAt table s (placeIn s t) ++ timeFindings table s t
+
+-- in the records of m slots from slot t on
+unfoldable pub recordsFindings : Table → List ℕ → ℕ → ℕ → List (Finding Said)
+recordsFindings table s t zero = []
+recordsFindings table s t (suc m) = recordFindings table s t ++ recordsFindings table s (t + 1) m
+
+-- "40 for the count, 47 ..": before the records
+abbrev pub countFindings : List ℕ → List (Finding Said)
+countFindings s = (countCut s says bare 40) ∷ (tooLong s says bare 47) ∷ []
+
+-- "Last 46."
+abbrev pub lastFindings : List ℕ → List (Finding Said)
+lastFindings s = (extra s says bare 46) ∷ []
+
+-- all that is looked for in a trace, in order
+abbrev pub traceFindings : Table → List ℕ → List (Finding Said)
+traceFindings table s = countFindings s ++ (recordsFindings table s 0 (slotsIn s) ++ lastFindings s)
+
+unfoldable pub traceSaid : Table → List ℕ → Said
+traceSaid table s = firstFound (bare 0) (traceFindings table s)
+
+-- "judges the table first and answers its refusal without reading the trace"
+abbrev pub checkBy : ℕ → List ℕ → List ℕ → Said
+checkBy zero tableBytes s = traceSaid (tableIn tableBytes) s
+checkBy (suc number) tableBytes s = bare (suc number)
+
+unfoldable pub checkOf : List ℕ → List ℕ → Said
+checkOf tableBytes s = checkBy (tableNumber tableBytes) tableBytes s

@@ -1,0 +1,7 @@
+pub mod Answer
+pub mod Causes
+pub mod Check
+pub mod WellFormed
+pub mod Passes
+pub mod Walking
+pub mod Bench

@@ -1,0 +1,80 @@
+-- What the functions of this crate promise one another.
+use Prim.Native.Nat.{ℕ, _+_, _≤_, _<_}
+use mathlib.Core.Path.{_≡_}
+use mathlib.Core.List.{List}
+use mathlib.Core.Bool.{Bool, true, false, not, _&&_}
+use lib.Dec.{eqb}
+use lib.ListN.{length, getD}
+use Rattle.facts.specs.Findings.{FirstFound, NoneFound}
+use Rattle.counts.specs.declared.Quanta.{Quanta}
+use Rattle.table.specs.declared.Table.{Table}
+use Rattle.table.specs.Limits.{rowLimit}
+use Rattle.table.specs.Value.{faultOf, rowsOf}
+use Rattle.pd2.specs.Ready.{ready}
+use Rattle.pd2.specs.Choice.{rowAt}
+use Rattle.pd2.specs.Rows.{quantaOf}
+use Rattle.trace.specs.Records.{pastRecord, names, rowsAt, placeIn, countIn}
+use Rattle.checker.specs.declared.Answer.{Answer}
+use Rattle.checker.specs.declared.Walk.{Walk}
+use Rattle.checker.specs.Answer.{saidOf}
+use Rattle.checker.specs.Causes.{slotLimit, badRows}
+use Rattle.checker.specs.Check.{shapeAt, recordFindings}
+
+-- A table without fault, whose rows stand in their array.
+pub record CanCheck (table : Table) : Type 0 where
+  pub sound : faultOf table ≡ 0
+  pub few : table .count ≤ rowLimit
+  pub all : length (rowsOf table) ≡ table .count
+
+-- The rows can be asked: their quanta and the time are within their limits.
+pub record Askable (table : Table) (quanta : List Quanta) (t : ℕ) : Type 0 where
+  pub can : CanCheck table
+  pub long : length quanta ≡ rowLimit
+  pub few : (i : ℕ) → i < length (rowsOf table) → quantaOf quanta i ≤ t
+  pub time : t ≤ slotLimit
+
+-- The check has come to slot t: the place is that of its record, and the quanta are the records before it that name each row.
+pub record Reached (table : Table) (s : List ℕ) (t : ℕ) (walk : Walk) : Type 0 where
+  pub place : walk .at ≡ placeIn s t
+  pub inside : walk .at ≤ length s
+  pub long : length (walk .quanta) ≡ rowLimit
+  pub quanta : (i : ℕ) → i < length (rowsOf table) → quantaOf (walk .quanta) i ≡ countIn s i t
+  pub few : (i : ℕ) → countIn s i t ≤ t
+
+-- The record of slot t can be judged.
+pub record CanJudge (table : Table) (s : List ℕ) (t : ℕ) (walk : Walk) : Type 0 where
+  pub can : CanCheck table
+  pub reached : Reached table s t walk
+  pub time : t < slotLimit
+
+-- What a record leads to: nothing is found in it and the walk goes behind it, or the first that is found ends the check.
+pub record Walked (table : Table) (s : List ℕ) (t : ℕ) (walk : Walk) : Type 0 where
+  pub none : NoneFound (recordFindings table s t)
+  pub reached : Reached table s (t + 1) walk
+
+abbrev pub isPassed : Answer → Bool
+isPassed answer = eqb (saidOf answer .number) 0
+
+pub record Leads (table : Table) (s : List ℕ) (t : ℕ) (answer : Answer) (walk : Walk) : Type 0 where
+  pub walked : isPassed answer ≡ true → Walked table s t walk
+  pub ended : isPassed answer ≡ false → FirstFound (recordFindings table s t) (saidOf answer)
+
+-- Rows that are read as marks: row i is marked exactly if it is named; bad exactly if a number is not below n, or they do not rise.
+pub record NamedAre (rows : List ℕ) (n : ℕ) (bad : Bool) (marks : List Bool) : Type 0 where
+  pub judged : bad ≡ badRows n 0 rows
+  pub marked : bad ≡ false → (i : ℕ) → getD marks i false ≡ names rows i
+
+-- What reading the record at a place leads to: its rows as marks, with the place behind it, if it is sound; or the first fault in it.
+pub record Read (table : Table) (s : List ℕ) (at : ℕ) (marks : List Bool) (next : ℕ) : Type 0 where
+  pub sound : NoneFound (shapeAt table s at)
+  pub place : next ≡ pastRecord s at
+  pub inside : next ≤ length s
+  pub rows : (i : ℕ) → getD marks i false ≡ names (rowsAt s at) i
+
+pub record ReadLeads (table : Table) (s : List ℕ) (at : ℕ) (answer : Answer) (marks : List Bool) (next : ℕ) : Type 0 where
+  pub read : isPassed answer ≡ true → Read table s at marks next
+  pub refused : isPassed answer ≡ false → FirstFound (shapeAt table s at) (saidOf answer)
+
+-- Row i is marked and not ready.
+abbrev pub isEarly : Table → List Quanta → List Bool → ℕ → ℕ → Bool
+isEarly table quanta marks t i = getD marks i false && not (ready (rowAt (rowsOf table) i) (quantaOf quanta i) t)

@@ -1,0 +1,131 @@
+-- Nobody is ever late. Assumes nothing.
+use Prim.Native.Nat.{ℕ, _+_, _≤_, _<_}
+use mathlib.Core.Path.{_≡_}
+use mathlib.Core.Bool.{Bool, true, false, cond}
+use native.Mathlib.Decide.{decLe}
+use native.Mathlib.Omega.{arith}
+use borrow.Author.Tests.{le-leb, lt-leb}
+use Rattle.windows.specs.Windows.{start, deadline, jobStart}
+use Rattle.windows.proofs.Windows.{job-starts-first}
+use Rattle.windows.proofs.Group.{light-has-none}
+use Rattle.table.specs.declared.Row.{Row}
+use Rattle.pd2.specs.Ready.{origin, early, readyEarly, readyPlain, ready, late}
+use Rattle.pd2.specs.Order.{Rank, rankOf, Before, before}
+use Rattle.pd2.specs.Choice.{rowAt, quantaAt, readyIn, firstBy}
+use Rattle.pd2.proofs.Order.{before-means-rule}
+use Rattle.pd2.proofs.Choice.{pd2-is-strict}
+use Rattle.optimal.specs.Box.{Box}
+use Rattle.optimal.specs.Allows.{ByDeadline, ByPd2}
+use Rattle.optimal.specs.Course.{Course}
+use Rattle.optimal.specs.NeverLate.{NobodyIsLate, NeverLateOneCore, NeverLateTwoCores, NeverLateLight, NeverLate, Pd2NeverLate}
+use Rattle.optimal.specs.Fluid.{OnTime}
+use Rattle.optimal.proofs.TwoCores.{greedy-is-on-time-on-two}
+use Rattle.optimal.proofs.Descent.{greedy-is-on-time}
+use Rattle.optimal.proofs.Steady.{extension-is-ext}
+use Rattle.optimal.proofs.Rows.{due-means}
+use Rattle.optimal.proofs.Greedy.{setting, cuts-are-greedy, ext, extensions-are-greedy}
+
+-- A row is not late before its next deadline.
+not-late-before-deadline : (row : Row) (q t : ℕ) → t < deadline (row .cost) (row .period) (origin row) (q + 1) → late row q t ≡ false
+unfolding late
+not-late-before-deadline row q t l = lt-leb _ _ l
+
+-- A row whose next subtask has started is ready: a job starts no later than its windows.
+started-is-ready : (row : Row) (q t : ℕ) → 0 < row .cost → start (row .cost) (row .period) (origin row) (q + 1) ≤ t → ready row q t ≡ true
+unfolding ready
+started-is-ready row q t he l = go (early row)
+  where
+    go : (isEarly : Bool) → cond isEarly (readyEarly row q t) (readyPlain row q t) ≡ true
+    go true =
+        let first = job-starts-first (row .cost) (row .period) (origin row) he (q + 1) in
+        le-leb (jobStart (row .cost) (row .period) (origin row) (q + 1)) t (omega arith)
+    go false = le-leb _ _ l
+
+-- In a course held to one rule the order is held to another, where the one implies the other.
+held-to : {n : ℕ} {row : ℕ → Row} {cores H : ℕ} {allows others : Rank → Rank → Type 0} {q : ℕ → ℕ → ℕ} {ready : ℕ → ℕ → Bool}
+    {first : ℕ → ℕ → ℕ → Bool} {k : ℕ → ℕ} → Course n row cores H allows q ready first k →
+    ((t i j : ℕ) → i < n → j < n →
+    let x = rankOf (row i) i (q t i) in
+    let y = rankOf (row j) j (q t j) in
+    allows x y → others x y) →
+    Course n row cores H others q ready first k
+held-to C implies =
+    record {
+      enough = C .enough;
+      started = C .started;
+      irreflexive = C .irreflexive;
+      transitive = C .transitive;
+      ordered = λ t i j th li lj f. implies t i j li lj (C .ordered t i j th li lj f);
+      given = C .given;
+    }
+
+-- Where the fluid of a box is on time, nobody is late.
+module _ {n cycle cores H : ℕ} {row : ℕ → Row} {q : ℕ → ℕ → ℕ} {ready : ℕ → ℕ → Bool} {first : ℕ → ℕ → ℕ → Bool} {k : ℕ → ℕ}
+    (B : Box n row cycle cores) (C : Course n row cores H ByDeadline q ready first k) where
+  on-time-is-not-late : OnTime (setting B C) H → NobodyIsLate n row H q
+  on-time-is-not-late o t i th l = not-late-before-deadline (row i) (q t i) t (go (decLe (rankOf (row i) i (q t i) .d) t))
+    where
+      go : Dec (rankOf (row i) i (q t i) .d ≤ t) → t < rankOf (row i) i (q t i) .d
+      go (yes d) = absurd (omega (arith, due-means B i l (q t i) t .0 d, o t i th l))
+      go (no d) = omega arith
+
+pub never-late-two-cores : NeverLateTwoCores
+never-late-two-cores n row cycle cores two H q ready first k B C =
+    on-time-is-not-late B C
+    (greedy-is-on-time-on-two n cycle cores H _ _ q (setting B C) two (λ h _. cuts-are-greedy B C h) H (omega arith))
+
+pub never-late-one-core : NeverLateOneCore
+never-late-one-core n row cycle = never-late-two-cores n row cycle 1 (omega arith)
+
+pub never-late : NeverLate
+never-late n row cycle cores H q ready first k B C =
+    let D : Course n row cores H ByDeadline q ready first k = held-to C (λ t i j li lj a. record { deadline = a .bits .deadline }) in
+    on-time-is-not-late B D
+    (greedy-is-on-time n cycle cores H _ _ q (setting B D) (ext B D) (λ h _. cuts-are-greedy B D h)
+    (λ s t st th. (extensions-are-greedy B D (C .ordered) s t st th, λ i l. extension-is-ext (setting B D) s t i st th l))
+    H (omega arith))
+
+-- Of light rows all group deadlines are 0, so PD2 asks nothing of them.
+pub never-late-light : NeverLateLight
+never-late-light n row cycle cores light H q ready first k B C =
+    never-late n row cycle cores H q ready first k B
+    (held-to C
+    (λ t i j li lj a.
+    record {
+      bits = a;
+      group = λ _ _ _. omega (arith, light-has-none (row j .cost) (row j .period) (origin (row j)) (q t j + 1) (light j lj));
+    }))
+
+-- PD2's order, with the lower row number last, is held to PD2.
+before-is-pd2 : (x y : Rank) → Before x y → ByPd2 x y
+before-is-pd2 x y b = record { bits = record { deadline = deadline b; bit = bit b }; group = group b }
+  where
+    deadline : Before x y → x .d ≤ y .d
+    deadline (Before.by-deadline l) = omega arith
+    deadline (Before.by-bit d _ _) = omega arith
+    deadline (Before.by-group d _ _ _) = omega arith
+    deadline (Before.by-row d _ _ _) = omega arith
+
+    bit : Before x y → x .d ≡ y .d → y .b ≡ 1 → x .b ≡ 1
+    bit (Before.by-deadline l) same one = omega arith
+    bit (Before.by-bit _ b _) same one = b
+    bit (Before.by-group _ b _ _) same one = b
+    bit (Before.by-row _ b _ _) same one = omega arith
+
+    group : Before x y → x .d ≡ y .d → x .b ≡ 1 → y .b ≡ 1 → y .D ≤ x .D
+    group (Before.by-deadline l) same one both = omega arith
+    group (Before.by-bit _ _ c) same one both = omega arith
+    group (Before.by-group _ _ _ l) same one both = omega arith
+    group (Before.by-row _ _ g _) same one both = omega (arith, g one)
+
+pub pd2-never-late : Pd2NeverLate
+pd2-never-late rows cycle cores H quanta k B enough given =
+    never-late _ (rowAt rows) cycle cores H (λ t. quantaAt (quanta t)) (λ t. readyIn rows (quanta t) t) (λ t. firstBy before rows (quanta t)) k B
+    (record {
+      enough = enough;
+      started = λ t i th l h. started-is-ready (rowAt rows i) (quantaAt (quanta t) i) t (B .can i l .cost) h;
+      irreflexive = λ t i th. pd2-is-strict rows (quanta t) t _ .irreflexive i;
+      transitive = λ t i j m th. pd2-is-strict rows (quanta t) t _ .transitive i j m;
+      ordered = λ t i j th li lj f. before-is-pd2 _ _ (before-means-rule _ _ .0 f);
+      given = given;
+    })
