@@ -1,15 +1,15 @@
 -- What judging a record leads to. Assumes nothing.
 use Prim.Native.Nat.{ℕ, _+_, _≤_, _<_, min}
 use mathlib.Core.Path.{_≡_, refl, sym, ap, subst, _∙_}
-use mathlib.Core.List.{List, [], _∷_, _++_}
+use mathlib.Core.List.{List, [], _∷_}
 use mathlib.Core.Bool.{Bool, true, false, cond, not, true≢false}
 use native.Mathlib.Numerals.{add-one}
 use native.Mathlib.Omega.{arith}
 use lib.ListN.{length, getD, take, drop}
 use Rattle.facts.specs.First.{Lowest}
-use Rattle.facts.specs.Findings.{Finding, _says_, FirstFound, NoneFound}
+use Rattle.facts.specs.Findings.{_says_, FirstFound, NoneFound}
 use Rattle.facts.proofs.First.{same-lowest}
-use Rattle.facts.proofs.Findings.{none-joined}
+use Rattle.facts.proofs.Findings.{none-joined, first-in-front, first-behind}
 use Rattle.facts.proofs.Counting.{some-if, none-if, lowest-is-first}
 use Rattle.counts.specs.declared.Quanta.{Quanta}
 use Rattle.counts.specs.Limits.{kept}
@@ -28,15 +28,6 @@ use Rattle.checker.specs.Causes.{early, lateAt, lowest, anyRow}
 use Rattle.checker.specs.Check.{shapeAt, timeFindings, recordFindings}
 use Rattle.checker.specs.Walking.{Askable, CanJudge, Walked, Leads, Read, isEarly, isPassed}
 use Rattle.checker.proofs.Asked.{row-there, can-be-asked, yes-when-answered}
-
--- What is found first in front, or behind where nothing is found in front, is found first.
-pub first-in-front : {A : Type 0} {a : List (Finding A)} {x : A} (b : List (Finding A)) → FirstFound a x → FirstFound (a ++ b) x
-first-in-front b (FirstFound.here c) = FirstFound.here c
-first-in-front b (FirstFound.later c rest) = FirstFound.later c (first-in-front b rest)
-
-first-behind : {A : Type 0} {a b : List (Finding A)} {x : A} → NoneFound a → FirstFound b x → FirstFound (a ++ b) x
-first-behind NoneFound.end q = q
-first-behind (NoneFound.later c rest) q = FirstFound.later c (first-behind rest q)
 
 -- The lowest row that is so is the one that is named.
 is-lowest : (table : Table) (is : ℕ → Bool) (i : ℕ) → Lowest is (length (rowsOf table)) i → i < length (rowsOf table) → (anyRow table is ≡ true) × (lowest table is ≡ i)

@@ -1,6 +1,7 @@
 pub mod Sound
 pub mod Rows
 pub mod Passes
+pub mod Late
 pub mod Named
 pub mod Asked
 pub mod Shape

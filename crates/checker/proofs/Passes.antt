@@ -1,10 +1,13 @@
 -- What it means that a trace passes (C1 and C2), and what is answered where it does not (C3). Assumes nothing.
-use Prim.Native.Nat.{_+_}
-use mathlib.Core.Path.{ap}
+use Prim.Native.Nat.{ℕ, _+_}
+use mathlib.Core.Path.{_≡_, ap}
+use mathlib.Core.List.{List}
 use native.Mathlib.Omega.{arith}
 use Rattle.facts.proofs.Findings.{first-is-said, said-is-first}
+use Rattle.table.specs.declared.Table.{Table}
+use Rattle.table.specs.Bytes.{tableNumber, tableIn}
 use Rattle.trace.specs.Said.{bare}
-use Rattle.checker.specs.Check.{traceFindings, traceSaid}
+use Rattle.checker.specs.Check.{traceFindings, traceSaid, checkOf}
 use Rattle.checker.specs.Passes.{NumbersAreFirstFound, PassesInWindows, PassesInShares}
 use Rattle.checker.proofs.Sound.{passes-exactly}
 use Rattle.checker.proofs.Rows.{within-after, within-was-ready, within-not-late, in-time-is-allowed, in-time-is-held, allowed-was-ready, held-not-late}
@@ -47,3 +50,8 @@ passes-in-shares table s sound well = (
     },
   ),
 )
+
+-- Bytes that read as a table are checked as the table is.
+pub checked-as-table : (table : Table) (s bytes : List ℕ) → tableNumber bytes ≡ 0 → tableIn bytes ≡ table → checkOf bytes s ≡ traceSaid table s
+unfolding checkOf
+checked-as-table table s bytes e same = rw e (ap (λ t. traceSaid t s) same)

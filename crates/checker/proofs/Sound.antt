@@ -6,20 +6,21 @@ use mathlib.Core.Bool.{Bool, true, false, not, _&&_}
 use mathlib.Core.Logic.{_↔_, _⊎_, inl, inr}
 use native.Mathlib.Decide.{decLt}
 use native.Mathlib.Omega.{arith}
-use borrow.Author.Tests.{ltb-true, not-false}
+use borrow.Author.Tests.{ltb-true, lt-ltb, le-ltb, not-false}
 use lib.Dec.{ltb}
-use lib.ListN.{length}
+use lib.ListN.{length, getD}
+use Rattle.facts.specs.Counting.{those}
 use Rattle.facts.specs.Findings.{Finding, FirstFound, NoneFound}
 use Rattle.facts.proofs.Findings.{none-says-otherwise, first-is-said, none-or-first, none-joined, none-apart}
 use Rattle.facts.proofs.Tests.{both, hold-both}
-use Rattle.facts.proofs.Counting.{none-if, each-fails}
+use Rattle.facts.proofs.Counting.{none-if, each-fails, listed-pass, listed-rise}
 use Rattle.table.specs.declared.Table.{Table}
 use Rattle.table.specs.Value.{rowsOf}
 use Rattle.pd2.specs.Ready.{ready, late}
 use Rattle.pd2.specs.Choice.{rowAt}
 use Rattle.trace.specs.Records.{names, slotsIn, placeIn, rowsIn, countIn}
 use Rattle.trace.specs.Said.{Said, bare}
-use Rattle.checker.specs.Causes.{early, lateAt, extra}
+use Rattle.checker.specs.Causes.{badRows, early, lateAt, extra}
 use Rattle.checker.specs.Check.{shapeAt, timeFindings, recordFindings, recordsFindings, lastFindings, traceFindings, traceSaid}
 use Rattle.checker.specs.WellFormed.{SoundRecord, WellFormed}
 use Rattle.checker.specs.Passes.{Passes}
@@ -28,6 +29,25 @@ use Rattle.checker.specs.Passes.{Passes}
 pub record InTime (table : Table) (s : List ℕ) (t : ℕ) : Type 0 where
   pub readied : (row : ℕ) → row < length (rowsOf table) → names (rowsIn s t) row ≡ true → ready (rowAt (rowsOf table) row) (countIn s row t) t ≡ true
   pub none-late : (row : ℕ) → row < length (rowsOf table) → late (rowAt (rowsOf table) row) (countIn s row (t + 1)) (t + 1) ≡ false
+
+-- Rising rows below n are not bad,
+rising-not-bad : (n least : ℕ) (rows : List ℕ) → ((j : ℕ) → j < length rows → getD rows j 0 < n) →
+    ((i j : ℕ) → i < j → j < length rows → getD rows i 0 < getD rows j 0) → (0 < length rows → least ≤ getD rows 0 0) → badRows n least rows ≡ false
+unfolding badRows
+rising-not-bad n least [] below rise low = refl
+rising-not-bad n least (row ∷ rows) below rise low =
+    rw (
+      lt-ltb row n (below 0 (omega arith)),
+      le-ltb row least (low (omega arith)),
+      rising-not-bad n (row + 1) rows
+          (λ j l. below (suc j) (omega arith))
+          (λ i j l h. rise (suc i) (suc j) (omega arith) (omega arith))
+          (λ l. omega (arith, rise 0 1 (omega arith) (omega arith))),
+    )
+
+-- so those that are listed below n are not.
+pub listed-not-bad : (a : ℕ → Bool) (n : ℕ) → badRows n 0 (those a n) ≡ false
+listed-not-bad a n = rising-not-bad n 0 (those a n) (λ j l. listed-pass a n j 0 l .0) (λ i j. listed-rise a n i j 0) (λ l. omega arith)
 
 -- All that may be said has a number.
 unfoldable numbered : List (Finding Said) → Bool
@@ -82,8 +102,8 @@ module _ (table : Table) (s : List ℕ) where
       to (NoneFound.later a (NoneFound.later b (NoneFound.later c (NoneFound.later d (NoneFound.later e NoneFound.end))))) =
           record { head = a; cores = b; count = c; rows = d; numbers = e }
 
-  -- a row is not early exactly if it was ready where it is named
-  not-early : (t row : ℕ) → (early table s t row ≡ false) ↔ (names (rowsIn s t) row ≡ true → ready (rowAt (rowsOf table) row) (countIn s row t) t ≡ true)
+  -- A row is not early exactly if it was ready where it is named.
+  pub not-early : (t row : ℕ) → (early table s t row ≡ false) ↔ (names (rowsIn s t) row ≡ true → ready (rowAt (rowsOf table) row) (countIn s row t) t ≡ true)
   not-early t row = (λ h e. not-false _ (rw e at h), go (names (rowsIn s t) row))
     where
       go : (named : Bool) →
@@ -93,7 +113,7 @@ module _ (table : Table) (s : List ℕ) where
       go false h = refl
 
   -- Nothing is found in a slot exactly if it is in time.
-  none-in-time : (t : ℕ) → NoneFound (timeFindings table s t) ↔ InTime table s t
+  pub none-in-time : (t : ℕ) → NoneFound (timeFindings table s t) ↔ InTime table s t
   none-in-time t = (to, from)
     where
       to : NoneFound (timeFindings table s t) → InTime table s t

@@ -9,7 +9,7 @@ use lib.ListN.{length, replicate, getD-replicate, length-replicate, List·getD-e
 use Rattle.counts.specs.declared.Quanta.{Quanta}
 use Rattle.pd2.specs.Rows.{quantaOf}
 use Rattle.facts.specs.Findings.{firstFound, FirstFound, NoneFound}
-use Rattle.facts.proofs.Findings.{first-is-said, none-says-otherwise, after-none}
+use Rattle.facts.proofs.Findings.{first-is-said, none-says-otherwise, after-none, first-in-front}
 use Rattle.facts.proofs.Counting.{none-counted}
 use Rattle.facts.proofs.Filling.{one-left-more}
 use Rattle.table.specs.declared.Table.{Table}
@@ -19,7 +19,6 @@ use Rattle.checker.specs.declared.Walk.{Walk}
 use Rattle.checker.specs.Causes.{slotLimit}
 use Rattle.checker.specs.Check.{recordFindings, recordsFindings, lastFindings, traceSaid}
 use Rattle.checker.specs.Walking.{Reached, Walked}
-use Rattle.checker.proofs.Judged.{first-in-front}
 
 no-quanta : Quanta
 no-quanta = record { 0 = 0 }

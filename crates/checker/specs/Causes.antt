@@ -20,14 +20,15 @@ slotLimit = 1_000_000_000
 abbrev pub tooLong : List ℕ → Bool
 tooLong s = ltb slotLimit (slotsIn s)
 
--- "40 trace ends inside its count or a record": before its first two bytes, or its rows, are there
+-- "40 trace ends inside its count or a record": before its count is there,
 abbrev pub countCut : List ℕ → Bool
 countCut s = shorter s 4
 
--- (in the record at a place)
+-- before the first two bytes of the record at a place are,
 abbrev pub headCut : List ℕ → ℕ → Bool
 headCut s place = shorter s (place + 2)
 
+-- or before its rows are
 abbrev pub rowsCut : List ℕ → ℕ → Bool
 rowsCut s place = shorter s (pastRecord s place)
 

@@ -9,8 +9,7 @@ use Rattle.trace.specs.Records.{slotsIn, placeIn}
 use Rattle.trace.specs.Said.{Said, bare, named}
 use Rattle.checker.specs.Causes.{countCut, tooLong, headCut, tooManyCores, tooManyRows, rowsCut, badRow, early, lateAt, lowest, anyRow, extra}
 
--- "and for each record 40 (its first two bytes), 41, 42, 40 (its rows), 43, 44 for the lowest row, and 45 for the lowest late row at the
--- slot's end": what is looked for in a record's shape, and in the slot
+-- "and for each record 40 (its first two bytes), 41, 42, 40 (its rows), 43 ..": what is looked for in the shape of the record at a place
 abbrev pub shapeAt : Table → List ℕ → ℕ → List (Finding Said)
 shapeAt table s place =
     (headCut s place says bare 40)
@@ -20,12 +19,14 @@ shapeAt table s place =
     ∷ (badRow table s place says bare 43)
     ∷ []
 
+-- ".. 44 for the lowest row, and 45 for the lowest late row at the slot's end": what is looked for in slot t
 abbrev pub timeFindings : Table → List ℕ → ℕ → List (Finding Said)
 timeFindings table s t =
     (anyRow table (early table s t) says named 44 (lowest table (early table s t)) t)
     ∷ (anyRow table (lateAt table s (t + 1)) says named 45 (lowest table (lateAt table s (t + 1))) (t + 1))
     ∷ []
 
+-- both, for the record of slot t
 abbrev pub recordFindings : Table → List ℕ → ℕ → List (Finding Said)
 recordFindings table s t = shapeAt table s (placeIn s t) ++ timeFindings table s t
 

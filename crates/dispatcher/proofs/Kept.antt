@@ -1,5 +1,5 @@
 -- What one slot keeps, and what its answers mean. Assumes nothing.
-use Prim.Native.Nat.{ℕ, zero, suc, _+_, _≤_, _<_}
+use Prim.Native.Nat.{ℕ, zero, suc, _+_, _-_, _≤_, _<_}
 use mathlib.Core.Path.{_≡_, refl, sym, ap, _∙_}
 use mathlib.Core.List.{List, [], _∷_}
 use mathlib.Core.Bool.{Bool, true, false, cond}
@@ -30,7 +30,7 @@ use Rattle.dispatcher.specs.declared.State.{State}
 use Rattle.dispatcher.specs.State.{rowsIn, quantaIn, timeOf, freshOf}
 use Rattle.dispatcher.specs.Broken.{ofRow, broken}
 use Rattle.dispatcher.specs.Answer.{doneSaid}
-use Rattle.dispatcher.specs.Slot.{picksIn, lateAt, lateIn, oneOn, judged, stepped, lacksRoom, slotTests, refusal, slotBy, slotOf}
+use Rattle.dispatcher.specs.Slot.{picksIn, recordIn, lateAt, lateIn, oneOn, judged, stepped, lacksRoom, slotTests, refusal, slotBy, slotOf}
 use Rattle.dispatcher.specs.Kept.{RefusalsAreFirstCauses, RefusalChangesNothing, DoneMakesTheStep, UppersHold, After, DoneKeepsWhole, NextIsStopped, FreshIsWhole}
 use Rattle.dispatcher.proofs.Ran.{as-counted}
 use Rattle.dispatcher.proofs.Whole.{Whole, is-whole, is-not-broken, row-can-be, rows-have-places, nothing-given}
@@ -102,7 +102,8 @@ module _ (s : State) (k : ℕ) (buffer : List ℕ) (place : ℕ) where
     pub whole : broken s ≡ false
     pub runs : s .stopped ≡ false
     pub time : timeOf s < timeLimit
-    pub room : place ≤ length buffer
+    pub cores : k ≤ s .table .cores
+    pub room : place + length (recordIn s k) ≤ length buffer
 
   -- Such a slot meets none of the causes.
   pub goes : refusal s k buffer place ≡ 0 → Goes
@@ -120,7 +121,8 @@ module _ (s : State) (k : ℕ) (buffer : List ℕ) (place : ℕ) where
         whole = whole;
         runs = passed _ 30 (x₂ .0);
         time = omega (arith, is-whole s whole .time);
-        room = ltb-false (length buffer) place (room .0);
+        cores = ltb-false (s .table .cores) k (passed _ 32 (x₄ .0));
+        room = omega (arith, ltb-false (length buffer) place (room .0), ltb-false (length buffer - place) (2 + length (picksIn s k)) (room .1));
       }
 
   -- a number above 1 is the refusal's

@@ -10,5 +10,6 @@ pub mod Picked
 pub mod Whole
 pub mod Kept
 pub mod RunKept
+pub mod Written
 pub mod Determined
 pub mod Bench

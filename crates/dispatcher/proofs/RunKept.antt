@@ -9,6 +9,7 @@ use native.Mathlib.Numerals.{add-one}
 use native.Mathlib.Omega.{arith}
 use lib.ListN.{length}
 use borrow.Author.Tests.{leb-true, le-leb}
+use Rattle.facts.specs.First.{Lowest}
 use Rattle.facts.proofs.Tests.{both}
 use Rattle.facts.proofs.Counting.{none-counted}
 use Rattle.windows.specs.Windows.{deadline}
@@ -74,12 +75,12 @@ one-when-owed r after h = (
     go (suc (suc n)) e l found = absurd (omega arith)
 
 -- After m slots that answered 0: what the run has come to.
-record Going (table : Table) (s : State) (m : ℕ) : Type 0 where
-  same : s .table ≡ table
-  clock : timeOf s ≡ m
-  whole : broken s ≡ false
-  runs : s .stopped ≡ false
-  long : length (s .quanta) ≡ rowLimit
+pub record Going (table : Table) (s : State) (m : ℕ) : Type 0 where
+  pub same : s .table ≡ table
+  pub clock : timeOf s ≡ m
+  pub whole : broken s ≡ false
+  pub runs : s .stopped ≡ false
+  pub long : length (s .quanta) ≡ rowLimit
 
 -- every row is then within its share
 going-shares : (table : Table) (s : State) (m : ℕ) → Going table s m → (i : ℕ) → i < length (rowsOf table) → within (rowAt (rowsOf table) i) (quantaAt (quantaIn s) i) m ≡ true
@@ -107,8 +108,8 @@ stands-after from s b next k so whole room =
           ∙ rw (so .counts i, so .place, add-one (timeOf s)) (sym (named-once-more b from (timeOf s) k (picksIn s k) inside i));
     }
 
--- the place goes behind the record with 0 and 1,
-place-behind : (number place : ℕ) (entry : List ℕ) → number < 2 → placeBy number place entry ≡ place + length entry
+-- The place goes behind the record with 0 and 1,
+pub place-behind : (number place : ℕ) (entry : List ℕ) → number < 2 → placeBy number place entry ≡ place + length entry
 place-behind zero place entry l = refl
 place-behind (suc zero) place entry l = refl
 place-behind (suc (suc n)) place entry l = absurd (omega arith)
@@ -129,22 +130,22 @@ stands-on from s b next k so = go (decLt (slotOf s k b next .said .number) 2)
     go (yes h) =
         let step = done-makes-the-step s k b next h in
         let can = goes s k b next (done-is-not-refused s k b next h) in
-        rw (step .0, step .1, place-behind _ next (recordIn s k) h) (stands-after from s b next k so (is-whole s (can .whole)) (can .room))
+        rw (step .0, step .1, place-behind _ next (recordIn s k) h) (stands-after from s b next k so (is-whole s (can .whole)) (omega (arith, can .room)))
     go (no h) =
         let refused : 1 < slotOf s k b next .said .number = omega arith in
         let same = refusal-changes-nothing s k b next refused in
         rw (same .0, same .1, place-kept _ next (recordIn s k) refused) so
 
 module _ (table : Table) (free : ℕ → ℕ) (buffer : List ℕ) (place : ℕ) where
-  -- a run goes on with one slot if its last answer was 0
-  next-run : (m : ℕ) → runFor table free buffer place m .said .number ≡ 0 →
+  -- A run goes on with one slot if its last answer was 0,
+  pub next-run : (m : ℕ) → runFor table free buffer place m .said .number ≡ 0 →
       let r = runFor table free buffer place m in
       runFor table free buffer place (suc m) ≡ runWith (slotOf (r .state) (free m) (r .bytes) (r .place)) r (recordIn (r .state) (free m))
   unfolding run
   next-run m e = rw e
 
-  -- so where it answers 0 it answered 0 before
-  before-too : (m : ℕ) → runFor table free buffer place (suc m) .said .number ≡ 0 → runFor table free buffer place m .said .number ≡ 0
+  -- so where it answers 0 it answered 0 before.
+  pub before-too : (m : ℕ) → runFor table free buffer place (suc m) .said .number ≡ 0 → runFor table free buffer place m .said .number ≡ 0
   unfolding run
   before-too m = let r = runFor table free buffer place m in go r (r .said .number) refl
     where
@@ -152,8 +153,8 @@ module _ (table : Table) (free : ℕ → ℕ) (buffer : List ℕ) (place : ℕ) 
       go r zero e h = e
       go r (suc n) e h = h
 
-  -- one slot more that is done: it keeps the table and the places, and the time is one higher
-  one-on : (m : ℕ) → (let r = runFor table free buffer place m in Going table (r .state) m) →
+  -- One slot more that is done keeps the table and the places, and the time is one higher.
+  pub one-on : (m : ℕ) → (let r = runFor table free buffer place m in Going table (r .state) m) →
       runFor table free buffer place m .said .number ≡ 0 → runFor table free buffer place (suc m) .said .number < 2 →
       let r = runFor table free buffer place (suc m) in
       After (r .state) (r .said) × (r .state .table ≡ table) × (timeOf (r .state) ≡ m + 1) × (length (r .state .quanta) ≡ rowLimit)
@@ -169,8 +170,8 @@ module _ (table : Table) (free : ℕ → ℕ) (buffer : List ℕ) (place : ℕ) 
         ap (λ s. length (s .quanta)) step ∙ (places-stay (r .state) (free m) ∙ g .long),
       )
 
-  -- while every answer is 0 the run goes on
-  going : faultOf table ≡ 0 → (m : ℕ) → runFor table free buffer place m .said .number ≡ 0 → Going table (runFor table free buffer place m .state) m
+  -- While every answer is 0 the run goes on.
+  pub going : faultOf table ≡ 0 → (m : ℕ) → runFor table free buffer place m .said .number ≡ 0 → Going table (runFor table free buffer place m .state) m
   unfolding run
   going h zero e = record { same = refl; clock = refl; whole = fresh-is-whole table .1 h; runs = refl; long = refl }
   going h (suc m) e =
@@ -205,6 +206,15 @@ module _ (table : Table) (free : ℕ → ℕ) (buffer : List ℕ) (place : ℕ) 
         owed = subst (λ t. Owed (r .state .table) r (r .said .row) t) (on .2) owed;
         uppers = λ i k. subst (λ t. upper (rowAt (rowsIn (r .state)) i) (quantaNow r i) t ≡ true) (on .2) (after .uppers i k);
       }
+
+  -- The row that is named then is the lowest late row.
+  pub first-late-is-lowest : faultOf table ≡ 0 → (m : ℕ) → runFor table free buffer place m .said .number ≡ 0 →
+      (let r = runFor table free buffer place (suc m) in r .said .number ≡ 1 → Lowest (λ i. late (rowAt (rowsOf table) i) (quantaNow r i) (m + 1)) (length (rowsOf table)) (r .said .row))
+  first-late-is-lowest h m e l =
+      let on = one-on m (going h m e) e (omega (arith, l)) in
+      let r = runFor table free buffer place (suc m) in
+      subst (λ t. Lowest (λ i. late (rowAt (rowsOf t) i) (quantaNow r i) (m + 1)) (length (rowsOf t)) (r .said .row)) (on .1)
+      (subst (λ t. Lowest (λ i. late (rowAt (rowsIn (r .state)) i) (quantaNow r i) t) (length (rowsIn (r .state))) (r .said .row)) (on .2) (on .0 .names-row l))
 
   -- Slot after slot the records stand: a slot that is done writes one behind the others, a refused one changes nothing, and after an answer
   -- that is not 0 the run is at its end.

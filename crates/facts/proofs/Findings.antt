@@ -57,3 +57,13 @@ none-joined (NoneFound.later c rest) q = NoneFound.later c (none-joined rest q)
 pub none-apart : {A : Type 0} (a : List (Finding A)) {b : List (Finding A)} → NoneFound (a ++ b) → NoneFound a × NoneFound b
 none-apart [] p = (NoneFound.end, p)
 none-apart (f ∷ a) (NoneFound.later c rest) = let r = none-apart a rest in (NoneFound.later c (r .0), r .1)
+
+-- What is found first in a list is first with more behind it,
+pub first-in-front : {A : Type 0} {a : List (Finding A)} {x : A} (b : List (Finding A)) → FirstFound a x → FirstFound (a ++ b) x
+first-in-front b (FirstFound.here c) = FirstFound.here c
+first-in-front b (FirstFound.later c rest) = FirstFound.later c (first-in-front b rest)
+
+-- and with a list before it in which nothing is found.
+pub first-behind : {A : Type 0} {a b : List (Finding A)} {x : A} → NoneFound a → FirstFound b x → FirstFound (a ++ b) x
+first-behind NoneFound.end first = first
+first-behind (NoneFound.later c rest) first = FirstFound.later c (first-behind rest first)

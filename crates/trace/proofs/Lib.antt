@@ -1,3 +1,6 @@
-pub mod Record
+pub mod Writing
 pub mod Records
+pub mod Found
+pub mod Search
 pub mod Determined
+pub mod Agree

@@ -1,11 +1,11 @@
-// The trace: one record a slot. This is the writer of records.
+// The trace: one record a slot. This is the writer of records, and the search for the record of a slot.
+use counts::Slot;
 ghost use mathlib.Core.Path.{_≡_};
-ghost use mathlib.Core.List.{_++_};
 ghost use Prim.Native.Nat.{_+_, _≤_};
-ghost use mathlib.Core.Bool.{false};
-ghost use lib.ListN.{length, getD};
-ghost use Rattle.facts.specs.Counting.{howMany};
+ghost use lib.ListN.{length};
 ghost use Rattle.trace.specs.Record.{recordOf, marked, hasRoom, withFront, storedWhere, partAfter};
+ghost use Rattle.trace.specs.Found.{partFound, partBegins};
+ghost use Rattle.trace.specs.Search.{lengthInside, placeInside, placeFound};
 
 // Whether the record was written.
 pub enum Stored {
@@ -65,4 +65,72 @@ fn put_rows(part: &mut [u8], marks: [bool; 32])
         }
         i += 1;
     }
+}
+
+// Where the record of a slot lies.
+enum Place {
+    Between(usize, usize),
+    Nowhere,
+}
+
+// The record of a slot, the very bytes inside the lent trace: if it is not found, the part of length 0 at 0. What it says is not judged.
+pub fn record(trace: &[u8], slot: Slot) -> &[u8]
+    ensures content { λ r. ⌜ now r ≡ partFound (now (trace .entry)) (slot .0) ⌝ }
+    ensures place { λ r. ⌜ (r .ptr .0 ≡ trace .entry .ptr .0) × (r .ptr .1 ≡ trace .entry .ptr .1 + partBegins (now (trace .entry)) (slot .0)) ⌝ }
+{
+    let place = find(trace, slot.time());
+    let Place::Between(start, end) = place else {
+        return &trace[..0];
+    };
+    &trace[start..end]
+}
+
+// Looks for a record only if the count says that there is one.
+fn find(trace: &[u8], slot: u64) -> Place
+    ensures { λ r. ⌜ r ≡ placeFound (now (trace .entry)) slot ⌝ }
+{
+    if trace.len() < 4 {
+        return Place::Nowhere;
+    }
+    let slots = fields::word(trace, 0) as u64;
+    if slots <= slot {
+        return Place::Nowhere;
+    }
+    walk(trace, slot)
+}
+
+// Walks from record to record, and ends at the slot's own or at one that is cut.
+fn walk(trace: &[u8], slot: u64) -> Place
+    ensures { λ r. ⌜ r ≡ placeInside (now (trace .entry)) slot ⌝ }
+{
+    let mut start: usize = 4;
+    let mut i: u64 = 0;
+    loop {
+        let length = length_inside(trace, start);
+        if length == 0 {
+            return Place::Nowhere;
+        }
+        let end = start + length;
+        if i == slot {
+            return Place::Between(start, end);
+        }
+        start = end;
+        i += 1;
+    }
+}
+
+// How many bytes the record that begins at `start` has: 0 if it is cut.
+fn length_inside(trace: &[u8], start: usize) -> usize
+    ensures { λ r. ⌜ r ≡ lengthInside (now (trace .entry)) start ⌝ }
+{
+    if trace.len() <= start {
+        return 0;
+    }
+    let rest = trace.len() - start;
+    if rest < 2 {
+        return 0;
+    }
+    let count = trace[start + 1];
+    let whole = record_length(count);
+    if rest < whole { 0 } else { whole }
 }

@@ -6,7 +6,7 @@ use borrow.Author.Needs.{needs}
 use lib.ListN.{length}
 use Rattle.facts.specs.Counting.{those}
 use Rattle.facts.proofs.Counting.{as-many-listed, Counted, counting-begins, counts-passed, skips-failed, counted-all}
-use Rattle.trace.proofs.Record.{isMarked}
+use Rattle.trace.proofs.Writing.{isMarked}
 use Rattle.trace.proofs.how_many.Statement.{statement}
 use Rattle.trace.proofs.how_many.Tie as tie
 

@@ -6,7 +6,7 @@ use borrow.Author.Needs.{needs}
 use lib.ListN.{length}
 use Rattle.facts.specs.Counting.{those}
 use Rattle.trace.specs.Record.{withFront}
-use Rattle.trace.proofs.Record.{isMarked, Put, writing-begins, writes-marked, writes-no-unmarked, has-place, keeps-length}
+use Rattle.trace.proofs.Writing.{isMarked, Put, writing-begins, writes-marked, writes-no-unmarked, has-place, keeps-length}
 use Rattle.trace.proofs.put_rows.Statement.{statement}
 use Rattle.trace.proofs.put_rows.Tie as tie
 

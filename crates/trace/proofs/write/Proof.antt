@@ -6,7 +6,7 @@ use borrow.Rule.Slice.PartMut.{putMid}
 use lib.ListN.{length, take, set, length-set, length-drop}
 use Rattle.facts.proofs.Lent.{lent-from, comes-back}
 use Rattle.trace.specs.Record.{recordOf, marked, withFront}
-use Rattle.trace.proofs.Record.{bytes-are-record, front-fits, not-written, is-written}
+use Rattle.trace.proofs.Writing.{bytes-are-record, front-fits, not-written, is-written}
 use borrow.Author.Needs.{needs}
 use Rattle.trace.proofs.write.Statement.{statement}
 use Rattle.trace.proofs.write.Tie as tie

@@ -1,0 +1,2 @@
+pub mod WithCount
+pub mod RunPasses

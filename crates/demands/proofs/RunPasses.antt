@@ -1,0 +1,160 @@
+-- The trace of a run passes the check, or the check names the row and the time that the run named. Assumes nothing.
+use Prim.Native.Nat.{ℕ, zero, suc, _+_, _≤_, _<_}
+use mathlib.Core.Path.{_≡_, refl, sym, ap, _∙_, subst}
+use mathlib.Core.List.{List}
+use mathlib.Core.Bool.{true}
+use native.Mathlib.Numerals.{add-one}
+use native.Mathlib.Omega.{arith}
+use lib.ListN.{length}
+use Rattle.facts.specs.First.{Lowest}
+use Rattle.facts.proofs.First.{same-lowest}
+use Rattle.table.specs.declared.Table.{Table}
+use Rattle.table.specs.Value.{faultOf, rowsOf}
+use Rattle.pd2.specs.Ready.{ready, late}
+use Rattle.pd2.specs.Share.{upper, within}
+use Rattle.pd2.specs.Choice.{rowAt}
+use Rattle.pd2.proofs.Share.{upper-after-quantum-means-ready}
+use Rattle.trace.specs.Records.{firstPlace, names, rowsIn, countIn, count}
+use Rattle.trace.specs.Said.{named}
+use Rattle.trace.proofs.Records.{counted-if-named}
+use Rattle.dispatcher.specs.State.{timeOf}
+use Rattle.dispatcher.specs.Run.{Run, run}
+use Rattle.dispatcher.specs.RunKept.{quantaNow}
+use Rattle.dispatcher.proofs.Whole.{is-whole, row-can-be}
+use Rattle.dispatcher.proofs.RunKept.{going, one-on, first-late-is-owed, first-late-is-lowest, quanta-are-records}
+use Rattle.dispatcher.proofs.Written.{Written, written-going, written-last, shares-written, shares-before, ends-late}
+use Rattle.checker.specs.Causes.{slotLimit, lateAt}
+use Rattle.checker.specs.Check.{traceSaid}
+use Rattle.checker.proofs.Sound.{InTime}
+use Rattle.checker.proofs.Rows.{within-was-ready, within-not-late}
+use Rattle.checker.proofs.Passes.{passes-in-shares, checked-as-table}
+use Rattle.checker.proofs.Late.{late-is-said}
+use Rattle.demands.specs.RunPasses.{withCount, traceOf, SaysTheSame, IsTrace, RunPasses}
+use Rattle.demands.proofs.WithCount.{slots-are, count-is, is-well-formed}
+
+-- What is known of a run is known of its trace, if it is of its records with the count in front.
+module _ (table : Table) (r : Run) (n : ℕ) (clock : timeOf (r .state) ≡ n) (so : Written table firstPlace n (r .bytes) (r .place)) (few : n ≤ slotLimit) where
+  trace-of-run : SaysTheSame (r .said) (traceSaid table (withCount n (r .bytes) (r .place))) → IsTrace table r
+  trace-of-run says =
+      let same : traceOf r ≡ withCount n (r .bytes) (r .place) = ap (λ t. withCount t (r .bytes) (r .place)) clock in
+      let said : SaysTheSame (r .said) (traceSaid table (traceOf r)) = rw same says in
+      record {
+        slots = rw clock (slots-are table n (r .bytes) (r .place) so few);
+        limit = rw clock few;
+        well-formed = rw same (is-well-formed table n (r .bytes) (r .place) so few);
+        checked = said;
+        checked-by-bytes = λ bytes e t. rw (checked-as-table table (traceOf r) bytes e t) said;
+      }
+
+module _ (table : Table) (free : ℕ → ℕ) (buffer : List ℕ) (sound : faultOf table ≡ 0) (starts : firstPlace ≤ length buffer) where
+  abbrev at : ℕ → Run
+  at = run table free buffer firstPlace
+
+  -- A run of m slots that all answered 0.
+  module _ (m : ℕ) (e : at m .said .number ≡ 0) where
+    abbrev going-trace : List ℕ
+    going-trace = withCount m (at m .bytes) (at m .place)
+
+    -- the time is m, and within the limit
+    going-clock : (timeOf (at m .state) ≡ m) × (m ≤ slotLimit)
+    going-clock =
+        let g = going table free buffer firstPlace sound m e in
+        (g .clock, omega (arith, g .clock, is-whole (at m .state) (g .whole) .time))
+
+    going-written : Written table firstPlace m (at m .bytes) (at m .place)
+    going-written = written-going table free buffer firstPlace sound starts m e
+
+    -- every row is within its share at each time, by the records of the trace
+    going-shares : (t row : ℕ) → t ≤ m → row < length (rowsOf table) → within (rowAt (rowsOf table) row) (countIn going-trace row t) t ≡ true
+    going-shares t row k l =
+        rw (count-is table m (at m .bytes) (at m .place) going-written (going-clock .1) row t k)
+        (shares-written table free buffer firstPlace sound starts m e row t l k)
+
+    -- So the trace passes.
+    passes-going : IsTrace table (at m)
+    passes-going =
+        let slots = slots-are table m (at m .bytes) (at m .place) going-written (going-clock .1) in
+        let well = is-well-formed table m (at m .bytes) (at m .place) going-written (going-clock .1) in
+        trace-of-run table (at m) m (going-clock .0) going-written (going-clock .1)
+        record {
+          passes = λ z. passes-in-shares table going-trace sound well .1 (λ t row k l. going-shares t row (omega (arith, slots)) l);
+          late = λ z. absurd (omega (arith, e, z));
+        }
+
+  -- A run of m slots that answered 0, and one more that answered 1.
+  module _ (m : ℕ) (e : at m .said .number ≡ 0) (is-late : at (suc m) .said .number ≡ 1) where
+    abbrev last : Run
+    last = at (suc m)
+
+    abbrev late-trace : List ℕ
+    late-trace = withCount (m + 1) (last .bytes) (last .place)
+
+    -- the time is m + 1, and within the limit
+    late-clock : (timeOf (last .state) ≡ m + 1) × (m + 1 ≤ slotLimit)
+    late-clock =
+        let on = one-on table free buffer firstPlace m (going table free buffer firstPlace sound m e) e (omega (arith, is-late)) in
+        (on .2, omega (arith, on .2, is-whole (last .state) (on .0 .whole) .time))
+
+    late-written : Written table firstPlace (m + 1) (last .bytes) (last .place)
+    late-written = written-last table free buffer firstPlace sound starts m e (omega (arith, is-late))
+
+    -- every row is within its share at each time up to m,
+    late-shares : (t row : ℕ) → t ≤ m → row < length (rowsOf table) → within (rowAt (rowsOf table) row) (countIn late-trace row t) t ≡ true
+    late-shares t row k l =
+        rw (count-is table (m + 1) (last .bytes) (last .place) late-written (late-clock .1) row t (omega arith))
+        (shares-before table free buffer firstPlace sound starts m e (omega (arith, is-late)) row t l k)
+
+    -- so the slots before the last are in time;
+    in-time-before : (t : ℕ) → t < m → InTime table late-trace t
+    in-time-before t k =
+        record {
+          readied = λ row l. within-was-ready table late-trace sound row l t (late-shares (t + 1) row (omega arith) l);
+          none-late = λ row l. within-not-late table late-trace sound row l (t + 1) (late-shares (t + 1) row (omega arith) l);
+        }
+
+    -- the trace counts the quanta that the run gave,
+    quanta-counted : (i : ℕ) → quantaNow last i ≡ countIn late-trace i (m + 1)
+    quanta-counted i =
+        quanta-are-records table free buffer firstPlace (suc m) i
+        ∙ (ap (count (last .bytes) firstPlace i) (late-clock .0)
+        ∙ sym (count-is table (m + 1) (last .bytes) (last .place) late-written (late-clock .1) i (m + 1) (omega arith)))
+
+    -- the rows named in the last slot were ready, since the upper limits still hold after it,
+    last-readied : (i : ℕ) → i < length (rowsOf table) → names (rowsIn late-trace m) i ≡ true → ready (rowAt (rowsOf table) i) (countIn late-trace i m) m ≡ true
+    last-readied i l named-there =
+        let row = rowAt (rowsOf table) i in
+        let one-more = quanta-counted i ∙ counted-if-named late-trace firstPlace i m named-there in
+        let high = first-late-is-owed table free buffer firstPlace sound m e is-late .uppers i l in
+        sym (upper-after-quantum-means-ready row (row-can-be table sound i l) (countIn late-trace i m) m)
+        ∙ subst (λ q. upper row q (m + 1) ≡ true) one-more high
+
+    -- and the row that the run named is the lowest late one
+    lowest-counted : Lowest (lateAt table late-trace (m + 1)) (length (rowsOf table)) (last .said .row)
+    lowest-counted =
+        same-lowest (λ i. late (rowAt (rowsOf table) i) (quantaNow last i) (m + 1)) (lateAt table late-trace (m + 1)) (length (rowsOf table)) (last .said .row)
+        (λ i l. ap (λ q. late (rowAt (rowsOf table) i) q (m + 1)) (quanta-counted i))
+        (first-late-is-lowest table free buffer firstPlace sound m e is-late)
+
+    -- So the check names the same row and time.
+    named-late : IsTrace table last
+    named-late =
+        let first = first-late-is-owed table free buffer firstPlace sound m e is-late in
+        let slots = slots-are table (m + 1) (last .bytes) (last .place) late-written (late-clock .1) in
+        let well = is-well-formed table (m + 1) (last .bytes) (last .place) late-written (late-clock .1) in
+        let said = late-is-said table late-trace m (last .said .row) lowest-counted (first .is-row) well (slots ∙ add-one m) in-time-before last-readied in
+        trace-of-run table last (m + 1) (late-clock .0) late-written (late-clock .1)
+        record {
+          passes = λ z. absurd (omega (arith, is-late, z));
+          late = λ z. said ∙ ap (named 45 (last .said .row)) (sym (first .time));
+        }
+
+-- D5: the trace of a run passes the check, or the check names the row and the time that the run named.
+pub run-passes : RunPasses
+run-passes table free buffer m sound starts h = go (run table free buffer firstPlace m .said .number) refl h
+  where
+    go : (number : ℕ) → run table free buffer firstPlace m .said .number ≡ number → number < 2 → IsTrace table (run table free buffer firstPlace m)
+    go zero e l = passes-going table free buffer sound starts m e
+    go (suc zero) e l =
+        let ends = ends-late table free buffer firstPlace m e in
+        rw (ends .same) (named-late table free buffer sound starts (ends .slots) (ends .before) (ends .late))
+    go (suc (suc number)) e l = absurd (omega arith)

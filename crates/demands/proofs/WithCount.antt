@@ -1,0 +1,107 @@
+-- Records with their count in front are a well-formed trace: they are those of the buffer, only moved. Assumes nothing.
+use Prim.Native.Nat.{ℕ, _+_, _-_, _*_, _/_, _^_, _≤_, _<_}
+use mathlib.Core.Path.{_≡_, sym, ap, _∙_}
+use mathlib.Core.List.{List}
+use native.Mathlib.Nat.{div-add-mod', div-div-eq-div-mul, mod-eq-of-lt}
+use native.Mathlib.Omega.{arith}
+use borrow.Author.Tests.{le-ltb}
+use lib.ListN.{length, getD, take, drop, length-append, length-drop}
+use lib.Seq.{length-take-le, getD-take, getD-drop, getD-append-add}
+use Rattle.table.specs.declared.Table.{Table}
+use Rattle.table.specs.Value.{rowsOf}
+use Rattle.trace.specs.Records.{freeAt, countAt, pastRecord, placeOf, firstPlace, slotsIn, placeIn, countIn, count}
+use Rattle.trace.proofs.Records.{places-rise}
+use Rattle.trace.proofs.Agree.{stand-from, ends-before, Agree, place-agrees, count-agrees}
+use Rattle.dispatcher.proofs.Written.{sound-there, Written}
+use Rattle.checker.specs.Causes.{slotLimit, badRows}
+use Rattle.checker.specs.WellFormed.{SoundRecord, WellFormed}
+use Rattle.checker.proofs.Sound.{listed-not-bad}
+use Rattle.demands.specs.RunPasses.{wordBytes, WordBytesAreRead, withCount}
+
+-- four bytes put together, the last of them all that is left
+put-together : (n a b c w x y z : ℕ) → a * 256 + w ≡ n → b * 256 + x ≡ a → c * 256 + y ≡ b → z ≡ c → w + 256 * x + 65_536 * (y + 256 * z) ≡ n
+put-together n a b c w x y z p q r e = omega arith
+
+-- what is left above three bytes is one byte
+one-left : (n a b c w x y : ℕ) → a * 256 + w ≡ n → b * 256 + x ≡ a → c * 256 + y ≡ b → n < 2 ^ 32 → c < 256
+one-left n a b c w x y p q r h = omega arith
+
+-- A number in four bytes is read as that number.
+pub word-bytes-are-read : WordBytesAreRead
+unfolding wordBytes
+word-bytes-are-read n rest h =
+    let a = div-add-mod' n 256 in
+    let b = div-add-mod' (n / 256) 256 in
+    let c = div-add-mod' (n / 256 / 256) 256 in
+    let two : n / 65_536 ≡ n / 256 / 256 = sym (div-div-eq-div-mul n 256 256) in
+    let three : n / 16_777_216 ≡ n / 256 / 256 / 256 = sym (div-div-eq-div-mul n 65_536 256) ∙ ap (λ x. x / 256) two in
+    let least = one-left n (n / 256) (n / 256 / 256) (n / 256 / 256 / 256) _ _ _ a b c h in
+    rw (two, three) (put-together n (n / 256) (n / 256 / 256) (n / 256 / 256 / 256) _ _ _ _ a b c (mod-eq-of-lt least))
+
+-- The count n is written in front of the n sound records of a buffer.
+module _ (table : Table) (n : ℕ) (b : List ℕ) (next : ℕ) (so : Written table firstPlace n b next) (few : n ≤ slotLimit) where
+  abbrev trace : List ℕ
+  trace = withCount n b next
+
+  -- the records begin behind the count
+  behind-count : firstPlace ≤ next
+  behind-count = omega (arith, stand-from b firstPlace n, so .place)
+
+  -- The count is read,
+  pub slots-are : slotsIn trace ≡ n
+  slots-are = word-bytes-are-read n (drop firstPlace (take next b)) (omega arith)
+
+  -- the trace is as long as the buffer up to the next place,
+  how-long : length trace ≡ next
+  unfolding wordBytes
+  how-long =
+      length-append (wordBytes n) (drop firstPlace (take next b))
+      ∙ omega (arith, length-drop firstPlace (take next b), length-take-le next b (so .inside), behind-count)
+
+  -- and from place 4 on agrees with it,
+  trace-agrees : Agree firstPlace next trace b
+  unfolding wordBytes
+  trace-agrees = record { same = same; reaches = omega (arith, how-long); reaches-too = so .inside }
+    where
+      same : (i : ℕ) → firstPlace ≤ i → i < next → getD trace i 0 ≡ getD b i 0
+      same i l h =
+          let e : i ≡ firstPlace + (i - firstPlace) = omega arith in
+          ap (λ j. getD trace j 0) e
+          ∙ (getD-append-add (wordBytes n) (drop firstPlace (take next b)) (i - firstPlace) 0
+          ∙ (getD-drop firstPlace (take next b) (i - firstPlace) 0
+          ∙ (ap (λ j. getD (take next b) j 0) (sym e) ∙ getD-take next b i 0 h)))
+
+  -- so its places are the buffer's,
+  place-is : (t : ℕ) → t ≤ n → placeIn trace t ≡ placeOf b firstPlace t
+  place-is t l = place-agrees firstPlace next trace b trace-agrees t (omega (arith, places-rise b firstPlace t n l, so .place))
+
+  -- and so are its counts.
+  pub count-is : (row t : ℕ) → t ≤ n → countIn trace row t ≡ count b firstPlace row t
+  count-is row t l = count-agrees firstPlace next trace b trace-agrees row t (omega (arith, places-rise b firstPlace t n l, so .place))
+
+  -- each record is sound,
+  sound-record : (t : ℕ) → t < n → SoundRecord table trace (placeIn trace t)
+  sound-record t l =
+      let place = placeOf b firstPlace t in
+      let past : pastRecord b place ≤ next = omega (arith, ends-before b firstPlace t n l, so .place) in
+      let from = stand-from b firstPlace t in
+      let at = sound-there table firstPlace next trace b trace-agrees place from past (so .each t l) in
+      let end : pastRecord trace place ≤ length trace = omega (arith, how-long, trace-agrees .same (place + 1) (omega arith) (omega arith)) in
+      rw (place-is t (omega arith))
+      record {
+        head = le-ltb (length trace) (place + 2) (omega arith);
+        cores = le-ltb (table .cores) (freeAt trace place) (at .free);
+        count = le-ltb (freeAt trace place) (countAt trace place) (at .count);
+        rows = le-ltb (length trace) (pastRecord trace place) end;
+        numbers = ap (badRows (length (rowsOf table)) 0) (at .rows) ∙ listed-not-bad (at .listed) (length (rowsOf table));
+      }
+
+  -- So the trace is well formed.
+  pub is-well-formed : WellFormed table trace
+  is-well-formed =
+      record {
+        count = le-ltb (length trace) 4 (omega (arith, how-long, behind-count));
+        limit = le-ltb slotLimit (slotsIn trace) (omega (arith, slots-are));
+        records = λ t l. sound-record t (omega (arith, slots-are));
+        end = le-ltb (placeIn trace (slotsIn trace)) (length trace) (omega (arith, ap (placeIn trace) slots-are, place-is n (omega arith), how-long, so .place));
+      }

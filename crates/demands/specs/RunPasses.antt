@@ -1,0 +1,55 @@
+-- The trace of a run passes the check, or the check names the row and the time that the run named.
+use Prim.Native.Nat.{ℕ, _/_, _%_, _^_, _≤_, _<_}
+use mathlib.Core.Path.{_≡_}
+use mathlib.Core.List.{List, [], _∷_, _++_}
+use lib.ListN.{length, take, drop}
+use Rattle.fields.specs.Fields.{word}
+use Rattle.table.specs.declared.Table.{Table}
+use Rattle.table.specs.Bytes.{tableNumber, tableIn}
+use Rattle.table.specs.Value.{faultOf}
+use Rattle.trace.specs.Records.{firstPlace, slotsIn}
+use Rattle.trace.specs.Said.{Said, bare, named}
+use Rattle.dispatcher.specs.State.{timeOf}
+use Rattle.dispatcher.specs.Run.{Run, run}
+use Rattle.checker.specs.Causes.{slotLimit}
+use Rattle.checker.specs.Check.{traceSaid, checkOf}
+use Rattle.checker.specs.WellFormed.{WellFormed}
+
+-- "Slot count (4 ..)", "Little-endian throughout": a number in four bytes
+unfoldable pub wordBytes : ℕ → List ℕ
+wordBytes n = n % 256 ∷ n / 256 % 256 ∷ n / 65_536 % 256 ∷ n / 16_777_216 % 256 ∷ []
+
+-- Read as a field they are that number.
+abbrev pub WordBytesAreRead : Type 0
+WordBytesAreRead = (n : ℕ) (rest : List ℕ) → n < 2 ^ 32 → word (wordBytes n ++ rest) 0 ≡ n
+
+-- "The dispatcher writes records only; the count is written by whoever keeps the trace": a count of slots, and behind it the records that stand
+-- in a buffer from place 4 up to the next place
+abbrev pub withCount : ℕ → List ℕ → ℕ → List ℕ
+withCount n bytes next = wordBytes n ++ drop firstPlace (take next bytes)
+
+-- the trace of a run: its count is the slots that were done
+abbrev pub traceOf : Run → List ℕ
+traceOf r = withCount (timeOf (r .state)) (r .bytes) (r .place)
+
+-- What the check says of the trace of a run whose last answer is `said`: it passes with 0, and with 1 the check answers 45 with the same row and time.
+pub record SaysTheSame (said checked : Said) : Type 0 where
+  pub passes : said .number ≡ 0 → checked ≡ bare 0
+  pub late : said .number ≡ 1 → checked ≡ named 45 (said .row) (said .time)
+
+-- What the trace of a run is: its slots are within the limit, it is well formed, and the check says the same as the run, for the table and for
+-- any bytes that read as the table.
+pub record IsTrace (table : Table) (r : Run) : Type 0 where
+  pub slots : slotsIn (traceOf r) ≡ timeOf (r .state)
+  pub limit : timeOf (r .state) ≤ slotLimit
+  pub well-formed : WellFormed table (traceOf r)
+  pub checked : SaysTheSame (r .said) (traceSaid table (traceOf r))
+  pub checked-by-bytes : (bytes : List ℕ) → tableNumber bytes ≡ 0 → tableIn bytes ≡ table → SaysTheSame (r .said) (checkOf bytes (traceOf r))
+
+-- D5: for table bytes that read as the table, the records of a run of at most the trace's limit with its count in front are a well-formed trace; the
+-- checker passes it, or answers 45 with the same row and time as the run's 1.
+abbrev pub RunPasses : Type 0
+RunPasses =
+    (table : Table) (free : ℕ → ℕ) (buffer : List ℕ) (m : ℕ) → faultOf table ≡ 0 → firstPlace ≤ length buffer →
+    let r = run table free buffer firstPlace m in
+    r .said .number < 2 → IsTrace table r
