@@ -15,6 +15,8 @@ mod compare;
 mod damage;
 #[path = "tables/draft.rs"]
 mod draft;
+#[path = "tables/hex.rs"]
+mod hex;
 #[path = "tables/random.rs"]
 mod random;
 #[path = "tables/sound.rs"]

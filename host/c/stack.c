@@ -1,11 +1,12 @@
 /*
  * stack
  *
- * Measures the stack that zb_table_check uses, for x86-64. The function runs on a stack of its own, every byte of which has been
- * painted; the lowest byte that has lost its paint shows how deep the call went. Each table is measured with two paints, since a byte
- * that is written in the colour of one paint is seen with the other. A place that is reserved and never written is not seen.
+ * Measures the stack that zb_table_check and zb_trace_check use, for x86-64. The function runs on a stack of its own, every byte of
+ * which has been painted; the lowest byte that has lost its paint shows how deep the call went. Each input is measured with two paints,
+ * since a byte that is written in the colour of one paint is seen with the other. A place that is reserved and never written is not
+ * seen.
  *
- * Prints a line and exits with 0, or with 1 if the stack used is more than ZB_TABLE_CHECK_STACK or is 0, or if an answer is wrong.
+ * Prints a line and exits with 0, or with 1 if a function uses more stack than the header says, or none, or if an answer is wrong.
  */
 #define _XOPEN_SOURCE 700
 #include "zbrojomir.h"
@@ -20,9 +21,18 @@
 static uint8_t room[ROOM];
 static ucontext_t outside, inside;
 
+/* A call: of zb_table_check, or of zb_trace_check if `with_trace`; and the number that 01 gives to these bytes. */
+struct asked {
+    const uint8_t *table;
+    size_t table_length;
+    int with_trace;
+    const uint8_t *trace;
+    size_t trace_length;
+    uint8_t number;
+};
+
 /* The call that is measured, and what came of it. */
-static const uint8_t *lent;
-static size_t lent_length;
+static struct asked lent;
 static uint8_t paint, answer;
 static size_t used;
 
@@ -31,12 +41,18 @@ static void fail(const char *words, size_t number) {
     exit(1);
 }
 
+/* Inlined, so that nothing stands on the painted stack between the place that is measured and the function. */
+static inline __attribute__((always_inline)) uint8_t ask(void) {
+    return lent.with_trace ? zb_trace_check(lent.table, lent.table_length, lent.trace, lent.trace_length)
+                           : zb_table_check(lent.table, lent.table_length);
+}
+
 /* Runs on the painted stack. The paint is looked at before anything else is called there. */
 static void call(void) {
     const volatile uint8_t *top, *lowest = room;
 
     __asm__ volatile("mov %%rsp, %0" : "=r"(top) : : "memory");
-    answer = zb_table_check(lent, lent_length);
+    answer = ask();
     while (lowest < top && *lowest == paint) {
         lowest++;
     }
@@ -63,25 +79,24 @@ static size_t depth_with(uint8_t colour) {
     return used;
 }
 
-/* The depth of the call for this table, which has this number. */
-static size_t depth(const uint8_t *table, size_t length, uint8_t number) {
+/* The depth of this call. */
+static size_t depth(struct asked asked) {
     size_t one, other;
 
     /* First on the ordinary stack, so that whatever the linker binds at the first call is bound before anything is measured. */
-    if (zb_table_check(table, length) != number) {
-        fail("zb_table_check does not answer 01's number", number);
+    lent = asked;
+    if (ask() != asked.number) {
+        fail("a check does not answer 01's number", asked.number);
     }
-    lent = table;
-    lent_length = length;
     one = depth_with(0xA5);
     other = depth_with(0x5A);
-    if (answer != number) {
-        fail("on the painted stack zb_table_check does not answer 01's number", number);
+    if (answer != asked.number) {
+        fail("on the painted stack a check does not answer 01's number", asked.number);
     }
     return one > other ? one : other;
 }
 
-/* A full box: 8 cores, and 32 rows of 1/4. */
+/* A full box: 8 cores, and 32 rows of 1/4, plain and early release in turn. */
 static void fill(uint8_t *table) {
     static const uint8_t head[] = {1, 4, 0, 0, 0, 8, 0, 1, 2, 3, 4, 5, 6, 7, 32};
     uint8_t tank;
@@ -91,18 +106,41 @@ static void fill(uint8_t *table) {
     for (tank = 0; tank < 32; tank++) {
         uint8_t row[9] = {0, 0, 1, 0, 4, 0, 0, 0, 0};
         row[0] = tank;
+        row[8] = tank % 2;
         memcpy(table, row, sizeof row);
         table += sizeof row;
     }
 }
 
-/* The full box with one byte changed, the rest of it cut or one byte added. */
-static const struct {
+#define SLOTS 8
+#define TRACE_LENGTH (4 + SLOTS * 10)
+#define LAST_RECORD (TRACE_LENGTH - 10)
+
+/* A trace of the full box that passes: two cycles, in each slot the next eight rows. */
+static void fill_trace(uint8_t *trace) {
+    uint8_t slot, place;
+
+    memset(trace, 0, TRACE_LENGTH + 1);
+    trace[0] = SLOTS;
+    trace += 4;
+    for (slot = 0; slot < SLOTS; slot++) {
+        *trace++ = 8;
+        *trace++ = 8;
+        for (place = 0; place < 8; place++) {
+            *trace++ = (uint8_t)(slot % 4 * 8 + place);
+        }
+    }
+}
+
+/* A table or a trace with one byte changed, the rest of it cut or one byte added. */
+struct refusal {
     size_t place;
     uint8_t byte;
     size_t length;
     uint8_t number;
-} refusals[] = {
+};
+
+static const struct refusal table_refusals[] = {
     {0, 1, 0, 10},
     {0, 2, ZB_TABLE_LONGEST, 11},
     {1, 0, ZB_TABLE_LONGEST, 12},
@@ -119,30 +157,91 @@ static const struct {
     {ZB_TABLE_LONGEST - 7, 2, ZB_TABLE_LONGEST, 22},
 };
 
-int main(void) {
-    uint8_t table[ZB_TABLE_LONGEST + 1];
-    size_t full, refused = 0, most, rounded, i;
+static const struct refusal trace_refusals[] = {
+    {0, SLOTS, 0, 40},
+    {0, SLOTS, 3, 40},
+    {0, SLOTS, LAST_RECORD + 1, 40},
+    {0, SLOTS, TRACE_LENGTH - 1, 40},
+    {0, SLOTS + 1, TRACE_LENGTH, 40},
+    {LAST_RECORD, 9, TRACE_LENGTH, 41},
+    {LAST_RECORD + 1, 9, TRACE_LENGTH, 42},
+    {TRACE_LENGTH - 1, 32, TRACE_LENGTH, 43},
+    {TRACE_LENGTH - 1, 29, TRACE_LENGTH, 43},
+    {LAST_RECORD + 2, 22, TRACE_LENGTH, 44}, /* early release */
+    {LAST_RECORD + 2, 23, TRACE_LENGTH, 44}, /* plain */
+    {LAST_RECORD + 1, 7, TRACE_LENGTH - 1, 45},
+    {TRACE_LENGTH, 0, TRACE_LENGTH + 1, 46},
+    {3, 0x40, TRACE_LENGTH, 47},
+};
 
-    fill(table);
-    full = depth(table, ZB_TABLE_LONGEST, ZB_DONE);
-    for (i = 0; i < sizeof refusals / sizeof *refusals; i++) {
-        size_t here;
+/* The depths of a function: for the full box, and the most for what is refused. */
+struct depths {
+    size_t full, refused;
+};
+
+static void deepen(size_t *most, size_t here) {
+    *most = here > *most ? here : *most;
+}
+
+/* For each refused table, with the trace that passes or without one. */
+static void refuse_tables(struct asked asked, uint8_t *table, size_t *most) {
+    size_t i;
+
+    for (i = 0; i < sizeof table_refusals / sizeof *table_refusals; i++) {
         fill(table);
-        table[refusals[i].place] = refusals[i].byte;
-        here = depth(table, refusals[i].length, refusals[i].number);
-        refused = here > refused ? here : refused;
+        table[table_refusals[i].place] = table_refusals[i].byte;
+        asked.table_length = table_refusals[i].length;
+        asked.number = table_refusals[i].number;
+        deepen(most, depth(asked));
     }
-    most = full > refused ? full : refused;
-    if (full == 0 || refused == 0) {
+    fill(table);
+}
+
+static void refuse_traces(struct asked asked, uint8_t *trace, size_t *most) {
+    size_t i;
+
+    for (i = 0; i < sizeof trace_refusals / sizeof *trace_refusals; i++) {
+        fill_trace(trace);
+        trace[trace_refusals[i].place] = trace_refusals[i].byte;
+        asked.trace_length = trace_refusals[i].length;
+        asked.number = trace_refusals[i].number;
+        deepen(most, depth(asked));
+    }
+    fill_trace(trace);
+}
+
+/* Says how deep a function goes; 0 if that is more than the header says. */
+static int within(const char *function, const char *limit, size_t said, struct depths depths, const char *end) {
+    size_t most = depths.full > depths.refused ? depths.full : depths.refused, rounded = (most + 255) / 256 * 256;
+
+    if (depths.full == 0 || depths.refused == 0) {
         fail("a call used no stack, so nothing was measured", 0);
     }
-    rounded = (most + 255) / 256 * 256;
-    if (most > ZB_TABLE_CHECK_STACK) {
-        printf("stack: zb_table_check uses %lu bytes; ZB_TABLE_CHECK_STACK says %lu and has to be %lu\n", (unsigned long)most,
-               (unsigned long)ZB_TABLE_CHECK_STACK, (unsigned long)rounded);
-        return 1;
+    if (most > said) {
+        printf("stack: %s uses %lu bytes; %s says %lu and has to be %lu\n", function, (unsigned long)most, limit, (unsigned long)said,
+               (unsigned long)rounded);
+        return 0;
     }
-    printf("the stack of zb_table_check: %lu bytes for a full table, up to %lu for refused ones, rounded up %lu; the header says %lu\n",
-           (unsigned long)full, (unsigned long)refused, (unsigned long)rounded, (unsigned long)ZB_TABLE_CHECK_STACK);
-    return 0;
+    printf("the stack of %s: %lu bytes for a full table, up to %lu for what is refused, rounded up %lu; the header says %lu%s", function,
+           (unsigned long)depths.full, (unsigned long)depths.refused, (unsigned long)rounded, (unsigned long)said, end);
+    return 1;
+}
+
+int main(void) {
+    static uint8_t table[ZB_TABLE_LONGEST + 1], trace[TRACE_LENGTH + 1];
+    struct asked asked = {table, ZB_TABLE_LONGEST, 0, trace, TRACE_LENGTH, ZB_DONE};
+    struct depths of_table = {0, 0}, of_trace = {0, 0};
+
+    fill(table);
+    fill_trace(trace);
+    of_table.full = depth(asked);
+    refuse_tables(asked, table, &of_table.refused);
+    asked.with_trace = 1;
+    of_trace.full = depth(asked);
+    refuse_tables(asked, table, &of_trace.refused);
+    refuse_traces(asked, trace, &of_trace.refused);
+    return within("zb_table_check", "ZB_TABLE_CHECK_STACK", ZB_TABLE_CHECK_STACK, of_table, "; ") &&
+                   within("zb_trace_check", "ZB_TRACE_CHECK_STACK", ZB_TRACE_CHECK_STACK, of_trace, "\n")
+               ? 0
+               : 1;
 }

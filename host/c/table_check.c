@@ -6,6 +6,7 @@
  * with the number that 01, the maker's paper, gives to the bytes of the file. Exit status: 0 if every table is taken, 1 if some table
  * is refused, 2 if some file cannot be read.
  */
+#include "meaning.h"
 #include "zbrojomir.h"
 
 #include <errno.h>
@@ -13,26 +14,6 @@
 #include <string.h>
 
 enum status { TAKEN = 0, REFUSED = 1, TROUBLE = 2 };
-
-static const char *meaning(uint8_t number) {
-    switch (number) {
-    case ZB_DONE: return "done";
-    case ZB_TABLE_CUT: return "table ends inside a field or row";
-    case ZB_TABLE_FORMAT: return "format is not 1";
-    case ZB_TABLE_CYCLE: return "L outside 1 to 1,000,000";
-    case ZB_TABLE_CORES: return "M outside 1 to 8";
-    case ZB_TABLE_BOARDS: return "board numbers not rising";
-    case ZB_TABLE_ROWS: return "n above 32";
-    case ZB_TABLE_TANKS: return "tanks not rising";
-    case ZB_TABLE_NO_COST: return "e = 0";
-    case ZB_TABLE_COST: return "e not below p";
-    case ZB_TABLE_PERIOD: return "p does not divide L";
-    case ZB_TABLE_KIND: return "kind above 1";
-    case ZB_TABLE_LONG: return "bytes after the last row";
-    case ZB_TABLE_OVERFULL: return "sum above M*L";
-    default: return "not a number that 01 gives to a table";
-    }
-}
 
 static enum status trouble(const char *name) {
     fprintf(stderr, "table_check: %s: %s\n", name, errno != 0 ? strerror(errno) : "it cannot be read");

@@ -24,9 +24,10 @@
 extern "C" {
 #endif
 
-/* What comes back, in 01's words. A table is taken with ZB_DONE; with every other number it is refused. */
+/* What comes back, in 01's words. A table is taken, and a trace passes, with ZB_DONE; with every other number it is refused. */
 enum zb_number {
     ZB_DONE = 0,            /* done */
+
     ZB_TABLE_CUT = 10,      /* table ends inside a field or row */
     ZB_TABLE_FORMAT = 11,   /* format is not 1 */
     ZB_TABLE_CYCLE = 12,    /* L outside 1 to 1,000,000 */
@@ -39,14 +40,23 @@ enum zb_number {
     ZB_TABLE_PERIOD = 19,   /* p does not divide L */
     ZB_TABLE_KIND = 20,     /* kind above 1 */
     ZB_TABLE_LONG = 21,     /* bytes after the last row */
-    ZB_TABLE_OVERFULL = 22  /* sum above M*L */
+    ZB_TABLE_OVERFULL = 22, /* sum above M*L */
+
+    ZB_TRACE_CUT = 40,      /* trace ends inside its count or a record */
+    ZB_TRACE_FREE = 41,     /* k above M */
+    ZB_TRACE_PICKED = 42,   /* c above k */
+    ZB_TRACE_ROWS = 43,     /* row number not below n, or not rising */
+    ZB_TRACE_EARLY = 44,    /* quantum before its row was ready */
+    ZB_TRACE_LATE = 45,     /* row late */
+    ZB_TRACE_LONG = 46,     /* bytes after the last record */
+    ZB_TRACE_SLOTS = 47     /* slot count above 1,000,000,000 */
 };
 
 /* The bytes of the longest table that can be taken: 8 cores and 32 rows. */
 #define ZB_TABLE_LONGEST (1 + 4 + 1 + 8 + 1 + 32 * 9)
 
 /*
- * Checks a job table and answers 01's number for its bytes, one of those above.
+ * Checks a job table and answers 01's number for its bytes: ZB_DONE or one of ZB_TABLE_...
  *
  * A table, every number in it little-endian:
  *     format, 1                                                1 byte
@@ -77,7 +87,37 @@ uint8_t zb_table_check(const uint8_t *table, size_t length);
  * it again and fail if it is more. Bytes that are reserved and never written are not seen. The figure includes the memcpy of the
  * library that was linked for the measurement: yours may use more. A library for another processor has to be measured there.
  */
-#define ZB_TABLE_CHECK_STACK 1280
+#define ZB_TABLE_CHECK_STACK 2304
+
+/*
+ * Checks a trace, whoever made it, against its table, and answers 01's number: ZB_DONE or one of ZB_TABLE_... and ZB_TRACE_...
+ *
+ * A trace, every number in it little-endian:
+ *     slot count, at most 1,000,000,000                        4 bytes
+ *     a record for each slot, slot 0 first:
+ *         cores free k, at most M                              1 byte
+ *         rows picked c, at most k                             1 byte
+ *         c row numbers, below n and rising strictly           1 byte each
+ * and nothing after the last record. Rows are numbered from 0, in the order of the table. A record that names a row gives it one
+ * quantum in its slot. No row may have a quantum before it is ready, and none may be late at the end of a slot: a trace that passes
+ * keeps every window, whichever of the ready rows it picks.
+ *
+ * The table is judged first, and its refusal is answered without reading the trace. Then the trace is read from the front: 40 for the
+ * count, 47, and for each record 40 (its first two bytes), 41, 42, 40 (its rows), 43, 44, and 45 at the slot's end; last 46. The first
+ * cause met is answered. The time of a call grows with the slots that are there, not with the slot count: a count that is too high ends
+ * with 40 where the bytes end.
+ *
+ * table, table_length: as zb_table_check has them. An empty table, which may be NULL, is refused with ZB_TABLE_CUT.
+ * trace, trace_length: `trace_length` bytes must be readable at `trace`, which may have any alignment. A length of 0 is an empty trace,
+ * which is refused with ZB_TRACE_CUT if the table is taken; `trace` is then not looked at and may be NULL. Both may share bytes.
+ */
+uint8_t zb_trace_check(const uint8_t *table, size_t table_length, const uint8_t *trace, size_t trace_length);
+
+/*
+ * The bytes of stack that a call of zb_trace_check uses, measured as ZB_TABLE_CHECK_STACK is: for a full table of 8 cores and 32 rows
+ * with a trace that passes and with refused ones, and for a refused table. The length of the trace does not matter.
+ */
+#define ZB_TRACE_CHECK_STACK 3584
 
 #ifdef __cplusplus
 }

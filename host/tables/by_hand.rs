@@ -1,7 +1,8 @@
 //! Tables made by hand, each with the number that 01 gives it.
 
-use crate::call::{hex, library, library_before, library_null, second};
+use crate::call::{library, library_before, library_null, second};
 use crate::draft::{draft, row, Draft, Row};
+use crate::hex::{bytes_of, hex};
 
 /// The example of 01, "Slot printer".
 const EXAMPLE: &str = "01 03000000 02 00 01 03 0A00 0200 0300 0000 00 0B00 0200 0300 0000 00 \
@@ -78,17 +79,6 @@ fn listed(text: &str) -> Result<Vec<Case>, String> {
             Ok(case(number, words, bytes_of(bytes)?))
         })
         .collect()
-}
-
-/// The bytes that are written in this text, two digits each; spaces and bars do not count.
-fn bytes_of(text: &str) -> Result<Vec<u8>, String> {
-    let digits: Vec<char> = text.chars().filter(|mark| !" |".contains(*mark)).collect();
-    let byte = |pair: &[char]| match pair {
-        [high, low] => Some((high.to_digit(16)? << 4 | low.to_digit(16)?) as u8),
-        _ => None,
-    };
-    let bytes: Option<Vec<u8>> = digits.chunks(2).map(byte).collect();
-    bytes.ok_or_else(|| format!("these are not bytes: {}", text))
 }
 
 fn around_the_example(example: &[u8]) -> Vec<Case> {

@@ -1,5 +1,7 @@
 //! The two programs that are compared, each as a function from bytes to 01's number.
 
+use crate::hex::hex;
+
 extern "C" {
     /// As in c/zbrojomir.h.
     fn zb_table_check(table: *const u8, length: usize) -> u8;
@@ -39,9 +41,4 @@ pub fn second(table: &[u8]) -> u8 {
         Ok(_) => 0,
         Err(number) => number,
     }
-}
-
-pub fn hex(bytes: &[u8]) -> String {
-    let words: Vec<String> = bytes.iter().map(|byte| format!("{:02X}", byte)).collect();
-    format!("[{}] ({} bytes)", words.join(" "), bytes.len())
 }

@@ -1,7 +1,8 @@
 //! Random tables, most of them damaged: the library and the second program must give the same number for each.
 
-use crate::call::{hex, library_before, second};
+use crate::call::{library_before, second};
 use crate::damage;
+use crate::hex::hex;
 use crate::random::Random;
 
 const TABLES: usize = 200_000;

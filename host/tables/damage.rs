@@ -121,8 +121,8 @@ fn damage_rows(random: &mut Random, rows: &mut [Row]) {
     }
 }
 
-/// The table is cut, or a byte of it is changed, lost or doubled. After a cut table its lost part follows in memory.
-fn damage_bytes(random: &mut Random, mut bytes: Vec<u8>) -> (Vec<u8>, Vec<u8>) {
+/// The bytes are cut, or one of them is changed, lost or doubled; and bytes that stand after them in memory: after a cut, the lost part.
+pub fn damage_bytes(random: &mut Random, mut bytes: Vec<u8>) -> (Vec<u8>, Vec<u8>) {
     let place = random.below(bytes.len());
     match random.below(5) {
         0 | 1 => {

@@ -74,9 +74,14 @@ fn rows(random: &mut Random, weights: &[(usize, usize)]) -> Vec<Row> {
         .collect()
 }
 
-/// A table that is taken. It has as many rows as asked for, or fewer where the cycle has no room for them.
+/// A table that is taken.
 pub fn any(random: &mut Random) -> Draft {
     let cycle = cycle(random);
+    any_of(random, cycle)
+}
+
+/// The same with this cycle. It has as many rows as asked for, or fewer where the cycle has no room for them.
+pub fn any_of(random: &mut Random, cycle: usize) -> Draft {
     let periods = periods(cycle);
     let boards = boards(random);
     let wanted = random.between(0, 32);
@@ -101,21 +106,28 @@ pub fn any(random: &mut Random) -> Draft {
 pub fn full(random: &mut Random, by: isize) -> Draft {
     loop {
         let cycle = cycle(random);
-        let periods = periods(cycle);
-        if periods.is_empty() {
-            continue;
+        if let Some(table) = full_of(random, cycle, by) {
+            return table;
         }
-        let boards = boards(random);
-        let mut weights = Vec::new();
-        for _ in 0..boards.len() {
-            weights.extend(whole(random, &periods));
-        }
-        random.shuffle(&mut weights);
-        if by != 0 && !moved(&mut weights, cycle, by) {
-            continue;
-        }
-        return draft(cycle as u32, &boards, &rows(random, &weights));
     }
+}
+
+/// The same with this cycle, if it can be had.
+pub fn full_of(random: &mut Random, cycle: usize, by: isize) -> Option<Draft> {
+    let periods = periods(cycle);
+    if periods.is_empty() {
+        return None;
+    }
+    let boards = boards(random);
+    let mut weights = Vec::new();
+    for _ in 0..boards.len() {
+        weights.extend(whole(random, &periods));
+    }
+    random.shuffle(&mut weights);
+    if by != 0 && !moved(&mut weights, cycle, by) {
+        return None;
+    }
+    Some(draft(cycle as u32, &boards, &rows(random, &weights)))
 }
 
 /// Two to four weights that make 1, written with different periods of the cycle.

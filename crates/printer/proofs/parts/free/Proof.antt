@@ -1,0 +1,64 @@
+use mathlib.Core.Path.{ap, _∙_}
+use Prim.Native.Nat.{_+_}
+use native.Mathlib.Omega.{arith}
+use Rattle.fields.specs.Fields.{byte, half}
+use Rattle.printer.proofs.Input.{free-listed, free-past}
+use borrow.Author.Needs.{needs}
+use Rattle.printer.proofs.parts.free.Statement.{statement}
+use Rattle.printer.proofs.parts.free.Tie as tie
+
+slots-place-requires : tie.Need-slots-place-requires
+slots-place-requires c κs = search needs
+
+add-half : tie.Need-add-half
+add-half c = search needs
+
+half-requires : tie.Need-half-requires
+half-requires c κs = search needs
+
+cast-count : tie.Need-cast-count
+cast-count c = search needs
+
+time-requires : tie.Need-time-requires
+time-requires c κs = search needs
+
+returns : tie.Need-returns
+returns c =
+    let a = c .before in
+    let s = a .before .before .before .before .args .input .now in
+    let count = a .before .half .ensures ∙ ap (λ k. half s (k + 2)) (a .before .before .slots-place .ensures .0) in
+    free-past s (a .before .before .before .before .args .cores) (omega (arith, c .if1 .taken, count, a .time .ensures))
+
+add-byte : tie.Need-add-byte
+add-byte c = search needs
+
+add-byte-2 : tie.Need-add-byte-2
+add-byte-2 c = search needs
+
+byte-requires : tie.Need-byte-requires
+byte-requires c κs = search needs
+
+returns-2 : tie.Need-returns-2
+returns-2 c =
+    let a = c .before .before in
+    let s = a .before .before .before .before .args .input .now in
+    let place = a .before .before .slots-place .ensures .0 in
+    let count = a .before .half .ensures ∙ ap (λ k. half s (k + 2)) place in
+    c .byte .ensures
+    ∙ (ap (byte s) (omega (arith, place, a .time .ensures))
+    ∙ free-listed s (a .before .before .before .before .args .cores) (omega (arith, c .before .if1 .left, count, a .time .ensures)))
+
+pub free-spec : {M : Type 1} → statement M
+free-spec =
+    tie.close
+    (tie.spec
+    slots-place-requires
+    add-half
+    half-requires
+    cast-count
+    time-requires
+    returns
+    add-byte
+    add-byte-2
+    byte-requires
+    returns-2)

@@ -1,0 +1,22 @@
+-- 01's example (01, "Slot printer"), computed.
+use Prim.Native.Nat.{ℕ}
+use mathlib.Core.Path.{_≡_}
+use mathlib.Core.List.{List, [], _∷_, _++_}
+use Rattle.table.specs.Bench.{example}
+use Rattle.printer.specs.Text.{textOf}
+
+-- the table with its length of 36 bytes, "3 slots, no k values"
+abbrev pub exampleInput : List ℕ
+exampleInput = 36 ∷ 0 ∷ example ++ (3 ∷ 0 ∷ 0 ∷ 0 ∷ [])
+
+-- "Whole output": `slot free tanks`, `0 2 10 11`, `1 2 10 20`, `2 2 11 20`, `end 3`
+abbrev pub exampleText : List ℕ
+exampleText =
+    115 ∷ 108 ∷ 111 ∷ 116 ∷ 32 ∷ 102 ∷ 114 ∷ 101 ∷ 101 ∷ 32 ∷ 116 ∷ 97 ∷ 110 ∷ 107 ∷ 115 ∷ 10
+    ∷ 48 ∷ 32 ∷ 50 ∷ 32 ∷ 49 ∷ 48 ∷ 32 ∷ 49 ∷ 49 ∷ 10
+    ∷ 49 ∷ 32 ∷ 50 ∷ 32 ∷ 49 ∷ 48 ∷ 32 ∷ 50 ∷ 48 ∷ 10
+    ∷ 50 ∷ 32 ∷ 50 ∷ 32 ∷ 49 ∷ 49 ∷ 32 ∷ 50 ∷ 48 ∷ 10
+    ∷ 101 ∷ 110 ∷ 100 ∷ 32 ∷ 51 ∷ 10 ∷ []
+
+abbrev pub ExampleIsPrinted : Type 0
+ExampleIsPrinted = textOf exampleInput ≡ exampleText

@@ -1,0 +1,51 @@
+-- The slot printer's input (01, "Slot printer"): "table length (2), table, slots to run (2, at most 4,096), count of k values (2, at most the
+-- slots), those k bytes".
+use Prim.Native.Nat.{ℕ, _+_}
+use mathlib.Core.List.{List}
+use mathlib.Core.Bool.{Bool, cond, not, _||_}
+use lib.Dec.{ltb, eqb}
+use lib.ListN.{length, take, drop}
+use Rattle.fields.specs.Fields.{byte, half}
+use Rattle.printer.specs.Limits.{inputLimit, slotLimit}
+
+-- "table length (2), table"
+abbrev pub tableLength : List ℕ → ℕ
+tableLength s = half s 0
+
+abbrev pub tableBytes : List ℕ → List ℕ
+tableBytes s = take (tableLength s) (drop 2 s)
+
+-- "slots to run (2 ..)"
+abbrev pub slotsPlace : List ℕ → ℕ
+slotsPlace s = 2 + tableLength s
+
+abbrev pub slotsIn : List ℕ → ℕ
+slotsIn s = half s (slotsPlace s)
+
+-- "count of k values (2 ..), those k bytes"
+abbrev pub countIn : List ℕ → ℕ
+countIn s = half s (slotsPlace s + 2)
+
+abbrev pub listPlace : List ℕ → ℕ
+listPlace s = slotsPlace s + 4
+
+-- "Slots past the k list use all M cores."
+unfoldable pub freeIn : List ℕ → ℕ → ℕ → ℕ
+freeIn s cores slot = cond (ltb slot (countIn s)) (byte s (listPlace s + slot)) cores
+
+-- "Missing or extra bytes": the input is not as long as its parts say. A missing byte is read as 0, but an input that lacks one is too short
+-- for its parts, whatever they say.
+abbrev pub wrongLength : List ℕ → Bool
+wrongLength s = not (eqb (length s) (listPlace s + countIn s))
+
+-- "input beyond 65,536 bytes"
+abbrev pub beyondLimit : List ℕ → Bool
+beyondLimit s = ltb inputLimit (length s)
+
+-- "a number above its limit here": "slots .. at most 4,096", "count of k values (2, at most the slots)"
+abbrev pub aboveLimit : List ℕ → Bool
+aboveLimit s = ltb slotLimit (slotsIn s) || ltb (slotsIn s) (countIn s)
+
+-- "Missing or extra bytes, input beyond 65,536 bytes, or a number above its limit here, print `input` alone"
+unfoldable pub unfit : List ℕ → Bool
+unfit s = wrongLength s || beyondLimit s || aboveLimit s

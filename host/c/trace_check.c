@@ -1,0 +1,97 @@
+/*
+ * trace_check TABLE TRACE
+ *
+ * Checks a trace against its job table. TABLE and TRACE are files, where '-' is standard input for one of them. It prints a line
+ *     TRACE: NUMBER meaning
+ * with the number that 01, the maker's paper, gives to the bytes of the two; a number 10 to 22 is about the table. Exit status: 0 if the
+ * trace passes, 1 if it or the table is refused, 2 if a file cannot be read.
+ */
+#include "meaning.h"
+#include "zbrojomir.h"
+
+#include <errno.h>
+#include <stdio.h>
+#include <stdlib.h>
+#include <string.h>
+
+enum status { PASSED = 0, REFUSED = 1, TROUBLE = 2 };
+
+static enum status trouble(const char *name) {
+    fprintf(stderr, "trace_check: %s: %s\n", name, errno != 0 ? strerror(errno) : "it cannot be read");
+    return TROUBLE;
+}
+
+struct bytes {
+    uint8_t *start;
+    size_t length;
+};
+
+/* Reads to the end. Returns 0 if it cannot; then `bytes` has what was read before. */
+static int read_rest(FILE *file, struct bytes *bytes) {
+    size_t room = 0, got;
+
+    do {
+        if (bytes->length == room) {
+            size_t wider = room < 4096 ? 4096 : 2 * room;
+            uint8_t *moved = wider > room ? realloc(bytes->start, wider) : NULL;
+            if (moved == NULL) {
+                return 0;
+            }
+            bytes->start = moved;
+            room = wider;
+        }
+        got = fread(bytes->start + bytes->length, 1, room - bytes->length, file);
+        bytes->length += got;
+    } while (got > 0);
+    return !ferror(file);
+}
+
+/* The whole of a file, since a trace has no longest length that memory could hold beforehand. */
+static int read_file(const char *name, struct bytes *bytes) {
+    int standard = strcmp(name, "-") == 0, done;
+    FILE *file;
+
+    errno = 0;
+    file = standard ? stdin : fopen(name, "rb");
+    if (file == NULL) {
+        trouble(name);
+        return 0;
+    }
+    done = read_rest(file, bytes);
+    if (!done) {
+        trouble(name);
+    }
+    if (!standard) {
+        fclose(file);
+    }
+    return done;
+}
+
+static enum status check(const char *table_name, const char *trace_name) {
+    struct bytes table = {NULL, 0}, trace = {NULL, 0};
+    enum status status = TROUBLE;
+
+    if (read_file(table_name, &table) && read_file(trace_name, &trace)) {
+        uint8_t number = zb_trace_check(table.start, table.length, trace.start, trace.length);
+        printf("%s: %u %s\n", trace_name, (unsigned)number, meaning(number));
+        status = number == ZB_DONE ? PASSED : REFUSED;
+    }
+    free(table.start);
+    free(trace.start);
+    return status;
+}
+
+int main(int count, char **words) {
+    enum status status;
+
+    if (count != 3 || (strcmp(words[1], "-") == 0 && strcmp(words[2], "-") == 0)) {
+        fprintf(stderr, "usage: trace_check TABLE TRACE   ('-' is standard input, for one of them)\n");
+        return TROUBLE;
+    }
+    status = check(words[1], words[2]);
+    errno = 0;
+    if (fflush(stdout) != 0 || ferror(stdout)) {
+        return trouble("standard output");
+    }
+    return status;
+}
