@@ -2,7 +2,7 @@
 use Prim.Native.Nat.{ℕ, _+_, _≤_, _<_, min}
 use mathlib.Core.Path.{_≡_, refl, sym, ap, subst, _∙_}
 use mathlib.Core.List.{List, [], _∷_}
-use mathlib.Core.Bool.{Bool, true, false, cond, not, true≢false}
+use mathlib.Core.Bool.{Bool, true, false, cond, true≢false}
 use native.Mathlib.Numerals.{add-one}
 use native.Mathlib.Omega.{arith}
 use lib.ListN.{length, getD, take, drop}
@@ -19,12 +19,12 @@ use Rattle.table.specs.Value.{rowsOf}
 use Rattle.pd2.specs.Ready.{late}
 use Rattle.pd2.specs.Rows.{quantaOf, GaveMarked, isLate}
 use Rattle.trace.specs.Said.{Said, named}
-use Rattle.trace.specs.Records.{countAt, pastRecord, placeOf, names, firstPlace, placeIn, rowsIn, countIn}
+use Rattle.trace.specs.Records.{countAt, pastRecord, placeOf, names, firstPlace, placeIn, rowsIn, timesNamed}
 use Rattle.trace.proofs.Records.{counted-if-named, uncounted-if-not-named}
 use Rattle.checker.specs.declared.Answer.{Answer}
 use Rattle.checker.specs.declared.Walk.{Walk}
 use Rattle.checker.specs.Answer.{saidOf}
-use Rattle.checker.specs.Causes.{early, lateAt, lowest, anyRow}
+use Rattle.checker.specs.Causes.{tooEarly, lateAt, lowest, anyRow}
 use Rattle.checker.specs.Check.{shapeAt, timeFindings, recordFindings}
 use Rattle.checker.specs.Walking.{Askable, CanJudge, Walked, Leads, Read, isEarly, isPassed}
 use Rattle.checker.proofs.Asked.{row-there, can-be-asked, yes-when-answered}
@@ -65,36 +65,36 @@ module _ (table : Table) (s : List ℕ) (t : ℕ) (walk : Walk) (can : CanJudge 
     marked i = subst (λ place. getD marks i false ≡ names (take (countAt s place) (drop (place + 2) s)) i) (can .reached .place) (read .rows i)
 
     -- the lowest early row, as it was found in the arrays
-    early-is : {i : ℕ} → Lowest (isEarly table (walk .quanta) marks t) (length (rowsOf table)) i → Lowest (early table s t) (length (rowsOf table)) i
+    early-is : {i : ℕ} → Lowest (isEarly table (walk .quanta) marks t) (length (rowsOf table)) i → Lowest (tooEarly table s t) (length (rowsOf table)) i
     early-is {i} low =
-        same-lowest (isEarly table (walk .quanta) marks t) (early table s t) (length (rowsOf table)) i (λ j l. rw (marked j, can .reached .quanta j l) refl) low
+        same-lowest (isEarly table (walk .quanta) marks t) (tooEarly table s t) (length (rowsOf table)) i (λ j l. rw (marked j, can .reached .quanta j l) refl) low
 
     -- An early row ends the check,
     pub early-ends : {i : ℕ} → Lowest (isEarly table (walk .quanta) marks t) (length (rowsOf table)) i → i < length (rowsOf table) → FirstFound (recordFindings table s t) (named 44 i t)
     early-ends {i} low l =
-        let is = is-lowest table (early table s t) i (early-is low) l in
+        let is = is-lowest table (tooEarly table s t) i (early-is low) l in
         first-behind sound (subst (λ row. FirstFound (timeFindings table s t) (named 44 row t)) (is .1) (FirstFound.here (is .0)))
 
     module _ {i : ℕ} (low : Lowest (isEarly table (walk .quanta) marks t) (length (rowsOf table)) i) (none : length (rowsOf table) ≤ i)
         {given : List Quanta} (gave : GaveMarked marks (walk .quanta) given) where
-      no-early : anyRow table (early table s t) ≡ false
-      no-early = none-is table (early table s t) i (early-is low) none
+      no-early : anyRow table (tooEarly table s t) ≡ false
+      no-early = none-is table (tooEarly table s t) i (early-is low) none
 
       -- the quanta after the slot
-      quanta-after : (j : ℕ) → j < length (rowsOf table) → quantaOf given j ≡ countIn s j (t + 1)
+      quanta-after : (j : ℕ) → j < length (rowsOf table) → quantaOf given j ≡ timesNamed s j (t + 1)
       quanta-after j l = gave .each j ∙ go (names (rowsIn s t) j) refl
         where
           go : (b : Bool) → names (rowsIn s t) j ≡ b →
-              cond (getD marks j false) (kept (quantaOf (walk .quanta) j + 1)) (quantaOf (walk .quanta) j) ≡ countIn s j (t + 1)
+              cond (getD marks j false) (kept (quantaOf (walk .quanta) j + 1)) (quantaOf (walk .quanta) j) ≡ timesNamed s j (t + 1)
           go true e =
               rw (marked j, e, can .reached .quanta j l)
               (omega (arith, can .reached .few j, can .time) ∙ sym (counted-if-named s firstPlace j t e))
           go false e = rw (marked j, e, can .reached .quanta j l) (sym (uncounted-if-not-named s firstPlace j t e))
 
-      few-after : (j : ℕ) → countIn s j (t + 1) ≤ t + 1
+      few-after : (j : ℕ) → timesNamed s j (t + 1) ≤ t + 1
       few-after j = go (names (rowsIn s t) j) refl
         where
-          go : (b : Bool) → names (rowsIn s t) j ≡ b → countIn s j (t + 1) ≤ t + 1
+          go : (b : Bool) → names (rowsIn s t) j ≡ b → timesNamed s j (t + 1) ≤ t + 1
           go true e = omega (arith, counted-if-named s firstPlace j t e, can .reached .few j)
           go false e = omega (arith, uncounted-if-not-named s firstPlace j t e, can .reached .few j)
 

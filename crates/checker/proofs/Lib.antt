@@ -9,4 +9,3 @@ pub mod Judged
 pub mod Traced
 pub mod Checked
 pub mod Determined
-pub mod Bench

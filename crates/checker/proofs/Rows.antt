@@ -11,37 +11,19 @@ use lib.Dec.{leb}
 use lib.ListN.{length}
 use Rattle.facts.proofs.Tests.{both, hold-both}
 use Rattle.facts.proofs.Counting.{none-counted, counts-grow}
-use Rattle.windows.specs.Windows.{start, deadline, jobStart}
-use Rattle.windows.proofs.Windows.{deadline-rises, window-has-a-slot}
+use Rattle.windows.specs.Windows.{start, jobStart}
+use Rattle.windows.proofs.Windows.{window-has-a-slot, due-in-order}
 use Rattle.table.specs.declared.Row.{Row}
 use Rattle.table.specs.declared.Table.{Table}
 use Rattle.table.specs.Value.{faultOf, rowsOf}
-use Rattle.table.proofs.Taken.{rows-are-sound}
 use Rattle.pd2.specs.Ready.{origin, early, readyPlain, readyEarly, ready, late}
 use Rattle.pd2.specs.Share.{lower, upper, within, CanBe}
 use Rattle.pd2.specs.Choice.{rowAt}
-use Rattle.pd2.proofs.Share.{nothing-is-within, upper-kept-when-idle, upper-after-quantum-means-ready, late-means-below}
-use Rattle.trace.specs.Records.{namedIn, firstPlace, names, slotsIn, rowsIn, countIn}
+use Rattle.pd2.proofs.Share.{row-can-be, nothing-is-within, upper-kept-when-idle, upper-after-quantum-means-ready, late-means-below}
+use Rattle.trace.specs.Records.{namedIn, firstPlace, names, slotsIn, rowsIn, timesNamed}
 use Rattle.trace.proofs.Records.{counted-if-named, uncounted-if-not-named}
 use Rattle.checker.specs.Passes.{firstAllowed, due, Holds, InWindows}
 use Rattle.checker.proofs.Sound.{InTime}
-
--- belongs in windows
-
--- A subtask that is due earlier comes earlier.
-due-in-order : (e p o : ℕ) → 0 < e → e ≤ p → (i j : ℕ) → deadline e p o i < deadline e p o j → i < j
-due-in-order e p o he hp i j h = go (decLt i j) (decLt j i)
-  where
-    go : Dec (i < j) → Dec (j < i) → i < j
-    go (yes l) d = l
-    go (no l) (yes m) = absurd (omega (arith, deadline-rises e p o he hp m))
-    go (no l) (no m) = let same : i ≡ j = omega arith in absurd (omega (arith, ap (deadline e p o) same))
-
--- belongs in pd2
-
--- Each row of a table without fault can be.
-row-can-be : (table : Table) → faultOf table ≡ 0 → (i : ℕ) → i < length (rowsOf table) → CanBe (rowAt (rowsOf table) i)
-row-can-be table h i l = let sound = rows-are-sound table h i l in record { cost = sound .cost; weight = omega (arith, sound .weight) }
 
 -- A row is ready from the first allowed slot of its next subtask on,
 ready-from-first-allowed : (row : Row) (q t : ℕ) → ready row q t ≡ leb (firstAllowed row (q + 1)) t
@@ -66,7 +48,7 @@ module _ (table : Table) (s : List ℕ) (sound : faultOf table ≡ 0) (i : ℕ) 
 
   -- its quanta at time t
   abbrev quanta : ℕ → ℕ
-  quanta t = countIn s i t
+  quanta t = timesNamed s i t
 
   -- it is within its share at time t
   abbrev inShare : ℕ → Type 0

@@ -10,17 +10,17 @@ use Rattle.table.specs.declared.Table.{Table}
 use Rattle.table.specs.Value.{rowsOf}
 use Rattle.pd2.specs.Ready.{ready, late}
 use Rattle.pd2.specs.Choice.{rowAt}
-use Rattle.trace.specs.Records.{freeAt, countAt, rowsAt, pastRecord, names, slotsIn, placeIn, rowsIn, countIn}
+use Rattle.trace.specs.Records.{freeAt, countAt, rowsAt, pastRecord, names, slotsIn, placeIn, rowsIn, timesNamed}
 
 -- "Slot count (4, at most 1,000,000,000)"
 abbrev pub slotLimit : ℕ
 slotLimit = 1_000_000_000
 
--- "47 slot count above 1,000,000,000"
+-- 47, "slot count above 1,000,000,000"
 abbrev pub tooLong : List ℕ → Bool
 tooLong s = ltb slotLimit (slotsIn s)
 
--- "40 trace ends inside its count or a record": before its count is there,
+-- 40, "trace ends inside its count or a record": before its count is there,
 abbrev pub countCut : List ℕ → Bool
 countCut s = shorter s 4
 
@@ -32,14 +32,14 @@ headCut s place = shorter s (place + 2)
 abbrev pub rowsCut : List ℕ → ℕ → Bool
 rowsCut s place = shorter s (pastRecord s place)
 
--- "41 k above M", "42 c above k"
+-- 41, "k above M", 42, "c above k"
 abbrev pub tooManyCores : Table → List ℕ → ℕ → Bool
 tooManyCores table s place = ltb (table .cores) (freeAt s place)
 
 abbrev pub tooManyRows : List ℕ → ℕ → Bool
 tooManyRows s place = ltb (freeAt s place) (countAt s place)
 
--- "43 row number not below n, or not rising": the least that may stand next is one above the last
+-- 43, "row number not below n, or not rising": the least that may stand next is one above the last
 unfoldable pub badRows : ℕ → ℕ → List ℕ → Bool
 badRows n least [] = false
 badRows n least (row ∷ rows) = not (ltb row n) || ltb row least || badRows n (row + 1) rows
@@ -47,13 +47,13 @@ badRows n least (row ∷ rows) = not (ltb row n) || ltb row least || badRows n (
 abbrev pub badRow : Table → List ℕ → ℕ → Bool
 badRow table s place = badRows (length (rowsOf table)) 0 (rowsAt s place)
 
--- "44 quantum before its row was ready (row, slot)": row i is named in slot t and was not ready
-abbrev pub early : Table → List ℕ → ℕ → ℕ → Bool
-early table s t i = names (rowsIn s t) i && not (ready (rowAt (rowsOf table) i) (countIn s i t) t)
+-- 44, "quantum before its row was ready (row, slot)": row i is named in slot t and was not ready
+abbrev pub tooEarly : Table → List ℕ → ℕ → ℕ → Bool
+tooEarly table s t i = names (rowsIn s t) i && not (ready (rowAt (rowsOf table) i) (timesNamed s i t) t)
 
--- "45 row late (row, time)": row i is late at time t
+-- 45, "row late (row, time)": row i is late at time t
 abbrev pub lateAt : Table → List ℕ → ℕ → ℕ → Bool
-lateAt table s t i = late (rowAt (rowsOf table) i) (countIn s i t) t
+lateAt table s t i = late (rowAt (rowsOf table) i) (timesNamed s i t) t
 
 -- the lowest row that is so, if any is
 abbrev pub lowest : Table → (ℕ → Bool) → ℕ
@@ -62,6 +62,6 @@ lowest table is = getD (those is (length (rowsOf table))) 0 0
 abbrev pub anyRow : Table → (ℕ → Bool) → Bool
 anyRow table is = some is (length (rowsOf table))
 
--- "46 bytes after the last record"
+-- 46, "bytes after the last record"
 abbrev pub extra : List ℕ → Bool
 extra s = ltb (placeIn s (slotsIn s)) (length s)

@@ -4,4 +4,3 @@ pub mod Check
 pub mod WellFormed
 pub mod Passes
 pub mod Walking
-pub mod Bench

@@ -13,7 +13,7 @@ use Rattle.table.specs.Value.{faultOf, rowsOf}
 use Rattle.pd2.specs.Ready.{ready}
 use Rattle.pd2.specs.Choice.{rowAt}
 use Rattle.pd2.specs.Rows.{quantaOf}
-use Rattle.trace.specs.Records.{pastRecord, names, rowsAt, placeIn, countIn}
+use Rattle.trace.specs.Records.{pastRecord, names, rowsAt, placeIn, timesNamed}
 use Rattle.checker.specs.declared.Answer.{Answer}
 use Rattle.checker.specs.declared.Walk.{Walk}
 use Rattle.checker.specs.Answer.{saidOf}
@@ -38,8 +38,8 @@ pub record Reached (table : Table) (s : List ℕ) (t : ℕ) (walk : Walk) : Type
   pub place : walk .at ≡ placeIn s t
   pub inside : walk .at ≤ length s
   pub long : length (walk .quanta) ≡ rowLimit
-  pub quanta : (i : ℕ) → i < length (rowsOf table) → quantaOf (walk .quanta) i ≡ countIn s i t
-  pub few : (i : ℕ) → countIn s i t ≤ t
+  pub quanta : (i : ℕ) → i < length (rowsOf table) → quantaOf (walk .quanta) i ≡ timesNamed s i t
+  pub few : (i : ℕ) → timesNamed s i t ≤ t
 
 -- The record of slot t can be judged.
 pub record CanJudge (table : Table) (s : List ℕ) (t : ℕ) (walk : Walk) : Type 0 where

@@ -1,4 +1,4 @@
--- The limits of the three counts. Each number stands here and nowhere else in specs/.
+-- The limits of the three counts. Each limit has its one definition here.
 use Prim.Native.Nat.{ℕ, min}
 
 -- "time is already 1,000,000,000": the last time that a slot can end at

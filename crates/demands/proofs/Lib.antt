@@ -1,2 +1,10 @@
+pub mod Determined
+pub mod One
 pub mod WithCount
+pub mod Two
 pub mod RunPasses
+pub mod Three
+pub mod Bench
+pub mod Confession
+pub mod ShutOut
+pub mod NeverLate

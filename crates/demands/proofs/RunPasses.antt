@@ -13,14 +13,14 @@ use Rattle.table.specs.Value.{faultOf, rowsOf}
 use Rattle.pd2.specs.Ready.{ready, late}
 use Rattle.pd2.specs.Share.{upper, within}
 use Rattle.pd2.specs.Choice.{rowAt}
-use Rattle.pd2.proofs.Share.{upper-after-quantum-means-ready}
-use Rattle.trace.specs.Records.{firstPlace, names, rowsIn, countIn, count}
+use Rattle.pd2.proofs.Share.{row-can-be, upper-after-quantum-means-ready}
+use Rattle.trace.specs.Records.{firstPlace, names, rowsIn, timesNamed, count}
 use Rattle.trace.specs.Said.{named}
 use Rattle.trace.proofs.Records.{counted-if-named}
 use Rattle.dispatcher.specs.State.{timeOf}
 use Rattle.dispatcher.specs.Run.{Run, run}
 use Rattle.dispatcher.specs.RunKept.{quantaNow}
-use Rattle.dispatcher.proofs.Whole.{is-whole, row-can-be}
+use Rattle.dispatcher.proofs.Whole.{is-whole}
 use Rattle.dispatcher.proofs.RunKept.{going, one-on, first-late-is-owed, first-late-is-lowest, quanta-are-records}
 use Rattle.dispatcher.proofs.Written.{Written, written-going, written-last, shares-written, shares-before, ends-late}
 use Rattle.checker.specs.Causes.{slotLimit, lateAt}
@@ -65,7 +65,7 @@ module _ (table : Table) (free : ℕ → ℕ) (buffer : List ℕ) (sound : fault
     going-written = written-going table free buffer firstPlace sound starts m e
 
     -- every row is within its share at each time, by the records of the trace
-    going-shares : (t row : ℕ) → t ≤ m → row < length (rowsOf table) → within (rowAt (rowsOf table) row) (countIn going-trace row t) t ≡ true
+    going-shares : (t row : ℕ) → t ≤ m → row < length (rowsOf table) → within (rowAt (rowsOf table) row) (timesNamed going-trace row t) t ≡ true
     going-shares t row k l =
         rw (count-is table m (at m .bytes) (at m .place) going-written (going-clock .1) row t k)
         (shares-written table free buffer firstPlace sound starts m e row t l k)
@@ -99,7 +99,7 @@ module _ (table : Table) (free : ℕ → ℕ) (buffer : List ℕ) (sound : fault
     late-written = written-last table free buffer firstPlace sound starts m e (omega (arith, is-late))
 
     -- every row is within its share at each time up to m,
-    late-shares : (t row : ℕ) → t ≤ m → row < length (rowsOf table) → within (rowAt (rowsOf table) row) (countIn late-trace row t) t ≡ true
+    late-shares : (t row : ℕ) → t ≤ m → row < length (rowsOf table) → within (rowAt (rowsOf table) row) (timesNamed late-trace row t) t ≡ true
     late-shares t row k l =
         rw (count-is table (m + 1) (last .bytes) (last .place) late-written (late-clock .1) row t (omega arith))
         (shares-before table free buffer firstPlace sound starts m e (omega (arith, is-late)) row t l k)
@@ -113,19 +113,19 @@ module _ (table : Table) (free : ℕ → ℕ) (buffer : List ℕ) (sound : fault
         }
 
     -- the trace counts the quanta that the run gave,
-    quanta-counted : (i : ℕ) → quantaNow last i ≡ countIn late-trace i (m + 1)
+    quanta-counted : (i : ℕ) → quantaNow last i ≡ timesNamed late-trace i (m + 1)
     quanta-counted i =
         quanta-are-records table free buffer firstPlace (suc m) i
         ∙ (ap (count (last .bytes) firstPlace i) (late-clock .0)
         ∙ sym (count-is table (m + 1) (last .bytes) (last .place) late-written (late-clock .1) i (m + 1) (omega arith)))
 
     -- the rows named in the last slot were ready, since the upper limits still hold after it,
-    last-readied : (i : ℕ) → i < length (rowsOf table) → names (rowsIn late-trace m) i ≡ true → ready (rowAt (rowsOf table) i) (countIn late-trace i m) m ≡ true
+    last-readied : (i : ℕ) → i < length (rowsOf table) → names (rowsIn late-trace m) i ≡ true → ready (rowAt (rowsOf table) i) (timesNamed late-trace i m) m ≡ true
     last-readied i l named-there =
         let row = rowAt (rowsOf table) i in
         let one-more = quanta-counted i ∙ counted-if-named late-trace firstPlace i m named-there in
         let high = first-late-is-owed table free buffer firstPlace sound m e is-late .uppers i l in
-        sym (upper-after-quantum-means-ready row (row-can-be table sound i l) (countIn late-trace i m) m)
+        sym (upper-after-quantum-means-ready row (row-can-be table sound i l) (timesNamed late-trace i m) m)
         ∙ subst (λ q. upper row q (m + 1) ≡ true) one-more high
 
     -- and the row that the run named is the lowest late one

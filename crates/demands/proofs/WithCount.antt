@@ -9,7 +9,7 @@ use lib.ListN.{length, getD, take, drop, length-append, length-drop}
 use lib.Seq.{length-take-le, getD-take, getD-drop, getD-append-add}
 use Rattle.table.specs.declared.Table.{Table}
 use Rattle.table.specs.Value.{rowsOf}
-use Rattle.trace.specs.Records.{freeAt, countAt, pastRecord, placeOf, firstPlace, slotsIn, placeIn, countIn, count}
+use Rattle.trace.specs.Records.{freeAt, countAt, pastRecord, placeOf, firstPlace, slotsIn, placeIn, timesNamed, count}
 use Rattle.trace.proofs.Records.{places-rise}
 use Rattle.trace.proofs.Agree.{stand-from, ends-before, Agree, place-agrees, count-agrees}
 use Rattle.dispatcher.proofs.Written.{sound-there, Written}
@@ -76,7 +76,7 @@ module _ (table : Table) (n : ℕ) (b : List ℕ) (next : ℕ) (so : Written tab
   place-is t l = place-agrees firstPlace next trace b trace-agrees t (omega (arith, places-rise b firstPlace t n l, so .place))
 
   -- and so are its counts.
-  pub count-is : (row t : ℕ) → t ≤ n → countIn trace row t ≡ count b firstPlace row t
+  pub count-is : (row t : ℕ) → t ≤ n → timesNamed trace row t ≡ count b firstPlace row t
   count-is row t l = count-agrees firstPlace next trace b trace-agrees row t (omega (arith, places-rise b firstPlace t n l, so .place))
 
   -- each record is sound,

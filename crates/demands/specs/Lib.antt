@@ -1,1 +1,10 @@
+pub mod Promises
+pub mod Determined
+pub mod One
+pub mod Two
 pub mod RunPasses
+pub mod Three
+pub mod Bench
+pub mod Confession
+pub mod ShutOut
+pub mod NeverLate

@@ -1,7 +1,7 @@
 -- What the lower crates answer about a usable row, and what the functions here make of it. Assumes nothing.
 use Prim.Native.Nat.{ℕ, _+_, _-_, _*_, _%_, _<_}
 use mathlib.Core.Path.{_≡_, refl, sym, ap, _∙_}
-use mathlib.Core.Bool.{Bool, true, false, not, false≢true}
+use mathlib.Core.Bool.{Bool, true, false, false≢true}
 use native.Mathlib.Nat.{mul-le-mul}
 use native.Mathlib.Omega.{arith}
 use borrow.Author.Tests.{eq-eqb, ne-eqb}
@@ -15,7 +15,6 @@ use Rattle.dispatcher.specs.declared.State.{State}
 use Rattle.dispatcher.specs.State.{rowsIn, quantaIn, timeOf}
 use Rattle.dispatcher.specs.Broken.{ofRow}
 use Rattle.counts.specs.Limits.{most}
-use Rattle.windows.specs.Fits.{reach}
 use Rattle.windows.specs.declared.Due.{Due}
 use Rattle.windows.specs.declared.Due.the-variants as due
 use Rattle.windows.specs.declared.Due.the-variants.{By}

@@ -8,10 +8,11 @@ use native.Mathlib.Decide.{decLt}
 use native.Mathlib.Omega.{arith}
 use lib.Dec.{ltb, eqb}
 use lib.ListN.{length, length-map, List·getD-eq-default}
-use borrow.Author.Tests.{ltb-true, ltb-false, eqb-false, not-false}
+use borrow.Author.Tests.{le-ltb, ltb-true, ltb-false, ne-eqb, eqb-false, not-false}
 use Rattle.facts.specs.First.{Lowest}
 use Rattle.facts.specs.Faults.{_⇒_, firstMet, numbered}
 use Rattle.facts.proofs.Tests.{both, hold-both, neither-holds}
+use Rattle.facts.proofs.First.{a-lowest}
 use Rattle.facts.proofs.Counting.{some-if, none-if, each-fails, none-is-listed, lowest-is-first}
 use Rattle.facts.proofs.Faults.{neither, passed, answered-exactly}
 use Rattle.counts.specs.Limits.{timeLimit}
@@ -22,44 +23,23 @@ use Rattle.pd2.specs.Share.{lower, upper, CanBe}
 use Rattle.pd2.specs.Picks.{picked}
 use Rattle.pd2.specs.Choice.{rowAt, quantaAt, given, readyIn, firstBy}
 use Rattle.pd2.specs.Order.{before}
-use Rattle.pd2.proofs.Share.{nothing-is-within, upper-kept-when-idle, upper-after-quantum-means-ready, late-means-below}
+use Rattle.pd2.proofs.Share.{row-can-be, nothing-is-within, upper-kept-when-idle, upper-after-quantum-means-ready, late-means-below}
+use Rattle.pd2.proofs.Picks.{picked-is-ready}
 use Rattle.pd2.proofs.Choice.{how-many-given, given-at}
 use Rattle.trace.specs.Records.{names}
 use Rattle.trace.proofs.Records.{listed-are-named}
 use Rattle.dispatcher.specs.declared.State.{State}
 use Rattle.dispatcher.specs.State.{rowsIn, quantaIn, timeOf, freshOf}
 use Rattle.dispatcher.specs.Broken.{ofRow, broken}
+use Rattle.trace.specs.Said.{bare}
 use Rattle.dispatcher.specs.Answer.{doneSaid}
 use Rattle.dispatcher.specs.Slot.{picksIn, recordIn, lateAt, lateIn, oneOn, judged, stepped, lacksRoom, slotTests, refusal, slotBy, slotOf}
-use Rattle.dispatcher.specs.Kept.{RefusalsAreFirstCauses, RefusalChangesNothing, DoneMakesTheStep, UppersHold, After, DoneKeepsWhole, NextIsStopped, FreshIsWhole}
+use Rattle.dispatcher.specs.Kept.{RefusalsAreFirstCauses, RefusalChangesNothing, DoneMakesTheStep, UppersHold, After, DoneKeepsWhole, NextIsStopped, FreshIsWhole, FaultAnswers30}
 use Rattle.dispatcher.proofs.Ran.{as-counted}
-use Rattle.dispatcher.proofs.Whole.{Whole, is-whole, is-not-broken, row-can-be, rows-have-places, nothing-given}
+use Rattle.dispatcher.proofs.Whole.{Whole, is-whole, is-not-broken, rows-have-places, nothing-given}
 
--- belongs in facts
-
--- There is a lowest number that passes, or the bound.
-a-lowest : (a : ℕ → Bool) (n : ℕ) → (i : ℕ) × Lowest a n i
-a-lowest a zero = (0, record { within = omega arith; passes = λ l. absurd (omega arith); none-before = λ j l. absurd (omega arith) })
-a-lowest a (suc n) = let below = a-lowest a n in go (decLt (below .0) n) (a n) refl (below .1)
-  where
-    go : {i : ℕ} → Dec (i < n) → (t : Bool) → a n ≡ t → Lowest a n i → (k : ℕ) × Lowest a (suc n) k
-    go {i} (yes l) t e low = (i, record { within = omega arith; passes = λ m. low .passes l; none-before = low .none-before })
-    go {i} (no l) true e low = (n, record { within = omega arith; passes = λ m. e; none-before = λ j m. low .none-before j (omega (arith, low .within)) })
-    go {i} (no l) false e low = (suc n, record { within = omega arith; passes = λ m. absurd (omega arith); none-before = λ j m. last j m (decLt j n) })
-      where
-        last : (j : ℕ) → j < suc n → Dec (j < n) → a j ≡ false
-        last j m (yes k) = low .none-before j (omega (arith, low .within))
-        last j m (no k) = ap a {x = j} {y = n} (omega arith) ∙ e
-
--- belongs in pd2
-
--- A picked row is ready.
-picked-is-ready : (ready : ℕ → Bool) (first : ℕ → ℕ → Bool) (n k i : ℕ) → picked ready first n k i ≡ true → ready i ≡ true
-unfolding picked
-picked-is-ready ready first n k i h = both (ready i) _ h .0
-
--- a slot is done with 0 or 1
-done-number : (late : List ℕ) (time : ℕ) → doneSaid late time .number < 2
+-- A slot is done with 0 or 1.
+pub done-number : (late : List ℕ) (time : ℕ) → doneSaid late time .number < 2
 done-number [] time = omega arith
 done-number (lowest ∷ others) time = omega arith
 
@@ -97,6 +77,9 @@ module _ (s : State) (k : ℕ) (buffer : List ℕ) (place : ℕ) where
   unfolding slotOf
   slot-done e = ap (λ r. slotBy r s k buffer place) e
 
+  pub not-refused-is-done : refusal s k buffer place ≡ 0 → slotOf s k buffer place .said .number < 2
+  not-refused-is-done e = rw (slot-done e) (done-number (lateIn (oneOn s k) (timeOf s + 1)) (timeOf s + 1))
+
   -- What is known where a slot is not refused.
   pub record Goes : Type 0 where
     pub whole : broken s ≡ false
@@ -124,6 +107,13 @@ module _ (s : State) (k : ℕ) (buffer : List ℕ) (place : ℕ) where
         cores = ltb-false (s .table .cores) k (passed _ 32 (x₄ .0));
         room = omega (arith, ltb-false (length buffer) place (room .0), ltb-false (length buffer - place) (2 + length (picksIn s k)) (room .1));
       }
+
+  -- And one that meets none is not refused.
+  pub goes-back : Goes → refusal s k buffer place ≡ 0
+  unfolding refusal firstMet
+  goes-back g =
+      let room = le-ltb (length buffer - place) (2 + length (picksIn s k)) (omega (arith, g .room)) in
+      rw (g .whole, g .runs, ne-eqb (timeOf s) timeLimit (λ e. omega (arith, g .time)), le-ltb (s .table .cores) k (g .cores), le-ltb (length buffer) place (omega (arith, g .room)), room)
 
   -- a number above 1 is the refusal's
   refused-number : (number : ℕ) → 1 < number → (slotOf s k buffer place .said .number ≡ number) ↔ (refusal s k buffer place ≡ number)
@@ -170,8 +160,8 @@ module _ (s : State) (k : ℕ) where
       length-map (given (names (picksIn s k)) 0 (quantaIn s)) (λ q. record { 0 = q })
       ∙ (how-many-given (names (picksIn s k)) 0 (quantaIn s) ∙ as-many-places s)
 
-  -- a row that is named is picked, so it is a ready row of the table
-  named-is-ready : (i : ℕ) → names (picksIn s k) i ≡ true → (i < length (rowsIn s)) × (readyIn (rowsIn s) (quantaIn s) (timeOf s) i ≡ true)
+  -- A row that is named is picked, so it is a ready row of the table.
+  pub named-is-ready : (i : ℕ) → names (picksIn s k) i ≡ true → (i < length (rowsIn s)) × (readyIn (rowsIn s) (quantaIn s) (timeOf s) i ≡ true)
   named-is-ready i h =
       let test = picked (readyIn (rowsIn s) (quantaIn s) (timeOf s)) (firstBy before (rowsIn s) (quantaIn s)) (length (rowsIn s)) k in
       let x = both (ltb i (length (rowsIn s))) (test i) (sym (listed-are-named test (length (rowsIn s)) i) ∙ h) in
@@ -200,7 +190,7 @@ module _ (s : State) (k : ℕ) where
       go (no l) false e = none-past-places i (omega (arith, long)) ∙ rw e (omega arith)
 
   -- and in any state it has one more and is picked, or as many as before.
-  one-more-or-same : (i : ℕ) →
+  pub one-more-or-same : (i : ℕ) →
       ((names (picksIn s k) i ≡ true) × (quantaAt (quantaIn (oneOn s k)) i ≡ quantaAt (quantaIn s) i + 1))
       ⊎ (quantaAt (quantaIn (oneOn s k)) i ≡ quantaAt (quantaIn s) i)
   one-more-or-same i = go (decLt i (length (s .quanta))) (names (picksIn s k) i) refl
@@ -314,3 +304,16 @@ fresh-is-whole t = (λ h. is-whole (freshOf t) h .table, λ h. is-not-broken (fr
           quanta = λ i l. omega (arith, nothing-given t i);
           shares = λ runs i l. rw (nothing-given t i) (nothing-is-within (rowAt (rowsIn (freshOf t)) i) (row-can-be t h i l));
         }
+
+-- a broken state answers 30
+broken-answers : (s : State) (k : ℕ) (buffer : List ℕ) (place : ℕ) → broken s ≡ true → slotOf s k buffer place .said ≡ bare 30
+unfolding slotOf refusal firstMet
+broken-answers s k buffer place h = rw h
+
+-- A fresh state whose table has a fault answers 30.
+pub fault-answers-30 : FaultAnswers30
+fault-answers-30 t fault k buffer place = go (broken (freshOf t)) refl
+  where
+    go : (b : Bool) → broken (freshOf t) ≡ b → slotOf (freshOf t) k buffer place .said ≡ bare 30
+    go true e = broken-answers (freshOf t) k buffer place e
+    go false e = absurd (fault (fresh-is-whole t .0 e))

@@ -9,7 +9,7 @@ pub mod Marks
 pub mod Picked
 pub mod Whole
 pub mod Kept
+pub mod Places
 pub mod RunKept
 pub mod Written
 pub mod Determined
-pub mod Bench

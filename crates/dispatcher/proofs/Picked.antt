@@ -13,7 +13,6 @@ use Rattle.facts.specs.Counting.{those}
 use Rattle.facts.proofs.Counting.{same-list}
 use Rattle.counts.specs.Limits.{most}
 use Rattle.windows.proofs.Windows.{bit-is-0-or-1}
-use Rattle.pd2.specs.Ready.{ready}
 use Rattle.pd2.specs.Order.{Rank, rankOf, before}
 use Rattle.pd2.specs.Picks.{picked}
 use Rattle.pd2.specs.Choice.{rowAt, quantaAt, readyIn, firstBy}

@@ -7,7 +7,7 @@ use native.Mathlib.Decide.{decLt}
 use native.Mathlib.Omega.{arith}
 use borrow.Author.Tests.{lt-ltb, ltb-true}
 use Rattle.facts.proofs.Tests.{both, hold-both}
-use lib.ListN.{length, getD, set, length-map, List·getD-map, List·getD-eq-default}
+use lib.ListN.{length, getD, length-map, List·getD-map, List·getD-eq-default}
 use lib.Seq.{ext-getD}
 use Rattle.facts.specs.First.{Lowest}
 use Rattle.facts.proofs.First.{same-lowest}

@@ -1,5 +1,5 @@
 -- What a run keeps, however many cores each slot had. Assumes nothing.
-use Prim.Native.Nat.{ℕ, zero, suc, _+_, _*_, _≤_, _<_}
+use Prim.Native.Nat.{ℕ, zero, suc, _+_, _≤_, _<_}
 use mathlib.Core.Path.{_≡_, refl, sym, ap, _∙_, subst}
 use mathlib.Core.List.{List}
 use mathlib.Core.Bool.{true, false, true≢false}
@@ -8,20 +8,16 @@ use native.Mathlib.Decide.{decLt}
 use native.Mathlib.Numerals.{add-one}
 use native.Mathlib.Omega.{arith}
 use lib.ListN.{length}
-use borrow.Author.Tests.{leb-true, le-leb}
 use Rattle.facts.specs.First.{Lowest}
 use Rattle.facts.proofs.Tests.{both}
 use Rattle.facts.proofs.Counting.{none-counted}
-use Rattle.windows.specs.Windows.{deadline}
-use Rattle.windows.proofs.Products.{late-means-owed}
-use Rattle.table.specs.declared.Row.{Row}
 use Rattle.table.specs.declared.Table.{Table}
 use Rattle.table.specs.Limits.{rowLimit}
 use Rattle.table.specs.Value.{faultOf, rowsOf}
-use Rattle.pd2.specs.Ready.{origin, late}
-use Rattle.pd2.specs.Share.{elapsed, lower, upper, within, CanBe}
+use Rattle.pd2.specs.Ready.{late}
+use Rattle.pd2.specs.Share.{lower, upper, within}
 use Rattle.pd2.specs.Choice.{rowAt, quantaAt}
-use Rattle.pd2.proofs.Share.{late-means-below}
+use Rattle.pd2.proofs.Share.{row-can-be, late-means-below, late-exactly-if-owed}
 use Rattle.trace.specs.Record.{withRecord}
 use Rattle.trace.specs.Records.{placeOf, namedIn, count}
 use Rattle.trace.proofs.Records.{next-place, named-once-more}
@@ -32,24 +28,15 @@ use Rattle.dispatcher.specs.Slot.{picksIn, recordIn, stepped, slotOf}
 use Rattle.dispatcher.specs.Kept.{After}
 use Rattle.dispatcher.specs.Run.{Run, placeBy, runWith, oneMore, run}
 use Rattle.dispatcher.specs.RunKept.{quantaNow, Owed, runFor, KeepsShares, LateWhenOwed, FirstLate, FirstLateIsOwed, QuantaAreRecords, RecordsStandInTurn}
-use Rattle.dispatcher.proofs.Whole.{Whole, is-whole, row-can-be, nothing-given}
+use Rattle.dispatcher.proofs.Whole.{Whole, is-whole, nothing-given}
 use Rattle.dispatcher.proofs.Kept.{done-is-not-refused, goes, refusal-changes-nothing, done-makes-the-step, places-stay, quanta-after, done-keeps-whole, fresh-is-whole}
 
--- belongs in pd2
-
--- A row is late exactly if it is owed a whole quantum.
-late-exactly-if-owed : (row : Row) → CanBe row → (q t : ℕ) → (late row q t ≡ true) ↔ (row .period * (q + 1) ≤ row .cost * elapsed row t)
-unfolding late
-late-exactly-if-owed row can q t =
-    let owed = late-means-owed (row .cost) (row .period) (origin row) (can .cost) (omega (arith, can .cost, can .weight)) q t in
-    (λ h. owed .0 (leb-true _ t h), λ l. le-leb (deadline (row .cost) (row .period) (origin row) (q + 1)) t (owed .1 l))
-
 -- The answer is 1 exactly if some row of the table is owed a whole quantum at time t.
-abbrev OneWhenOwed : Run → Table → ℕ → Type 0
+abbrev pub OneWhenOwed : Run → Table → ℕ → Type 0
 OneWhenOwed r table t = (r .said .number ≡ 1) ↔ ((i : ℕ) × (i < length (rowsOf table)) × Owed table r i t)
 
 -- So it is after each slot that is done: with 1 the row that is named is late, and with 0 all rows are within their shares, so none is.
-one-when-owed : (r : Run) → After (r .state) (r .said) → r .said .number < 2 → OneWhenOwed r (r .state .table) (timeOf (r .state))
+pub one-when-owed : (r : Run) → After (r .state) (r .said) → r .said .number < 2 → OneWhenOwed r (r .state .table) (timeOf (r .state))
 one-when-owed r after h = (
   λ e. (r .said .row, after .is-row e, is-owed (r .said .row) (after .is-row e) .0 (after .names-row e .passes (after .is-row e))),
   λ found. go (r .said .number) refl h found,

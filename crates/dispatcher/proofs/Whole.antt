@@ -15,8 +15,8 @@ use Rattle.table.specs.declared.Table.{Table}
 use Rattle.table.specs.Limits.{rowLimit}
 use Rattle.table.specs.Value.{faultOf, rowsOf}
 use Rattle.table.proofs.Taken.{rows-are-sound, sizes-are-within}
-use Rattle.pd2.specs.Share.{within, CanBe}
-use Rattle.pd2.specs.Choice.{rowAt, quantaAt}
+use Rattle.pd2.specs.Share.{within}
+use Rattle.pd2.specs.Choice.{quantaAt}
 use Rattle.dispatcher.specs.declared.State.{State}
 use Rattle.dispatcher.specs.State.{rowsIn, quantaIn, timeOf, freshOf}
 use Rattle.dispatcher.specs.Broken.{ofRow, someRow, exceeds, outsideShare, broken}
@@ -60,11 +60,7 @@ is-not-broken s w =
     share true e = refl
     share false e = none-if (ofRow s (outsideShare s)) (length (rowsIn s)) (λ i l. ap not (w .shares e i l))
 
--- Each row of a table without fault can be,
-pub row-can-be : (t : Table) → faultOf t ≡ 0 → (i : ℕ) → i < length (rowsOf t) → CanBe (rowAt (rowsOf t) i)
-row-can-be t h i l = let sound = rows-are-sound t h i l in record { cost = sound .cost; weight = omega (arith, sound .weight) }
-
--- and it has no more rows than a state has places.
+-- A table without fault has no more rows than a state has places.
 pub rows-have-places : (t : Table) → faultOf t ≡ 0 → length (rowsOf t) ≤ rowLimit
 rows-have-places t h = omega (arith, length-take (t .count) (t .rows), sizes-are-within t h .2)
 

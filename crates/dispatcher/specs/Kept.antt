@@ -14,7 +14,7 @@ use Rattle.trace.specs.Record.{withRecord}
 use Rattle.dispatcher.specs.declared.State.{State}
 use Rattle.dispatcher.specs.State.{rowsIn, timeOf, freshOf}
 use Rattle.dispatcher.specs.Broken.{ofRow, broken}
-use Rattle.trace.specs.Said.{Said}
+use Rattle.trace.specs.Said.{Said, bare}
 use Rattle.dispatcher.specs.Slot.{recordIn, lateAt, stepped, slotTests, slotOf}
 
 -- Each number 30 to 34 is answered exactly when its cause is the first met.
@@ -61,6 +61,9 @@ NextIsStopped =
     (s : State) (k : ℕ) (buffer : List ℕ) (place : ℕ) → slotOf s k buffer place .said .number ≡ 1 → (k′ : ℕ) (buffer′ : List ℕ) (place′ : ℕ) →
     slotOf (slotOf s k buffer place .state) k′ buffer′ place′ .said .number ≡ 31
 
--- "A fresh state can be made from any table value ..; if the table has a fault, its first slot answers 30."
+-- A fresh state is broken exactly if its table has a fault: "if the table has a fault, its first slot answers 30".
 abbrev pub FreshIsWhole : Type 0
 FreshIsWhole = (t : Table) → (broken (freshOf t) ≡ false) ↔ (faultOf t ≡ 0)
+
+abbrev pub FaultAnswers30 : Type 0
+FaultAnswers30 = (t : Table) → (faultOf t ≡ 0 → ⊥) → (k : ℕ) (buffer : List ℕ) (place : ℕ) → slotOf (freshOf t) k buffer place .said ≡ bare 30

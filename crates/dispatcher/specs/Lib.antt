@@ -3,8 +3,8 @@ pub mod Broken
 pub mod Answer
 pub mod Slot
 pub mod Kept
+pub mod Places
 pub mod Run
 pub mod RunKept
-pub mod Bench
 pub mod Usable
 pub mod Classes

@@ -15,7 +15,7 @@ pub record Run : Type 0 where
   pub bytes : List ℕ
   pub place : ℕ
 
--- A slot more, with k cores free, if the number of the last answer is 0: the place goes behind its record if it was done (0 or 1).
+-- The place goes behind the record of a slot that was done (0 or 1).
 abbrev pub placeBy : ℕ → ℕ → List ℕ → ℕ
 placeBy zero place entry = place + length entry
 placeBy (suc zero) place entry = place + length entry
@@ -24,6 +24,7 @@ placeBy (suc (suc number)) place entry = place
 abbrev pub runWith : Given → Run → List ℕ → Run
 runWith g r entry = record { said = g .said; state = g .state; bytes = g .bytes; place = placeBy (g .said .number) (r .place) entry }
 
+-- A slot more, with k cores free, if the number of the last answer is 0.
 abbrev pub oneMore : ℕ → Run → ℕ → Run
 oneMore zero r k = runWith (slotOf (r .state) k (r .bytes) (r .place)) r (recordIn (r .state) k)
 oneMore (suc number) r k = r

@@ -94,3 +94,17 @@ same-lowest a b n i same low =
       passes = λ l. sym (same i l) ∙ low .passes l;
       none-before = λ j l. sym (same j (omega (arith, low .within))) ∙ low .none-before j l;
     }
+
+-- There is a lowest number that passes, or the bound.
+pub a-lowest : (a : ℕ → Bool) (n : ℕ) → (i : ℕ) × Lowest a n i
+a-lowest a zero = (0, record { within = omega arith; passes = λ l. absurd (omega arith); none-before = λ j l. absurd (omega arith) })
+a-lowest a (suc n) = let below = a-lowest a n in go (decLt (below .0) n) (a n) refl (below .1)
+  where
+    go : {i : ℕ} → Dec (i < n) → (t : Bool) → a n ≡ t → Lowest a n i → (k : ℕ) × Lowest a (suc n) k
+    go {i} (yes l) t e low = (i, record { within = omega arith; passes = λ m. low .passes l; none-before = low .none-before })
+    go {i} (no l) true e low = (n, record { within = omega arith; passes = λ m. e; none-before = λ j m. low .none-before j (omega (arith, low .within)) })
+    go {i} (no l) false e low = (suc n, record { within = omega arith; passes = λ m. absurd (omega arith); none-before = λ j m. last j m (decLt j n) })
+      where
+        last : (j : ℕ) → j < suc n → Dec (j < n) → a j ≡ false
+        last j m (yes k) = low .none-before j (omega (arith, low .within))
+        last j m (no k) = ap a {x = j} {y = n} (omega arith) ∙ e

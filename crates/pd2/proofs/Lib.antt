@@ -3,6 +3,5 @@ pub mod Order
 pub mod Picks
 pub mod Choice
 pub mod Verdicts
-pub mod Bench
-pub mod Confession
 pub mod Rows
+pub mod Courses

@@ -61,6 +61,6 @@ textOf s =
     let judged = tableText (read .number) s (read .table) in
     cond (unfit s) inputLine judged
 
--- A record of 10 bytes has room for the rows that are picked: no slot of a text answers 34, and so no text says `refused 34`.
+-- A buffer of 10 bytes has room for the rows that are picked: no slot of a text answers 34, and so no text says `refused 34`.
 abbrev pub RoomIsEnough : Type 0
 RoomIsEnough = (s : State) (k : ℕ) → askedOf s k .said .number ≡ 34 → ⊥

@@ -3,4 +3,3 @@ pub mod Value
 pub mod Bytes
 pub mod Answers
 pub mod Taken
-pub mod Bench

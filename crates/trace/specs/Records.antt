@@ -54,5 +54,5 @@ abbrev pub rowsIn : List ℕ → ℕ → List ℕ
 rowsIn s t = rowsAt s (placeIn s t)
 
 -- how many of the first t records of a trace name a row
-abbrev pub countIn : List ℕ → ℕ → ℕ → ℕ
-countIn s row t = count s firstPlace row t
+abbrev pub timesNamed : List ℕ → ℕ → ℕ → ℕ
+timesNamed s row t = count s firstPlace row t

@@ -5,4 +5,3 @@ pub mod LeastTime
 pub mod Question
 pub mod Fits
 pub mod Next
-pub mod Bench

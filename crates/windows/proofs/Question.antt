@@ -1,11 +1,11 @@
 -- The window question's answer: its meaning tells all answers apart, and what is taken or refused. Assumes nothing.
-use mathlib.Core.Path.{_≡_, refl, ap, _∙_}
-use mathlib.Core.Bool.{true, false, not, _&&_, _||_}
-use Prim.Native.Nat.{ℕ, _≤_, _<_}
+use mathlib.Core.Path.{_≡_, refl, sym, ap, _∙_}
+use mathlib.Core.Bool.{Bool, true, false, not, _&&_, _||_, true≢false}
+use Prim.Native.Nat.{ℕ, _+_, _≤_, _<_}
 use native.Mathlib.Nat.{pos-of-ne-zero}
 use native.Mathlib.Decide.{decLe}
 use native.Mathlib.Omega.{arith}
-use borrow.Author.Tests.{lt-ltb, le-ltb, le-leb, lt-leb, ltb-true, leb-true, eqb-false, not-false}
+use borrow.Author.Tests.{lt-ltb, le-ltb, le-leb, lt-leb, ltb-true, leb-true, eqb-false, ne-eqb, not-false}
 use lib.Dec.{ltb, leb, eqb}
 use Rattle.facts.proofs.Tests.{both, neither-holds}
 use Rattle.facts.specs.Determined.{Determined, TellsApart}
@@ -15,7 +15,7 @@ use Rattle.windows.specs.declared.Answer.{Answer}
 use Rattle.windows.specs.declared.Answer.the-variants.{Window, Refused}
 use Rattle.windows.specs.Windows.{start, deadline, bit}
 use Rattle.windows.specs.Group.{groupDeadline}
-use Rattle.windows.specs.Question.{replyOf, lastSubtask, refused, windowReply}
+use Rattle.windows.specs.Question.{replyOf, lastSubtask, refused, windowReply, Unfit, IsAnswered, WindowsAreAnswered}
 
 -- Two answers with one reply are one answer.
 pub replies-tell-apart : TellsApart replyOf
@@ -62,3 +62,31 @@ is-taken e p f i h same pr pd pb pD =
     let d = pd ∙ ap (λ x. deadline e p x i) same in
     let D = pD ∙ ap (λ x. groupDeadline e p x i) same in
     rw h (λ k. record { number = 0; r = r k; d = d k; b = pb k; D = D k })
+
+-- What a refused question says of its numbers.
+unfit-if-refused : (e p i : ℕ) → refused e p i ≡ true → Unfit e p i
+unfit-if-refused e p i h = go (decLe 1 e) (decLe (e + 1) p) (decLe 1 i) (decLe i lastSubtask)
+  where
+    go : Dec (1 ≤ e) → Dec (e + 1 ≤ p) → Dec (1 ≤ i) → Dec (i ≤ lastSubtask) → Unfit e p i
+    go (no n) weight first last = Unfit.no-cost (omega arith)
+    go (yes y) (no n) first last = Unfit.not-below (omega arith)
+    go (yes y) (yes w) (no n) last = Unfit.before-first (omega arith)
+    go (yes y) (yes w) (yes a) (no n) = Unfit.past-last (omega arith)
+    go (yes y) (yes w) (yes a) (yes b) =
+        let fit : refused e p i ≡ false = simp (ne-eqb e 0 (λ z. omega arith), lt-ltb e p (omega arith), le-leb 1 i a, le-leb i lastSubtask b) in
+        absurd (true≢false (sym h ∙ fit))
+
+fit-if-not-refused : (e p i : ℕ) → refused e p i ≡ false → Unfit e p i → ⊥
+fit-if-not-refused e p i h (Unfit.no-cost z) = omega (arith, not-refused e p i h .0)
+fit-if-not-refused e p i h (Unfit.not-below z) = omega (arith, not-refused e p i h .1)
+fit-if-not-refused e p i h (Unfit.before-first z) = omega (arith, not-refused e p i h .2)
+fit-if-not-refused e p i h (Unfit.past-last z) = omega (arith, not-refused e p i h .3)
+
+-- A question is refused exactly if it is unfit.
+pub windows-are-answered : WindowsAreAnswered
+unfolding windowReply
+windows-are-answered e p f i = go (refused e p i) refl
+  where
+    go : (x : Bool) → refused e p i ≡ x → IsAnswered e p f i
+    go true h = record { if-unfit = λ u. rw h; if-fit = λ n. absurd (n (unfit-if-refused e p i h)) }
+    go false h = record { if-unfit = λ u. absurd (fit-if-not-refused e p i h u); if-fit = λ n. rw h }

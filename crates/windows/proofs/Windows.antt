@@ -3,7 +3,7 @@ use mathlib.Core.Path.{_≡_, ap, _∙_}
 use mathlib.Core.Logic.{_⊎_, inl, inr}
 use Prim.Native.Nat.{ℕ, _+_, _-_, _*_, _/_, _%_, _≤_, _<_}
 use native.Mathlib.Nat.{div-lt-iff-lt-mul, le-div-iff-mul-le, div-mul-le-self, lt-div-mul-add, mul-le-mul-left, mul-le-mul-right, mul-mod-left}
-use native.Mathlib.Decide.{ℕ-discrete}
+use native.Mathlib.Decide.{ℕ-discrete, decLt}
 use native.Mathlib.Omega.{arith}
 use borrow.Author.Tests.{eq-eqb, ne-eqb}
 use Rattle.facts.specs.Rounding.{ceilDiv}
@@ -150,3 +150,12 @@ module _ (e p o : ℕ) (he : 0 < e) where
       let whole = ceil-of-whole (i * p) he (bit-zero-divides e p i b) in
       let short = div-lt-iff-lt-mul {x = i * p} {y = r + 3} he .1 (omega (arith, floor-is-near ((i - 1) * p) he, step p i hi)) in
       omega arith
+
+-- A subtask that is due earlier comes earlier.
+pub due-in-order : (e p o : ℕ) → 0 < e → e ≤ p → (i j : ℕ) → deadline e p o i < deadline e p o j → i < j
+due-in-order e p o he hp i j h = go (decLt i j) (decLt j i)
+  where
+    go : Dec (i < j) → Dec (j < i) → i < j
+    go (yes l) d = l
+    go (no l) (yes m) = absurd (omega (arith, deadline-rises e p o he hp m))
+    go (no l) (no m) = let same : i ≡ j = omega arith in absurd (omega (arith, ap (deadline e p o) same))

@@ -4,4 +4,3 @@ pub mod LeastTime
 pub mod Question
 pub mod Fits
 pub mod Next
-pub mod Bench

@@ -1,5 +1,6 @@
 -- The window question (01, "Windows"): "A window may be asked for alone, by e, p, f (each 0 to 65,535) and i."
-use Prim.Native.Nat.{ℕ, _+_}
+use Prim.Native.Nat.{ℕ, _+_, _≤_, _<_}
+use mathlib.Core.Path.{_≡_}
 use mathlib.Core.Bool.{Bool, cond, not, _&&_, _||_}
 use lib.Dec.{ltb, leb, eqb}
 use Rattle.counts.specs.Limits.{timeLimit}
@@ -35,3 +36,19 @@ windowReply e p f i =
     cond (refused e p i)
     (record { number = 50; r = 0; d = 0; b = 0; D = 0 })
     (record { number = 0; r = start e p f i; d = deadline e p f i; b = bit e p i; D = groupDeadline e p f i })
+
+-- The same, said case by case: a question that is refused,
+pub data Unfit (e p i : ℕ) : Type 0 where
+  no-cost : e ≡ 0 → Unfit e p i
+  not-below : p ≤ e → Unfit e p i
+  before-first : i < 1 → Unfit e p i
+  past-last : lastSubtask < i → Unfit e p i
+
+-- with 50, and with its other parts 0; every other question is answered with its window.
+pub record IsAnswered (e p f i : ℕ) : Type 0 where
+  pub if-unfit : Unfit e p i → windowReply e p f i ≡ record { number = 50; r = 0; d = 0; b = 0; D = 0 }
+  pub if-fit : (Unfit e p i → ⊥) →
+      windowReply e p f i ≡ record { number = 0; r = start e p f i; d = deadline e p f i; b = bit e p i; D = groupDeadline e p f i }
+
+abbrev pub WindowsAreAnswered : Type 0
+WindowsAreAnswered = (e p f i : ℕ) → IsAnswered e p f i

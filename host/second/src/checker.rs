@@ -95,7 +95,12 @@ fn judge(table: &[u8], trace: &[u8]) -> Result<(), Answer> {
         }
         // 45: "row late (row, time)", at the slot's end
         let end = time + 1;
-        if let Some(row) = slot::lowest_late(&table, &quanta, end) {
+        #[cfg(not(slip = "late_only_if_picked"))]
+        let late = slot::lowest_late(&table, &quanta, end);
+        // slip: lateness tested only for rows that were picked
+        #[cfg(slip = "late_only_if_picked")]
+        let late = slot::lowest_late_picked(&table, &quanta, end, rows);
+        if let Some(row) = late {
             return Err(Answer {
                 number: 45,
                 row,
@@ -162,9 +167,11 @@ where
 #[cfg(test)]
 mod tests {
     use super::*;
-    use crate::slot::tests::{table_by_chance, Chance};
+    use crate::never_late::Chance;
+    use crate::slot::tests::table_by_chance;
     use crate::slot::{fresh, slot};
-    use crate::table::tests::{bytes_of, value_of, write, EXAMPLE};
+    use crate::table::tests::{bytes_of, value_of, EXAMPLE};
+    use crate::table::write;
 
     const TRACE: [u8; 16] = [3, 0, 0, 0, 2, 2, 0, 1, 2, 2, 0, 2, 2, 2, 1, 2];
 

@@ -6,12 +6,37 @@
 //! * `table`: the table, in bytes, and the faults of a table value.
 //! * `windows`: start, deadline, bit and group deadline of a subtask.
 //! * `share`: the exact share of a row.
-//! * `slot`: who is ready, who goes first, and one slot's choice.
+//! * `slot`: who is ready, who goes first, one slot's choice, and what decided it.
 //! * `trace`: the record of one slot inside a trace.
 //! * `checker`: the judge of traces from any origin.
 //! * `printer`: the slot printer's whole output.
+//! * `never_late`: full boxes by chance, run with all cores free.
+//!
+//! # Planted slips
+//!
+//! Built with `--cfg slip="NAME"` the program makes one mistake on purpose, so that a bench can
+//! show that it would be seen. Built without, none of it is there. Each is marked `slip:` at its
+//! place. The first five are those of 01's "Slips we have made", the others are of the kind that
+//! is off by one.
+//!
+//! | name | place | the mistake |
+//! |---|---|---|
+//! | `fraction_reduced` | `windows::job_start` | 2/6 treated as 1/3 for the job borders |
+//! | `bit_left_out` | `slot::rule_between` | "b = 1 before b = 0" left out of the order |
+//! | `smaller_group_first` | `slot::order` | smaller D first |
+//! | `weights_in_floats` | `table::test_sum` | e/p added up in floats; a full box gets refused |
+//! | `late_only_if_picked` | `slot::slot`, `checker::judge` | only picked rows are tested |
+//! | `start_of_next` | `windows::start_after_phase` | a window starts at the next one's start |
+//! | `deadline_rounded_down` | `windows::deadline_after_phase` | floor in place of ceil |
+//! | `half_is_heavy` | `windows::heavy` | 1/2 counted heavy |
+
+// compilers that know the lint warn of a cfg name they were not told of; older ones do not know
+// the lint
+#![allow(unknown_lints)]
+#![allow(unexpected_cfgs)]
 
 pub mod checker;
+pub mod never_late;
 pub mod printer;
 pub mod share;
 pub mod slot;

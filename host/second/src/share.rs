@@ -21,8 +21,8 @@ pub fn not_short(row: &Row, time: u64, quanta: u64) -> bool {
     behind(row, time, quanta) < i128::from(row.period)
 }
 
-/// "Plain row: -p < e·a - p·q. Early-release row: q is at most e·ceil(a/p).": the row has not
-/// more than its share. (p = 0 is no row; it has nothing.)
+/// "Plain row: quanta q with -p < e·a - p·q ... Early-release row: ... q is at most e·ceil(a/p)":
+/// the row has not more than its share. (p = 0 is no row; it has nothing.)
 pub fn not_over(row: &Row, time: u64, quanta: u64) -> bool {
     let p = i128::from(row.period);
     if p == 0 {

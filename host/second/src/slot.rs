@@ -85,6 +85,23 @@ pub fn lowest_late(table: &Table, quanta: &[u64; 32], time: u64) -> Option<u8> {
     None
 }
 
+/// slip: the lowest late row of those that were picked (row numbers, rising)
+#[cfg(slip = "late_only_if_picked")]
+pub fn lowest_late_picked(
+    table: &Table,
+    quanta: &[u64; 32],
+    time: u64,
+    picked: &[u8],
+) -> Option<u8> {
+    for &number in picked {
+        let place = usize::from(number);
+        if late(&table.rows[place], quanta[place], time) {
+            return Some(number);
+        }
+    }
+    None
+}
+
 // ---- who goes first ----
 
 /// A row's next subtask, as the order sees it.
@@ -117,10 +134,11 @@ pub fn rule_between(one: &Next, other: &Next) -> Rule {
     if one.deadline != other.deadline {
         return Rule::Deadline;
     }
-    if one.bit != other.bit {
+    // slip: b left out of the order
+    if one.bit != other.bit && !cfg!(slip = "bit_left_out") {
         return Rule::Bit;
     }
-    if one.bit == 1 && one.group != other.group {
+    if one.bit == 1 && other.bit == 1 && one.group != other.group {
         return Rule::GroupDeadline;
     }
     Rule::RowNumber
@@ -133,6 +151,8 @@ pub fn order(one: &Next, other: &Next) -> Ordering {
         Rule::Deadline => one.deadline.cmp(&other.deadline),
         // "b = 1 before b = 0"
         Rule::Bit => other.bit.cmp(&one.bit),
+        // slip: smaller D first
+        Rule::GroupDeadline if cfg!(slip = "smaller_group_first") => one.group.cmp(&other.group),
         // "larger D"
         Rule::GroupDeadline => other.group.cmp(&one.group),
         // "the lower row number"
@@ -148,16 +168,27 @@ pub fn ready_rows(state: &State) -> Vec<Next> {
         if ready(row, quanta, state.time) {
             let (e, p, f) = (row.cost, row.period, u64::from(row.phase));
             let i = next_subtask(quanta);
-            found.push(Next {
+            let next = Next {
                 row: number as u8,
                 deadline: windows::deadline(e, p, f, i),
                 bit: windows::bit(e, p, i),
                 group: windows::group_deadline(e, p, f, i),
-            });
+            };
+            put_in_order(&mut found, next);
         }
     }
-    found.sort_by(order);
     found
+}
+
+/// Puts a row before the first of the others that it goes before. (Not a library's sort: with the
+/// slip of leaving b out three rows can go round in a circle, and what a sort then does is its
+/// own affair. This way there is one answer then too.)
+fn put_in_order(others: &mut Vec<Next>, next: Next) {
+    let goes_first = |other: &Next| order(&next, other) == Ordering::Less;
+    match others.iter().position(goes_first) {
+        Some(place) => others.insert(place, next),
+        None => others.push(next),
+    }
 }
 
 /// "The first min(free cores, ready rows) are picked." Row numbers, rising.
@@ -169,6 +200,16 @@ fn pick(state: &State, k: u8) -> Vec<u8> {
         .collect();
     picked.sort_unstable();
     picked
+}
+
+/// What decided the slot: the rule between the last row picked with k free cores and the first
+/// row left out. None where nobody is picked (k = 0) or nobody is left out. The state is not
+/// judged here; what a slot would refuse is its own matter.
+pub fn deciding_rule(state: &State, k: u8) -> Option<Rule> {
+    let ready = ready_rows(state);
+    let left_out = ready.get(usize::from(k))?;
+    let last_picked = ready.get(usize::from(k.checked_sub(1)?))?;
+    Some(rule_between(last_picked, left_out))
 }
 
 // ---- one slot ----
@@ -241,13 +282,18 @@ pub fn slot(state: &mut State, k: u8, buffer: &mut [u8], place: u64) -> Answer {
 
     // "time is one higher, each picked row has one quantum more"
     state.time += 1;
-    for row in picked {
+    for &row in &picked {
         state.quanta[usize::from(row)] += 1;
     }
 
     // 1: "slot done, and some row is late at the new time; names the lowest such row and that
     // time"; "with 1 the state is also stopped"
-    if let Some(row) = lowest_late(&state.table, &state.quanta, state.time) {
+    #[cfg(not(slip = "late_only_if_picked"))]
+    let late = lowest_late(&state.table, &state.quanta, state.time);
+    // slip: lateness tested only for rows that were picked
+    #[cfg(slip = "late_only_if_picked")]
+    let late = lowest_late_picked(&state.table, &state.quanta, state.time, &picked);
+    if let Some(row) = late {
         state.stopped = true;
         return Answer {
             number: 1,
@@ -261,6 +307,7 @@ pub fn slot(state: &mut State, k: u8, buffer: &mut [u8], place: u64) -> Answer {
 #[cfg(test)]
 pub(crate) mod tests {
     use super::*;
+    use crate::never_late::Chance;
     use crate::table::tests::{value_of, EXAMPLE};
 
     const DONE: Answer = Answer {
@@ -400,6 +447,104 @@ pub(crate) mod tests {
             assert_eq!(order(&first, &second), Ordering::Less);
             assert_eq!(order(&second, &first), Ordering::Greater);
             assert_eq!(order(&first, &first), Ordering::Equal);
+        }
+    }
+
+    #[test]
+    fn ready_rows_stand_in_their_order() {
+        // 2/3 (0 to 2, b 1, D 3), 1/2 (0 to 2, b 0), 1/4 (0 to 4, b 0), 3/4 (0 to 2, b 1, D 4),
+        // 1/2, 2/3 with phase 1 (not ready in slot 0)
+        let rows = [
+            (2, 3, 0, 0),
+            (1, 2, 0, 0),
+            (1, 4, 0, 0),
+            (3, 4, 0, 0),
+            (1, 2, 0, 0),
+            (2, 3, 1, 0),
+        ];
+        let state = fresh(value_of(12, 4, &rows));
+        let next = |row, deadline, bit, group| Next {
+            row,
+            deadline,
+            bit,
+            group,
+        };
+        let expected = [
+            next(3, 2, 1, 4),
+            next(0, 2, 1, 3),
+            next(1, 2, 0, 0),
+            next(4, 2, 0, 0),
+            next(2, 4, 0, 0),
+        ];
+        assert_eq!(ready_rows(&state), expected);
+        // every arrival of the same rows, each swapped with each
+        for one in 0..5 {
+            for other in 0..5 {
+                let mut arriving = expected;
+                arriving.swap(one, other);
+                let mut ordered = Vec::new();
+                for next in arriving {
+                    put_in_order(&mut ordered, next);
+                }
+                assert_eq!(ordered, expected);
+            }
+        }
+    }
+
+    #[test]
+    fn what_decided_the_bench() {
+        // row 2 (b = 1), then row 0, then row 1: with two cores rows 0 and 1 part by their number
+        let state = fresh(value_of(6, 2, &[(1, 2, 0, 0), (1, 2, 0, 0), (2, 3, 0, 0)]));
+        assert_eq!(deciding_rule(&state, 1), Some(Rule::Bit));
+        assert_eq!(deciding_rule(&state, 2), Some(Rule::RowNumber));
+        // row 2 (D 4), then row 0 and row 1 (D 3 both)
+        let state = thirds_and_quarters();
+        assert_eq!(deciding_rule(&state, 1), Some(Rule::GroupDeadline));
+        assert_eq!(deciding_rule(&state, 2), Some(Rule::RowNumber));
+        // 1/2 is due at 2, 1/3 at 3
+        let state = fresh(value_of(6, 1, &[(1, 3, 0, 0), (1, 2, 0, 0)]));
+        assert_eq!(deciding_rule(&state, 1), Some(Rule::Deadline));
+    }
+
+    #[test]
+    fn nothing_decides_where_nobody_is_picked_or_left_out() {
+        let state = thirds_and_quarters();
+        assert_eq!(deciding_rule(&state, 0), None);
+        assert_eq!(deciding_rule(&state, 3), None);
+        assert_eq!(deciding_rule(&state, 255), None);
+        assert_eq!(deciding_rule(&fresh(value_of(1, 1, &[])), 1), None);
+        // of two rows only row 1 is ready in slot 0
+        let mut state = fresh(value_of(6, 2, &[(1, 2, 1, 0), (2, 3, 0, 0)]));
+        assert_eq!(deciding_rule(&state, 1), None);
+        // in slot 1, nothing given yet: row 1 (0 to 2) before row 0 (1 to 3)
+        state.time = 1;
+        assert_eq!(deciding_rule(&state, 1), Some(Rule::Deadline));
+        assert_eq!(deciding_rule(&state, 2), None);
+    }
+
+    #[test]
+    fn what_decided_between_heavy_and_light() {
+        // time 2, as in the test below: 3/8 with phase 1 (1 to 4, b 1, D 0), 2/3 with phase 2
+        // (2 to 4, b 1, D 5)
+        let mut state = fresh(value_of(24, 2, &[(3, 8, 1, 0), (2, 3, 2, 0)]));
+        state.time = 2;
+        assert_eq!(deciding_rule(&state, 1), Some(Rule::GroupDeadline));
+        // 2/4 and 3/4 at 2, both 2 to 4 with b = 0: D (0 and 4) is not asked
+        let mut state = fresh(value_of(4, 2, &[(2, 4, 0, 0), (3, 4, 0, 0)]));
+        state.time = 2;
+        state.quanta[0] = 1;
+        state.quanta[1] = 2;
+        assert_eq!(deciding_rule(&state, 1), Some(Rule::RowNumber));
+    }
+
+    #[test]
+    fn what_decided_stands_wild_states() {
+        let mut wild = fresh(Table::zero());
+        wild.table.count = 255;
+        wild.time = u64::MAX;
+        wild.quanta = [u64::MAX; 32];
+        for k in [0, 1, 31, 32, 255] {
+            deciding_rule(&wild, k);
         }
     }
 
@@ -590,18 +735,6 @@ pub(crate) mod tests {
     }
 
     // ---- tables by chance, for the statements over all runs ----
-
-    /// A plain generator of numbers, the same ones every time.
-    pub(crate) struct Chance(pub u64);
-
-    impl Chance {
-        pub(crate) fn below(&mut self, limit: u64) -> u64 {
-            self.0 ^= self.0 << 13;
-            self.0 ^= self.0 >> 7;
-            self.0 ^= self.0 << 17;
-            self.0 % limit
-        }
-    }
 
     /// A table without fault, as full as its rows by chance allow.
     pub(crate) fn table_by_chance(chance: &mut Chance) -> Table {

@@ -4,7 +4,8 @@
 //! all its nine are, and then in the order of the numbers below; after the last row come 21,
 //! then 22; the first fault met is answered."
 
-/// "A row: tank (2), e (2), p (2), f (2), kind (1: 0 plain, 1 early release)."
+/// "A row: tank (2, rising strictly from row to row; 0 is a tank like any other), e (2), p (2),
+/// f (2; 0 is a phase), kind (1: 0 plain, 1 early release)."
 #[derive(Clone, Copy, PartialEq, Eq, Debug)]
 pub struct Row {
     pub tank: u16,
@@ -123,6 +124,7 @@ fn test_row(before: Option<u16>, row: &Row, cycle: u32) -> Result<(), u8> {
 }
 
 /// 22: "The sum of e·(L/p) is at most M·L." Whole numbers; L/p leaves no rest.
+#[cfg(not(slip = "weights_in_floats"))]
 fn test_sum(table: &Table) -> Result<(), u8> {
     let cycle = u64::from(table.cycle);
     let mut sum: u64 = 0;
@@ -130,6 +132,19 @@ fn test_sum(table: &Table) -> Result<(), u8> {
         sum += u64::from(row.cost) * (cycle / u64::from(row.period));
     }
     if sum > u64::from(table.cores) * cycle {
+        return Err(22);
+    }
+    Ok(())
+}
+
+/// slip: the weights e/p added up in floats, row after row, and held against M
+#[cfg(slip = "weights_in_floats")]
+fn test_sum(table: &Table) -> Result<(), u8> {
+    let mut sum: f32 = 0.0;
+    for row in table.named_rows() {
+        sum += f32::from(row.cost) / f32::from(row.period);
+    }
+    if sum > f32::from(table.cores) {
         return Err(22);
     }
     Ok(())
@@ -203,6 +218,24 @@ pub fn read(bytes: &[u8]) -> Result<Table, u8> {
     }
     test_sum(&table)?;
     Ok(table)
+}
+
+// ---- writing bytes ----
+
+/// The bytes a table value is read from, unjudged. (A wild M is cut at 8, a wild n at 32.)
+pub fn write(table: &Table) -> Vec<u8> {
+    let mut bytes = vec![1];
+    bytes.extend_from_slice(&table.cycle.to_le_bytes());
+    bytes.push(table.cores);
+    bytes.extend(table.boards.iter().take(usize::from(table.cores)));
+    bytes.push(table.count);
+    for row in table.named_rows() {
+        for number in [row.tank, row.cost, row.period, row.phase] {
+            bytes.extend_from_slice(&number.to_le_bytes());
+        }
+        bytes.push(row.kind);
+    }
+    bytes
 }
 
 // ---- judging a table value ----
@@ -284,20 +317,6 @@ pub(crate) mod tests {
             };
         }
         table
-    }
-
-    /// The bytes a table value would be read from (M at most 8, n at most 32).
-    pub(crate) fn write(table: &Table) -> Vec<u8> {
-        let rows: Vec<_> = table
-            .named_rows()
-            .iter()
-            .map(|row| (row.tank, row.cost, row.period, row.phase, row.kind))
-            .collect();
-        let mut bytes = bytes_of(table.cycle, table.cores, &rows);
-        for m in 0..usize::from(table.cores) {
-            bytes[6 + m] = table.boards[m];
-        }
-        bytes
     }
 
     fn changed(at: usize, byte: u8) -> Vec<u8> {
@@ -497,6 +516,20 @@ pub(crate) mod tests {
             (6, 20, 49, 0, 0),
         ];
         assert!(read(&bytes_of(49, 1, &parts)).is_ok());
+        // 2/7 + 4/7 + 1/7 = 1. In floats of 24 bits 1/7 is 9,586,981 parts of 2^26, 3/7 of a part
+        // too many; 2/7 + 4/7 is a tie and goes up; the sum is 2^26 + 5 parts, and the next float
+        // after 1 is 2^26 + 8
+        let sevenths = [(1, 2, 7, 0, 0), (2, 4, 7, 0, 0), (3, 1, 7, 0, 0)];
+        assert!(read(&bytes_of(7, 1, &sevenths)).is_ok());
+        // ten rows of 1/10
+        let tenth: Vec<_> = (1..=10).map(|tank| (tank, 1, 10, 0, 0)).collect();
+        assert!(read(&bytes_of(10, 1, &tenth)).is_ok());
+        // 28·7·21,840 + 3,971·11 = 4,324,321, one above 6·720,720; in floats it is 6
+        let mut rows: Vec<_> = (1..=28).map(|tank| (tank, 7, 33, 0, 0)).collect();
+        rows.push((29, 3_971, 65_520, 0, 0));
+        assert_eq!(read(&bytes_of(720_720, 6, &rows)), Err(22));
+        rows[28].1 = 3_970;
+        assert!(read(&bytes_of(720_720, 6, &rows)).is_ok());
         // one quantum in a cycle of a million too many
         let full = [(1, 49_999, 50_000, 0, 0), (2, 1, 50_000, 0, 0)];
         assert!(read(&bytes_of(1_000_000, 1, &full)).is_ok());
@@ -568,6 +601,26 @@ pub(crate) mod tests {
             };
         }
         assert_eq!(fault(&table), 0);
+    }
+
+    #[test]
+    fn writing_a_table_value() {
+        assert_eq!(write(&read(&EXAMPLE).unwrap()), EXAMPLE);
+        // boards 3 and 200; tank 0x0102, 0x0304/0x0506, phase 0x0708, early release; what stands
+        // past M and past n is not written
+        let mut table = value_of(0x0102_0304, 2, &[(0x0304, 0x0506, 0x0708, 1)]);
+        table.boards = [3, 200, 9, 9, 9, 9, 9, 9];
+        table.rows[0].tank = 0x0102;
+        table.rows[1].tank = 7;
+        let expected = [
+            1, 0x04, 0x03, 0x02, 0x01, 2, 3, 200, 1, //
+            0x02, 0x01, 0x04, 0x03, 0x06, 0x05, 0x08, 0x07, 1,
+        ];
+        assert_eq!(write(&table), expected);
+        // wild M and n: all that is there
+        table.cores = 255;
+        table.count = 255;
+        assert_eq!(write(&table).len(), 1 + 4 + 1 + 8 + 1 + 9 * 32);
     }
 
     #[test]

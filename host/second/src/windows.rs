@@ -71,23 +71,43 @@ pub fn bit(e: u16, p: u16, i: u64) -> u8 {
 
 /// "a row is heavy when e/p is more than one half"
 pub fn heavy(e: u16, p: u16) -> bool {
+    // slip: 1/2 counted heavy
+    if cfg!(slip = "half_is_heavy") {
+        return 2 * u32::from(e) >= u32::from(p);
+    }
     2 * u32::from(e) > u32::from(p)
 }
 
-/// "The start of the job that holds it, f + floor((i-1)/e)·p." With e = 0 or i = 0, where 01
+/// "the start of the job that holds it, f + floor((i-1)/e)·p". With e = 0 or i = 0, where 01
 /// knows no job, 0.
 pub fn job_start(e: u16, p: u16, f: u64, i: u64) -> u128 {
     if e == 0 || i == 0 {
         return 0;
     }
+    // slip: 2/6 treated as 1/3
+    #[cfg(slip = "fraction_reduced")]
+    let (e, p) = reduced(e, p);
     u128::from(f) + u128::from((i - 1) / u64::from(e)) * u128::from(p)
+}
+
+/// slip: e/p in its lowest terms (e is not 0)
+#[cfg(slip = "fraction_reduced")]
+fn reduced(e: u16, p: u16) -> (u16, u16) {
+    let (mut common, mut rest) = (e, p);
+    while rest != 0 {
+        let left = common % rest;
+        common = rest;
+        rest = left;
+    }
+    (e / common, p / common)
 }
 
 /// "group deadline D: 0 for a light row. For a heavy row it is the smallest time at or after d
 /// that is the deadline of a subtask of this row with b = 0, or one less than the deadline of a
 /// subtask of this row whose window is 3 slots long."
 ///
-/// Time after time from d on is asked whether it is such a time. One comes within p slots: each
+/// Time after time from d on is asked whether it is such a time; the walk over the windows that
+/// 01 names for the bench meets the same one (the tests take it). One comes within p slots: each
 /// job's last subtask has b = 0. Without a window (e = 0, e not below p, i = 0) it is 0.
 pub fn group_deadline(e: u16, p: u16, f: u64, i: u64) -> u128 {
     if e == 0 || e >= p || i == 0 || !heavy(e, p) {
@@ -104,10 +124,17 @@ pub fn group_deadline(e: u16, p: u16, f: u64, i: u64) -> u128 {
 // ---- the same for phase 0; the callers have seen that e is not 0 and i is not 0 ----
 
 fn start_after_phase(e: u128, p: u128, i: u128) -> u128 {
+    // slip: the window starts at the next one's start
+    #[cfg(slip = "start_of_next")]
+    let i = i + 1;
     (i - 1) * p / e
 }
 
 fn deadline_after_phase(e: u128, p: u128, i: u128) -> u128 {
+    // slip: rounded down
+    if cfg!(slip = "deadline_rounded_down") {
+        return i * p / e;
+    }
     (i * p + e - 1) / e
 }
 
@@ -338,6 +365,23 @@ mod tests {
         }
     }
 
+    /// "walk the row's windows forward and stop at the first that fits"
+    fn group_by_walk(e: u16, p: u16, i: u64) -> u64 {
+        let (e, p) = (u64::from(e), u64::from(p));
+        let d = (i * p + e - 1) / e;
+        let mut j = i;
+        loop {
+            let (j_start, j_deadline) = ((j - 1) * p / e, (j * p + e - 1) / e);
+            if j_deadline - j_start == 3 && j_deadline - 1 >= d {
+                return j_deadline - 1;
+            }
+            if j * p % e == 0 {
+                return j_deadline;
+            }
+            j += 1;
+        }
+    }
+
     #[test]
     fn the_group_deadline_is_the_smallest_time_and_001_agrees() {
         for p in 2..40u16 {
@@ -347,6 +391,7 @@ mod tests {
                     if 2 * e > p {
                         assert_eq!(here.group, group_by_list(e, p, here.deadline));
                         assert_eq!(here.group, group_by_rest(e, p, here.deadline));
+                        assert_eq!(here.group, group_by_walk(e, p, i));
                     } else {
                         assert_eq!(here.group, 0);
                     }

@@ -2,7 +2,7 @@
 use Prim.Native.Nat.{ℕ}
 use mathlib.Core.Path.{_≡_}
 use mathlib.Core.List.{List, [], _∷_, _++_}
-use Rattle.table.specs.Bench.{example}
+use Rattle.table.specs.Example.{example}
 use Rattle.printer.specs.Text.{textOf}
 
 -- the table with its length of 36 bytes, "3 slots, no k values"

@@ -1,4 +1,4 @@
--- The mistake that cost a morning: on a full box of three cores, with the bit left out of the order, a row slips past its window.
+-- What becomes of rows from time 0 on, slot after slot, by any order: no state, no limits and no refusals.
 use Prim.Native.Nat.{ℕ, zero, suc}
 use mathlib.Core.Path.{_≡_}
 use mathlib.Core.List.{List, [], _∷_, map}
@@ -8,10 +8,13 @@ use lib.ListN.{length}
 use Rattle.facts.specs.Counting.{those}
 use Rattle.table.specs.declared.Row.{Row}
 use Rattle.pd2.specs.Ready.{late}
-use Rattle.pd2.specs.Order.{Rank, before}
+use Rattle.pd2.specs.Order.{Rank}
 use Rattle.pd2.specs.Picks.{picked}
-use Rattle.pd2.specs.Choice.{rowAt, quantaAt, readyIn, firstBy, given}
-use Rattle.pd2.specs.Bench.{plain}
+use Rattle.pd2.specs.Choice.{rowAt, quantaAt, readyIn, firstBy, pd2Picks, given}
+
+-- a plain row e/p with phase 0
+abbrev pub plain : ℕ → ℕ → Row
+plain e p = record { tank = 0; cost = e; period = p; phase = 0; kind = 0 }
 
 -- The quanta at time t, from none at time 0, with k cores free in every slot, by an order of ranks.
 unfoldable pub quantaBy : (Rank → Rank → Bool) → List Row → ℕ → ℕ → List ℕ
@@ -28,14 +31,7 @@ lateBy order rows k t = those (λ i. late (rowAt rows i) (quantaAt (quantaBy ord
 abbrev pub withoutBit : Rank → Rank → Bool
 withoutBit x y = ltb (x .d) (y .d) || (eqb (x .d) (y .d) && ltb (x .row) (y .row))
 
--- 2/3, 2/3, 5/6 and 5/6 take all of three cores.
-abbrev pub fullBox : List Row
-fullBox = plain 2 3 ∷ plain 2 3 ∷ plain 5 6 ∷ plain 5 6 ∷ []
-
--- Row 3 is late at time 6.
-abbrev pub WithoutBitRowIsLate : Type 0
-WithoutBitRowIsLate = lateBy withoutBit fullBox 3 6 ≡ 3 ∷ []
-
--- By PD2's order nobody is late at any time of the cycle.
-abbrev pub ByPd2NobodyIsLate : Type 0
-ByPd2NobodyIsLate = map (lateBy before fullBox 3) (0 ∷ 1 ∷ 2 ∷ 3 ∷ 4 ∷ 5 ∷ 6 ∷ []) ≡ [] ∷ [] ∷ [] ∷ [] ∷ [] ∷ [] ∷ [] ∷ []
+-- "if both have b = 1, larger D": D is not asked for where a bit is 0 (docs/DECISIONS.md, 28). On one core at time 3 the rows 1/4, with no
+-- quanta, and 3/4, with two, both have d 4 and b 0; D is 0 and 4, and the lower row number decides.
+abbrev pub BitZeroAsksNoGroup : Type 0
+BitZeroAsksNoGroup = pd2Picks (plain 1 4 ∷ plain 3 4 ∷ []) (0 ∷ 2 ∷ []) 3 1 ≡ 0 ∷ []

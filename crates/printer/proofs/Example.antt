@@ -22,7 +22,7 @@ use Rattle.dispatcher.specs.Slot.{refusal, slotOf}
 use Rattle.printer.specs.Input.{freeIn, unfit}
 use Rattle.printer.specs.Lines.{digitsBy, decimal, spaced}
 use Rattle.printer.specs.Text.{slotsText, textOf}
-use Rattle.printer.specs.Bench.{ExampleIsPrinted}
+use Rattle.printer.specs.Example.{ExampleIsPrinted}
 
 pub example-is-printed : ExampleIsPrinted
 unfolding start deadline bit windowLength jobStart ceilDiv heavy stops stopTime atFirst groupDeadline howMany those firstMet rising places padded load faultOf tableNumber reading ready late lower upper before picked given withFront withRecord names broken refusal slotOf freeIn unfit digitsBy decimal spaced slotsText textOf

@@ -1,0 +1,58 @@
+-- Any two results that a promise allows are equal: by the law that stands beside each. Assumes nothing.
+use Prim.Native.Nat.{min}
+use Rattle.facts.proofs.Determined.{by-value}
+use Rattle.counts.proofs.Determined.{slot-is-determined, quanta-is-determined, subtask-is-determined}
+use Rattle.windows.proofs.Question.{window-is-determined}
+use Rattle.windows.proofs.Next.{next-due-is-determined}
+use Rattle.pd2.specs.Ready.{origin}
+use Rattle.pd2.proofs.Rows.{give-is-determined, lowest-late-is-determined}
+use Rattle.trace.proofs.Determined.{write-is-determined, record-is-determined-but-for-its-name}
+use Rattle.dispatcher.proofs.Determined as dispatcher
+use Rattle.checker.proofs.Determined.{check-is-determined}
+use Rattle.printer.proofs.Buffer.{print-is-determined}
+use Rattle.demands.specs.Determined.{EveryPromiseDetermines}
+
+pub every-promise-determines : EveryPromiseDetermines
+every-promise-determines =
+    record {
+      counts-Slot-at = λ time. slot-is-determined _;
+      counts-Slot-time = λ self. by-value;
+      counts-Slot-later = λ self slots. slot-is-determined _;
+      counts-Slot-before = λ self. slot-is-determined _;
+      counts-Slot-since = λ self origin. by-value;
+      counts-Quanta-of = λ count. quanta-is-determined _;
+      counts-Quanta-count = λ self. by-value;
+      counts-Quanta-one-more = λ self. quanta-is-determined _;
+      counts-Quanta-next-subtask = λ self. subtask-is-determined _;
+      counts-Subtask-numbered = λ number. subtask-is-determined _;
+      counts-Subtask-number = λ self. by-value;
+      counts-Subtask-next = λ self. subtask-is-determined _;
+      counts-Subtask-quanta-before = λ self. quanta-is-determined _;
+      fields-byte = λ s at. by-value;
+      fields-half = λ s at. by-value;
+      fields-word = λ s at. by-value;
+      windows-window = λ e p f i. window-is-determined e p f (i .0);
+      windows-next-due = λ e p origin given. next-due-is-determined e p (origin .0) (given .0);
+      windows-next-start = λ e p origin given. by-value;
+      windows-next-job-start = λ e p origin given. by-value;
+      windows-next-group-deadline = λ e p origin given. by-value;
+      table-read = λ bytes. by-value;
+      table-fault = λ table. by-value;
+      pd2-Verdict-is-yes = λ self. by-value;
+      pd2-origin = λ row. slot-is-determined (origin row);
+      pd2-ready = λ row given slot. by-value;
+      pd2-late = λ row given time. by-value;
+      pd2-within = λ row given time. by-value;
+      pd2-give = λ quanta marks. give-is-determined marks quanta;
+      pd2-lowest-late = λ rows quanta n time. lowest-late-is-determined rows quanta (min n 32) (time .0);
+      trace-write = λ part free marks. write-is-determined part free marks;
+      trace-record-but-for-its-name = λ trace at slot name. record-is-determined-but-for-its-name (record { ptr = at; name = 0; now = trace }) (slot .0) name;
+      dispatcher-State-fresh = λ table. dispatcher.fresh-is-determined table;
+      dispatcher-State-slot = λ self k buffer place a b p q. dispatcher.slot-is-determined self k buffer place a b (p .0, (p .1, p .2)) (q .0, (q .1, q .2));
+      checker-check = λ table trace. check-is-determined table trace;
+      checker-number = λ answer. by-value;
+      firmware-zb-table-check = λ table. by-value;
+      firmware-zb-trace-check = λ table trace. by-value;
+      printer-Printed-length = λ self. by-value;
+      printer-print = λ input out a b p q. print-is-determined input out a b (p .0, p .1) (q .0, q .1);
+    }

@@ -1,0 +1,177 @@
+-- Never late: the slots that a dispatcher has done are a course of PD2 on a box, and there nobody is late. Assumes nothing.
+use Prim.Native.Nat.{ℕ, _+_, _*_, _≤_, _<_}
+use mathlib.Core.Path.{_≡_, refl, sym, ap, _∙_, subst}
+use mathlib.Core.List.{List}
+use mathlib.Core.Bool.{Bool, true, false, cond, true≢false}
+use native.Mathlib.Decide.{decLt}
+use native.Mathlib.Omega.{arith}
+use borrow.Author.Tests.{lt-ltb, le-ltb, le-leb, lt-leb}
+use lib.Dec.{ltb, leb}
+use lib.ListN.{length}
+use Rattle.facts.specs.Faults.{firstMet, rising}
+use Rattle.facts.specs.Places.{places, padded}
+use Rattle.counts.specs.Limits.{timeLimit}
+use Rattle.table.specs.declared.Table.{Table}
+use Rattle.table.specs.Limits.{rowLimit}
+use Rattle.table.specs.Causes.{load}
+use Rattle.table.specs.Value.{faultOf, rowsOf}
+use Rattle.table.specs.Bytes.{tableNumber, tableIn}
+use Rattle.table.proofs.Taken.{taken-value-has-no-fault, sum-is-within, sizes-are-within}
+use Rattle.pd2.specs.Ready.{late}
+use Rattle.pd2.specs.Order.{before}
+use Rattle.pd2.specs.Picks.{picked}
+use Rattle.pd2.specs.Choice.{rowAt, quantaAt, readyIn, firstBy}
+use Rattle.trace.specs.Records.{names}
+use Rattle.trace.specs.Said.{bare}
+use Rattle.trace.proofs.Records.{listed-are-named}
+use Rattle.optimal.specs.Box.{Box}
+use Rattle.optimal.proofs.Box.{sum-is-load, table-is-box}
+use Rattle.optimal.proofs.NeverLate.{pd2-never-late}
+use Rattle.dispatcher.specs.declared.State.{State}
+use Rattle.dispatcher.specs.State.{quantaIn, timeOf}
+use Rattle.dispatcher.specs.Broken.{broken}
+use Rattle.dispatcher.specs.Slot.{picksIn, slotOf}
+use Rattle.dispatcher.proofs.Whole.{is-whole}
+use Rattle.dispatcher.proofs.Kept.{Goes, goes-back, not-refused-is-done, refusal-changes-nothing, done-makes-the-step, places-stay, quanta-after, done-keeps-whole, fresh-is-whole}
+use Rattle.dispatcher.proofs.Places.{picks-are-few, bare-unless-late}
+use Rattle.demands.proofs.Three.{done-with-0}
+use Rattle.demands.specs.NeverLate.{WithCores, NeverLateWith, NeverLate}
+
+-- A sound table whose rows need at most c cores.
+module _ (table : Table) (c : ℕ) (sound : faultOf table ≡ 0) (few : load (table .cycle) (rowsOf table) ≤ c * table .cycle) where
+  box : Box (length (rowsOf table)) (rowAt (rowsOf table)) (table .cycle) c
+  box =
+      let all = table-is-box table sound in
+      record { long = all .long; can = all .can; divides = all .divides; within = omega (arith, sum-is-load (table .cycle) (rowsOf table)) }
+
+  -- Row i is picked in slot t, with k cores free, by the quanta that were given before.
+  abbrev isPicked : List ℕ → ℕ → ℕ → ℕ → Bool
+  isPicked quanta t k i = picked (readyIn (rowsOf table) quanta t) (firstBy before (rowsOf table) quanta) (length (rowsOf table)) k i
+
+  -- The quanta at each time up to T, and the cores that each slot had: they grew by PD2's picks.
+  record Course (T : ℕ) (last : List ℕ) : Type 0 where
+    quanta : ℕ → List ℕ
+    free : ℕ → ℕ
+    enough : (t : ℕ) → c ≤ free t
+    now : quanta T ≡ last
+    grown : (t i : ℕ) → t < T → i < length (rowsOf table) → quantaAt (quanta (t + 1)) i ≡ quantaAt (quanta t) i + cond (isPicked (quanta t) t (free t) i) 1 0
+
+  -- So nobody is late at the last time.
+  nobody-late : (T : ℕ) (last : List ℕ) → Course T last → (i : ℕ) → i < length (rowsOf table) → late (rowAt (rowsOf table) i) (quantaAt last i) T ≡ false
+  nobody-late T last course i l =
+      ap (λ q. late (rowAt (rowsOf table) i) (quantaAt q i) T) (sym (course .now))
+      ∙ pd2-never-late (rowsOf table) (table .cycle) c T (course .quanta) (course .free) box (λ t _. course .enough t) (course .grown) T i (omega arith) l
+
+  -- A course with no slot yet,
+  begins : (last : List ℕ) → Course 0 last
+  begins last = record { quanta = λ t. last; free = λ t. c; enough = λ t. omega arith; now = refl; grown = λ t i l. absurd (omega arith) }
+
+  -- and with one slot more.
+  goes-on : (T : ℕ) (last next : List ℕ) (k : ℕ) → Course T last → c ≤ k →
+      ((i : ℕ) → i < length (rowsOf table) → quantaAt next i ≡ quantaAt last i + cond (isPicked last T k i) 1 0) → Course (T + 1) next
+  goes-on T last next k course more step =
+      record {
+        quanta = quanta;
+        free = free;
+        enough = λ t. go-enough (ltb t T) (course .enough t);
+        now = rw (lt-leb (T + 1) T (omega arith));
+        grown = λ t i l m. go t i m (decLt t T) (omega arith);
+      }
+    where
+      quanta : ℕ → List ℕ
+      quanta t = cond (leb t T) (course .quanta t) next
+
+      free : ℕ → ℕ
+      free t = cond (ltb t T) (course .free t) k
+
+      go-enough : (b : Bool) {x : ℕ} → c ≤ x → c ≤ cond b x k
+      go-enough true l = l
+      go-enough false l = more
+
+      go : (t i : ℕ) → i < length (rowsOf table) → Dec (t < T) → t ≤ T → quantaAt (quanta (t + 1)) i ≡ quantaAt (quanta t) i + cond (isPicked (quanta t) t (free t) i) 1 0
+      go t i m (yes l) h = rw (le-leb t T h, le-leb (t + 1) T (omega arith), lt-ltb t T l) (course .grown t i l m)
+      go t i m (no l) h =
+          let same : t ≡ T = omega arith in
+          rw (same, le-leb T T (omega arith), lt-leb (T + 1) T (omega arith), le-ltb T T (omega arith), course .now) (step i m)
+
+  -- What is known of a state that slots with at least c cores have led to.
+  record Kept (s : State) : Type 0 where
+    same : s .table ≡ table
+    whole : broken s ≡ false
+    runs : s .stopped ≡ false
+    long : length (s .quanta) ≡ rowLimit
+    course : Course (timeOf s) (quantaIn s)
+
+  -- A slot that is done goes on with the course,
+  course-after : (s : State) (k : ℕ) (buffer : List ℕ) (place : ℕ) → Kept s → c ≤ k → slotOf s k buffer place .said .number < 2 →
+      Course (timeOf (slotOf s k buffer place .state)) (quantaIn (slotOf s k buffer place .state))
+  course-after s k buffer place so more done =
+      rw (done-makes-the-step s k buffer place done .0)
+      (goes-on (timeOf s) (quantaIn s) _ k (so .course) more
+      (λ i l. quanta-after s k (is-whole s (so .whole)) (so .long) i ∙ ap (λ b. quantaAt (quantaIn s) i + cond b 1 0) (named i l)))
+    where
+      named : (i : ℕ) → i < length (rowsOf table) → names (picksIn s k) i ≡ isPicked (quantaIn s) (timeOf s) k i
+      named i l = rw (so .same) (listed-are-named _ _ i ∙ rw (lt-ltb i (length (rowsOf table)) l) refl)
+
+  -- so it does not answer 1,
+  not-late : (s : State) (k : ℕ) (buffer : List ℕ) (place : ℕ) → Kept s → c ≤ k → slotOf s k buffer place .said .number ≡ 1 → ⊥
+  not-late s k buffer place so more is-1 =
+      let done : slotOf s k buffer place .said .number < 2 = omega (arith, is-1) in
+      let after = done-keeps-whole s k buffer place done in
+      let same : slotOf s k buffer place .state .table ≡ table = ap (λ x. x .table) (done-makes-the-step s k buffer place done .0) ∙ so .same in
+      let row = slotOf s k buffer place .said .row in
+      let is-late = after .names-row is-1 .passes (after .is-row is-1) in
+      let nobody = nobody-late _ _ (course-after s k buffer place so more done) row (rw same at (after .is-row is-1)) in
+      true≢false (sym (rw same at is-late) ∙ nobody)
+
+  -- and what is known of the state is known of the next.
+  kept : (s : State) → WithCores table c s → Kept s
+  kept _ WithCores.start =
+      record {
+        same = refl;
+        whole = fresh-is-whole table .1 sound;
+        runs = refl;
+        long = refl;
+        course = begins _;
+      }
+  kept _ (WithCores.slot s k buffer place from more) = go (decLt (slotOf s k buffer place .said .number) 2) (kept s from)
+    where
+      go : Dec (slotOf s k buffer place .said .number < 2) → Kept s → Kept (slotOf s k buffer place .state)
+      go (yes done) so =
+          let after = done-keeps-whole s k buffer place done in
+          let step = done-makes-the-step s k buffer place done .0 in
+          record {
+            same = ap (λ x. x .table) step ∙ so .same;
+            whole = after .whole;
+            runs = after .runs-on (done-with-0 done (not-late s k buffer place so more));
+            long = ap (λ x. length (x .quanta)) step ∙ (places-stay s k ∙ so .long);
+            course = course-after s k buffer place so more done;
+          }
+      go (no refused) so = subst Kept (sym (refusal-changes-nothing s k buffer place (omega arith) .0)) so
+
+  -- A slot that meets none of the causes of 30 to 34 is done, and does not answer 1.
+  never-late-with : NeverLateWith table c
+  never-late-with =
+      record {
+        never-1 = λ s from k buffer place more. not-late s k buffer place (kept s from) more;
+        always-0 = λ s from k buffer place more cores time room. answers-0 s k buffer place (kept s from) more cores time room;
+      }
+    where
+      answers-0 : (s : State) (k : ℕ) (buffer : List ℕ) (place : ℕ) → Kept s → c ≤ k → k ≤ table .cores → timeOf s < timeLimit → place + 10 ≤ length buffer →
+          slotOf s k buffer place .said ≡ bare 0
+      answers-0 s k buffer place so more cores time room =
+          let few : length (picksIn s k) ≤ 8 = omega (arith, picks-are-few s k, sizes-are-within table sound .1 .1) in
+          let going : Goes s k buffer place = record { whole = so .whole; runs = so .runs; time = time; cores = rw (so .same) cores; room = omega arith } in
+          let done : slotOf s k buffer place .said .number < 2 = not-refused-is-done s k buffer place (goes-back s k buffer place going) in
+          let late = not-late s k buffer place so more in
+          bare-unless-late s k buffer place late ∙ ap bare (done-with-0 done late)
+
+pub never-late : NeverLate
+unfolding tableNumber firstMet rising places padded load
+never-late =
+    record {
+      all-cores = λ bytes e. let sound = taken-value-has-no-fault bytes e in never-late-with (tableIn bytes) (tableIn bytes .cores) sound (sum-is-within (tableIn bytes) sound);
+      some-cores = never-late-with;
+      example-taken = refl;
+      example-full = refl;
+    }

@@ -1,0 +1,89 @@
+-- Demand 1. Assumes nothing.
+use Prim.Native.Nat.{ℕ, _≤_}
+use mathlib.Core.Path.{_≡_, refl, sym, _∙_}
+use mathlib.Core.List.{List}
+use mathlib.Core.Logic.{_⊎_, inl, inr, ⊎-elim}
+use native.Mathlib.Decide.{ℕ-discrete}
+use Rattle.windows.proofs.Question.{windows-are-answered}
+use Rattle.table.specs.Bytes.{tableNumber, tableIn}
+use Rattle.table.proofs.Taken.{numbers-are-first-causes, numbers-are-10-to-22, taken-where-no-cause, no-table-read}
+use Rattle.trace.specs.Said.{bare}
+use Rattle.trace.proofs.Found.{found-if-all-inside}
+use Rattle.dispatcher.proofs.Kept.{refusals-are-first-causes, refusal-changes-nothing, fault-answers-30}
+use Rattle.dispatcher.proofs.Places.{slot-numbers, bare-unless-late, past-is-returned, past-is-ignored}
+use Rattle.checker.specs.Check.{traceSaid, checkOf}
+use Rattle.checker.proofs.Passes.{numbers-are-first-found, judges-table-first, trace-numbers, bare-unless-named}
+use Rattle.printer.proofs.Buffer.{is-too-short}
+use Rattle.demands.specs.One.{Tables, Slots, Checks, HandsBack, DemandOne}
+use Rattle.demands.proofs.Determined.{every-promise-determines}
+
+tables : Tables
+tables = record { numbers = numbers-are-10-to-22; refused = numbers-are-first-causes; taken = taken-where-no-cause; no-table = no-table-read }
+
+slots : Slots
+slots =
+    record {
+      numbers = slot-numbers;
+      refused = refusals-are-first-causes;
+      faulty = fault-answers-30;
+      parts = bare-unless-late;
+      returned = past-is-returned;
+      ignored = past-is-ignored;
+    }
+
+-- The check of bytes: where the table is taken, what is said of its trace; else the table's number.
+module _ (bytes s : List ℕ) where
+  trace-says : tableNumber bytes ≡ 0 → checkOf bytes s ≡ traceSaid (tableIn bytes) s
+  trace-says = judges-table-first bytes s .1
+
+  table-says : (tableNumber bytes ≡ 0 → ⊥) → checkOf bytes s ≡ bare (tableNumber bytes)
+  table-says = judges-table-first bytes s .0
+
+  check-numbers :
+      let number = checkOf bytes s .number in
+      (number ≡ 0) ⊎ ((10 ≤ number) × (number ≤ 22)) ⊎ ((40 ≤ number) × (number ≤ 47))
+  check-numbers = go (ℕ-discrete (tableNumber bytes) 0)
+    where
+      go : Dec (tableNumber bytes ≡ 0) →
+          let number = checkOf bytes s .number in
+          (number ≡ 0) ⊎ ((10 ≤ number) × (number ≤ 22)) ⊎ ((40 ≤ number) × (number ≤ 47))
+      go (yes e) = rw (trace-says e) (⊎-elim inl (λ r. inr (inr r)) (trace-numbers (tableIn bytes) s))
+      go (no n) = rw (table-says n) (⊎-elim (λ e. absurd (n e)) (λ r. inr (inl r)) (numbers-are-10-to-22 bytes))
+
+  check-parts : (checkOf bytes s .number ≡ 44 → ⊥) → (checkOf bytes s .number ≡ 45 → ⊥) → checkOf bytes s ≡ bare (checkOf bytes s .number)
+  check-parts = go (ℕ-discrete (tableNumber bytes) 0)
+    where
+      go : Dec (tableNumber bytes ≡ 0) → (checkOf bytes s .number ≡ 44 → ⊥) → (checkOf bytes s .number ≡ 45 → ⊥) → checkOf bytes s ≡ bare (checkOf bytes s .number)
+      go (yes e) = rw (trace-says e) (bare-unless-named (tableIn bytes) s)
+      go (no n) = rw (table-says n) (λ a b. refl)
+
+checks : Checks
+checks =
+    record {
+      numbers = check-numbers;
+      table-refused = table-says;
+      trace-refused = λ bytes s x e nonzero.
+          let means = numbers-are-first-found (tableIn bytes) s x nonzero in
+          (λ h. means .0 (sym (trace-says bytes s e) ∙ h), λ first. trace-says bytes s e ∙ means .1 first);
+      parts = check-parts;
+    }
+
+hands-back : HandsBack
+hands-back =
+    record {
+      slot = refusal-changes-nothing;
+      write = λ part free marks none. rw none;
+      print = λ input out short. sym (is-too-short input out short .1);
+    }
+
+pub demand-one : DemandOne
+demand-one =
+    record {
+      determined = every-promise-determines;
+      windows = windows-are-answered;
+      tables = tables;
+      slots = slots;
+      checks = checks;
+      records = found-if-all-inside;
+      hands-back = hands-back;
+    }

@@ -1,0 +1,133 @@
+-- What is shut out: each by 01's example, computed. Assumes nothing.
+use Prim.Native.Nat.{ℕ}
+use mathlib.Core.Path.{_≡_, refl, sym, ap, _∙_}
+use mathlib.Core.List.{List, [], _∷_}
+use native.Mathlib.Omega.{arith}
+use lib.ListN.{getD, replicate}
+use Rattle.facts.specs.Rounding.{ceilDiv}
+use Rattle.facts.specs.First.{atFirst}
+use Rattle.facts.specs.Counting.{howMany, those}
+use Rattle.facts.specs.Faults.{firstMet, rising}
+use Rattle.facts.specs.Findings.{firstFound}
+use Rattle.facts.specs.Places.{places, padded}
+use Rattle.windows.specs.Windows.{start, deadline, bit, windowLength, jobStart}
+use Rattle.windows.specs.Group.{heavy, stops, stopTime, groupDeadline}
+use Rattle.table.specs.Causes.{load}
+use Rattle.table.specs.Value.{faultOf}
+use Rattle.table.specs.Bytes.{tableNumber, tableIn, reading}
+use Rattle.table.specs.Example.{example}
+use Rattle.pd2.specs.Ready.{ready, late}
+use Rattle.pd2.specs.Share.{lower, upper}
+use Rattle.pd2.specs.Order.{before}
+use Rattle.pd2.specs.Picks.{picked}
+use Rattle.pd2.specs.Choice.{given}
+use Rattle.trace.specs.Record.{withFront, withRecord}
+use Rattle.trace.specs.Records.{placeOf, rowsAt, names}
+use Rattle.trace.specs.Said.{bare, named}
+use Rattle.dispatcher.specs.declared.State.{State}
+use Rattle.dispatcher.specs.State.{timeOf, freshOf}
+use Rattle.dispatcher.specs.Broken.{broken}
+use Rattle.dispatcher.specs.Slot.{Given, refusal, slotOf}
+use Rattle.checker.specs.Causes.{badRows}
+use Rattle.checker.specs.Check.{recordsFindings, traceSaid, checkOf}
+use Rattle.demands.specs.Bench.{exampleTrace}
+use Rattle.demands.specs.ShutOut.{Dispatcher, IsDispatcher, numberOf, rowsWritten, GivesAsRecorded, ShutOutOf, ShutOut}
+use Rattle.demands.proofs.Two.{picks-are-pd2s}
+
+-- 01's example: slot 0 and slot 1 of a fresh state with both cores free, each into ten bytes
+abbrev blank : List ℕ
+blank = replicate 10 0
+
+abbrev slot0 : Given
+slot0 = slotOf (freshOf (tableIn example)) 2 blank 0
+
+abbrev slot1 : Given
+slot1 = slotOf (slot0 .state) 2 blank 0
+
+-- its trace with rows 0 and 1 again in slot 1: then row 2 has had nothing by time 2
+abbrev lateTrace : List ℕ
+lateTrace = 3 ∷ 0 ∷ 0 ∷ 0 ∷ 2 ∷ 2 ∷ 0 ∷ 1 ∷ 2 ∷ 2 ∷ 0 ∷ 1 ∷ 2 ∷ 2 ∷ 1 ∷ 2 ∷ []
+
+record Computed : Type 0 where
+  taken : tableNumber example ≡ 0
+  read : reading example .number ≡ 0
+  said0 : slot0 .said ≡ bare 0
+  rows0 : rowsAt (slot0 .bytes) 0 ≡ 0 ∷ 1 ∷ []
+  time0 : timeOf (slot0 .state) ≡ 1
+  again : slotOf (freshOf (slot0 .state .table)) 2 blank 0 .bytes ≡ slot0 .bytes
+  said1 : slot1 .said ≡ bare 0
+  rows1 : rowsAt (slot1 .bytes) 0 ≡ 0 ∷ 2 ∷ []
+  passes : checkOf example exampleTrace ≡ bare 0
+  late : checkOf example lateTrace ≡ named 45 2 2
+
+computed : Computed
+unfolding ceilDiv atFirst howMany those firstMet rising firstFound places padded start deadline bit windowLength jobStart heavy stops stopTime groupDeadline load faultOf tableNumber reading ready late lower upper before picked given withFront withRecord placeOf names broken refusal slotOf badRows recordsFindings traceSaid checkOf
+computed =
+    record {
+      taken = refl;
+      read = refl;
+      said0 = refl;
+      rows0 = refl;
+      time0 = refl;
+      again = refl;
+      said1 = refl;
+      rows1 = refl;
+      passes = refl;
+      late = refl;
+    }
+
+-- A dispatcher answers and writes in the example's slots 0 and 1 what the definition says.
+module _ (slot : Dispatcher) (is : IsDispatcher slot) where
+  abbrev fresh : State
+  fresh = freshOf (tableIn example)
+
+  number0 : numberOf (slot fresh 2 blank 0) ≡ 0
+  number0 = ap (λ x. x .number) (is fresh 2 blank 0 .0 ∙ computed .said0)
+
+  rows0 : rowsWritten (slot fresh 2 blank 0) 0 ≡ 0 ∷ 1 ∷ []
+  rows0 = ap (λ b. rowsAt b 0) (is fresh 2 blank 0 .2) ∙ computed .rows0
+
+  number1 : numberOf (slot (slot0 .state) 2 blank 0) ≡ 0
+  number1 = ap (λ x. x .number) (is (slot0 .state) 2 blank 0 .0 ∙ computed .said1)
+
+  rows1 : rowsWritten (slot (slot0 .state) 2 blank 0) 0 ≡ 0 ∷ 2 ∷ []
+  rows1 = ap (λ b. rowsAt b 0) (is (slot0 .state) 2 blank 0 .2) ∙ computed .rows1
+
+  -- slot 0 once more, from a fresh state of the table that slot 0 gave back
+  rows-again : rowsWritten (slot (freshOf (slot0 .state .table)) 2 blank 0) 0 ≡ 0 ∷ 1 ∷ []
+  rows-again = ap (λ b. rowsAt b 0) (is (freshOf (slot0 .state .table)) 2 blank 0 .2 ∙ computed .again) ∙ computed .rows0
+
+  -- Lists of rows are told apart by their second row, or 7 where there is none.
+  second : List ℕ → ℕ
+  second rows = getD rows 1 7
+
+  gives-as-recorded : GivesAsRecorded slot
+  gives-as-recorded s k buffer place done long i =
+      let so = is s k buffer place in
+      let picks = picks-are-pd2s s k buffer place (omega (arith, done, ap (λ x. x .number) (so .0))) in
+      rw (so .1, so .2) (picks .quanta long i)
+
+  shut-out-of : ShutOutOf slot
+  unfolding second
+  shut-out-of =
+      record {
+        refuses-all = λ h. omega (arith, number0, h fresh 2 blank 0);
+        picks-nobody = λ h. let z : _≡_ {A = ℕ} 1 7 = ap second (sym rows0 ∙ h fresh 2 blank 0 (omega (arith, number0))) in omega arith;
+        always-row-0 = λ h. let z : _≡_ {A = ℕ} 1 7 = ap second (sym rows0 ∙ h fresh 2 blank 0 (omega (arith, number0))) in omega arith;
+        changes-nothing = λ h.
+            let z : _≡_ {A = ℕ} 1 0 = sym (ap timeOf (is fresh 2 blank 0 .1) ∙ computed .time0) ∙ ap timeOf (h fresh 2 blank 0 number0 .0) in
+            omega arith;
+        repeats-slot-0 = λ h. let z : _≡_ {A = ℕ} 2 1 = ap second (sym rows1 ∙ (h (slot0 .state) 2 blank 0 (omega (arith, number1)) ∙ rows-again)) in omega arith;
+        gives-as-recorded = gives-as-recorded;
+      }
+
+pub shut-out : ShutOut
+shut-out =
+    record {
+      reader = λ read is none. none example (ap (λ r. r .number) (is example) ∙ computed .read);
+      dispatcher = shut-out-of;
+      always-passes = λ check is always.
+          let z : _≡_ {A = ℕ} 45 0 = ap (λ x. x .number) (sym (is example lateTrace ∙ computed .late)) ∙ always example lateTrace (computed .taken) in
+          omega arith;
+      never-passes = λ check is never. never example exampleTrace (ap (λ x. x .number) (is example exampleTrace ∙ computed .passes));
+    }

@@ -1,0 +1,144 @@
+-- Demand 3. Assumes nothing.
+use Prim.Native.Nat.{ℕ, _≤_, _<_}
+use mathlib.Core.Path.{_≡_, refl, sym, ap, _∙_, subst}
+use mathlib.Core.List.{[]}
+use mathlib.Core.Bool.{Bool, true, false, true≢false}
+use mathlib.Core.Logic.{_↔_}
+use native.Mathlib.Decide.{decLt}
+use native.Mathlib.Omega.{arith}
+use lib.ListN.{length}
+use Rattle.table.specs.declared.Row.{Row}
+use Rattle.table.specs.declared.Table.{Table}
+use Rattle.table.specs.Value.{faultOf, rowsOf}
+use Rattle.table.specs.Bytes.{tableIn}
+use Rattle.table.proofs.Taken.{taken-value-has-no-fault}
+use Rattle.pd2.specs.Ready.{early, late}
+use Rattle.pd2.specs.Share.{upper, within, CanBe}
+use Rattle.pd2.specs.Choice.{rowAt, quantaAt}
+use Rattle.pd2.proofs.Share.{row-can-be, upper-means-share-rounded-up, upper-means-cost-of-jobs-released, plain-within-means-share, early-within-means-share, late-exactly-if-owed}
+use Rattle.trace.specs.Records.{timesNamed}
+use Rattle.trace.specs.Said.{Said}
+use Rattle.dispatcher.specs.declared.State.{State}
+use Rattle.dispatcher.specs.State.{rowsIn, quantaIn, timeOf}
+use Rattle.dispatcher.specs.Broken.{broken}
+use Rattle.dispatcher.specs.Slot.{slotOf}
+use Rattle.dispatcher.specs.Kept.{After}
+use Rattle.dispatcher.proofs.Whole.{is-whole}
+use Rattle.dispatcher.proofs.Kept.{refusal-changes-nothing, done-makes-the-step, done-keeps-whole, fresh-is-whole}
+use Rattle.dispatcher.proofs.RunKept.{one-when-owed, quanta-are-records, records-stand-in-turn}
+use Rattle.checker.proofs.Passes.{passes-in-shares, checked-as-table}
+use Rattle.demands.specs.Three.{upperLimit, InLimits, PassesInLimits, FromFresh, KeepsLimits, IsOwed, Reports, ReportsLate, DemandThree}
+use Rattle.demands.proofs.RunPasses.{run-passes}
+
+-- The limits of a row that can be, in the demand's words: by its kind.
+module _ (row : Row) (can : CanBe row) (q t : ℕ) where
+  in-limits : (within row q t ≡ true) ↔ InLimits row q t
+  in-limits = go (early row) refl
+    where
+      go : (kind : Bool) → early row ≡ kind → (within row q t ≡ true) ↔ InLimits row q t
+      go true e =
+          let means = early-within-means-share row can e q t in
+          (λ h. record { at-least = means .0 h .0; at-most = rw e (means .0 h .1) }, λ l. means .1 (l .at-least, rw e at (l .at-most)))
+      go false e =
+          let means = plain-within-means-share row can e q t in
+          (λ h. record { at-least = means .0 h .0; at-most = rw e (means .0 h .1) }, λ l. means .1 (l .at-least, rw e at (l .at-most)))
+
+  upper-limit : upper row q t ≡ true → q ≤ upperLimit row t
+  upper-limit = go (early row) refl
+    where
+      go : (kind : Bool) → early row ≡ kind → upper row q t ≡ true → q ≤ upperLimit row t
+      go true e h = rw e (upper-means-cost-of-jobs-released row can e q t .0 h)
+      go false e h = rw e (upper-means-share-rounded-up row can e q t .0 h)
+
+-- A well-formed trace passes exactly when each row is in its limits at each time: it passes as its table's trace does.
+passes-in-limits : PassesInLimits
+passes-in-limits bytes s e well =
+    let table = tableIn bytes in
+    let sound = taken-value-has-no-fault bytes e in
+    let means = passes-in-shares table s sound well in
+    let same = checked-as-table table s bytes e refl in
+    let limits : (t i : ℕ) (l : i < length (rowsOf table)) → (within (rowAt (rowsOf table) i) (timesNamed s i t) t ≡ true) ↔ InLimits (rowAt (rowsOf table) i) (timesNamed s i t) t =
+    λ t i l. in-limits (rowAt (rowsOf table) i) (row-can-be table sound i l) (timesNamed s i t) t in (
+      λ h t i k l. limits t i l .0 (means .0 (sym same ∙ h) t i k l),
+      λ each. same ∙ means .1 (λ t i k l. limits t i l .1 (each t i k l)),
+    )
+
+-- A slot that is done and does not answer 1 answers 0.
+pub done-with-0 : {n : ℕ} → n < 2 → (n ≡ 1 → ⊥) → n ≡ 0
+done-with-0 {n} l h = go (decLt n 1)
+  where
+    go : Dec (n < 1) → n ≡ 0
+    go (yes m) = omega arith
+    go (no m) = absurd (h (omega arith))
+
+-- What is known of a state that slots have led to from a fresh start.
+record Kept (table : Table) (s : State) : Type 0 where
+  same : s .table ≡ table
+  whole : broken s ≡ false
+  runs : s .stopped ≡ false
+
+-- A slot that does not report a row late keeps that: it is done with 0, or refused and changes nothing.
+kept : (table : Table) (s : State) → faultOf table ≡ 0 → FromFresh table s → Kept table s
+kept table _ sound FromFresh.start = record { same = refl; whole = fresh-is-whole table .1 sound; runs = refl }
+kept table _ sound (FromFresh.slot s k buffer place from not-late) = go (decLt (slotOf s k buffer place .said .number) 2) (kept table s sound from)
+  where
+    go : Dec (slotOf s k buffer place .said .number < 2) → Kept table s → Kept table (slotOf s k buffer place .state)
+    go (yes done) so =
+        let after = done-keeps-whole s k buffer place done in
+        record {
+          same = ap (λ x. x .table) (done-makes-the-step s k buffer place done .0) ∙ so .same;
+          whole = after .whole;
+          runs = after .runs-on (done-with-0 done not-late);
+        }
+    go (no refused) so = subst (Kept table) (sym (refusal-changes-nothing s k buffer place (omega arith) .0)) so
+
+-- So every row is in its limits.
+keeps-limits : KeepsLimits
+keeps-limits table s sound from =
+    let so = kept table s sound from in
+    subst (λ x. (i : ℕ) → i < length (rowsOf x) → InLimits (rowAt (rowsOf x) i) (quantaAt (quantaIn s) i) (timeOf s)) (so .same)
+    (λ i l. in-limits (rowAt (rowsIn s) i) (row-can-be (s .table) (is-whole s (so .whole) .table) i l) (quantaAt (quantaIn s) i) (timeOf s) .0 (is-whole s (so .whole) .shares (so .runs) i l))
+
+-- What a slot that is done reports, of its own table.
+module _ (said : Said) (s : State) (after : After s said) (done : said .number < 2) where
+  can : (i : ℕ) → i < length (rowsIn s) → CanBe (rowAt (rowsIn s) i)
+  can i l = row-can-be (s .table) (is-whole s (after .whole) .table) i l
+
+  -- late is the same as owed
+  late-if-owed : (i : ℕ) → i < length (rowsIn s) → (late (rowAt (rowsIn s) i) (quantaAt (quantaIn s) i) (timeOf s) ≡ true) ↔ IsOwed (s .table) s i
+  late-if-owed i l =
+      let means = late-exactly-if-owed (rowAt (rowsIn s) i) (can i l) (quantaAt (quantaIn s) i) (timeOf s) in
+      (λ h. omega (arith, means .0 h), λ h. means .1 (omega arith))
+
+  reports : Reports (s .table) said s
+  reports =
+      let means = one-when-owed (record { said = said; state = s; bytes = []; place = 0 }) after done in
+      record {
+        exactly = (
+          λ e. let found = means .0 e in (found .0, found .1, omega (arith, found .2)),
+          λ found. means .1 (found .0, found .1, omega (arith, found .2)),
+        );
+        names-time = after .names-time;
+        names-row = λ e. (after .is-row e, late-if-owed (said .row) (after .is-row e) .0 (after .names-row e .passes (after .is-row e)));
+        names-lowest = λ e i l owed. true≢false (sym (late-if-owed i (omega (arith, after .is-row e)) .1 owed) ∙ after .names-row e .none-before i l);
+        uppers-hold = λ i l. upper-limit (rowAt (rowsIn s) i) (can i l) (quantaAt (quantaIn s) i) (timeOf s) (after .uppers i l);
+      }
+
+-- And so of the table that it began with.
+reports-late : ReportsLate
+reports-late table s sound from k buffer place done =
+    let so = kept table s sound from in
+    let same = ap (λ x. x .table) (done-makes-the-step s k buffer place done .0) ∙ so .same in
+    subst (λ x. Reports x (slotOf s k buffer place .said) (slotOf s k buffer place .state)) same
+    (reports (slotOf s k buffer place .said) (slotOf s k buffer place .state) (done-keeps-whole s k buffer place done) done)
+
+pub demand-three : DemandThree
+demand-three =
+    record {
+      passes = passes-in-limits;
+      keeps = keeps-limits;
+      reports = reports-late;
+      quanta = quanta-are-records;
+      in-turn = records-stand-in-turn;
+      run-passes = run-passes;
+    }

@@ -1,0 +1,59 @@
+-- Demand 2. Assumes nothing.
+use mathlib.Core.Path.{_≡_, sym, ap, _∙_}
+use mathlib.Core.Logic.{_↔_}
+use native.Mathlib.Decide.{ℕ-discrete}
+use lib.ListN.{length}
+use Rattle.table.specs.Bytes.{tableNumber, tableIn}
+use Rattle.table.proofs.Taken.{taken-value-has-no-fault}
+use Rattle.pd2.specs.Order.{before}
+use Rattle.pd2.specs.Choice.{quantaAt, readyIn, firstBy}
+use Rattle.pd2.proofs.Picks.{picks-are-best}
+use Rattle.pd2.proofs.Choice.{pd2-is-strict}
+use Rattle.trace.specs.Records.{freeAt, rowsAt}
+use Rattle.trace.specs.Said.{bare}
+use Rattle.trace.proofs.Agree.{free-written, rows-written}
+use Rattle.dispatcher.specs.State.{rowsIn, quantaIn, timeOf}
+use Rattle.dispatcher.specs.Slot.{picksIn}
+use Rattle.dispatcher.proofs.Whole.{is-whole}
+use Rattle.dispatcher.proofs.Kept.{done-is-not-refused, goes, done-makes-the-step, quanta-after}
+use Rattle.dispatcher.proofs.Places.{at-most-one-quantum}
+use Rattle.checker.specs.Check.{checkOf}
+use Rattle.checker.specs.WellFormed.{WellFormed}
+use Rattle.checker.specs.Passes.{Passes, InWindows}
+use Rattle.checker.proofs.Passes.{passes-in-windows, judges-table-first}
+use Rattle.demands.specs.Two.{PicksArePd2s, PassesExactly, DemandTwo}
+
+-- A slot that is done was not refused: its state is whole and its record has room.
+pub picks-are-pd2s : PicksArePd2s
+picks-are-pd2s s k buffer place done =
+    let so = goes s k buffer place (done-is-not-refused s k buffer place done) in
+    let step = done-makes-the-step s k buffer place done in
+    let rows = ap (λ b. rowsAt b place) (step .1) ∙ rows-written buffer place k (picksIn s k) (so .room) in
+    record {
+      bytes = step .1;
+      free = ap (λ b. freeAt b place) (step .1) ∙ free-written buffer place k (picksIn s k) (so .room);
+      rows = rows;
+      best = picks-are-best (readyIn (rowsIn s) (quantaIn s) (timeOf s)) (firstBy before (rowsIn s) (quantaIn s)) (length (rowsIn s)) k (pd2-is-strict (rowsIn s) (quantaIn s) (timeOf s) (length (rowsIn s)));
+      quanta = λ long i. ap (λ x. quantaAt (quantaIn x) i) (step .0) ∙ rw rows (quanta-after s k (is-whole s (so .whole)) long i);
+      time = ap timeOf (step .0);
+    }
+
+-- The bytes of a table that is taken are checked as the table is; where it is not taken, nothing passes.
+passes-exactly : PassesExactly
+passes-exactly bytes s = (
+  λ passes.
+      let e = taken passes (ℕ-discrete (tableNumber bytes) 0) in
+      let found = means e .0 (sym (judges-table-first bytes s .1 e) ∙ passes) in
+      (e, found .0, found .1),
+  λ h. judges-table-first bytes s .1 (h .0) ∙ means (h .0) .1 (h .1, h .2),
+)
+  where
+    means : tableNumber bytes ≡ 0 → Passes (tableIn bytes) s ↔ (WellFormed (tableIn bytes) s × InWindows (tableIn bytes) s)
+    means e = passes-in-windows (tableIn bytes) s (taken-value-has-no-fault bytes e)
+
+    taken : checkOf bytes s ≡ bare 0 → Dec (tableNumber bytes ≡ 0) → tableNumber bytes ≡ 0
+    taken passes (yes e) = e
+    taken passes (no n) = ap (λ x. x .number) (sym (judges-table-first bytes s .0 n) ∙ passes)
+
+pub demand-two : DemandTwo
+demand-two = record { picks = picks-are-pd2s; at-most-one = at-most-one-quantum; passes = passes-exactly }

@@ -1,0 +1,22 @@
+-- The mistake that cost a morning: on a full box of three cores, with the bit left out of the order, a row slips past its window.
+use mathlib.Core.Path.{_≡_}
+use mathlib.Core.List.{List, [], _∷_, map}
+use Rattle.table.specs.declared.Row.{Row}
+use Rattle.pd2.specs.Order.{before}
+use Rattle.pd2.specs.Courses.{plain, lateBy, withoutBit}
+
+-- 2/3, 2/3, 5/6 and 5/6 take all of three cores.
+abbrev pub fullBox : List Row
+fullBox = plain 2 3 ∷ plain 2 3 ∷ plain 5 6 ∷ plain 5 6 ∷ []
+
+-- Row 3 is late at time 6.
+abbrev pub WithoutBitRowIsLate : Type 0
+WithoutBitRowIsLate = lateBy withoutBit fullBox 3 6 ≡ 3 ∷ []
+
+-- By PD2's order nobody is late at any time of the cycle.
+abbrev pub ByPd2NobodyIsLate : Type 0
+ByPd2NobodyIsLate = map (lateBy before fullBox 3) (0 ∷ 1 ∷ 2 ∷ 3 ∷ 4 ∷ 5 ∷ 6 ∷ []) ≡ [] ∷ [] ∷ [] ∷ [] ∷ [] ∷ [] ∷ [] ∷ []
+
+pub record Confession : Type 0 where
+  pub without-bit : WithoutBitRowIsLate
+  pub by-pd2 : ByPd2NobodyIsLate

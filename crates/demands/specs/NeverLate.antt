@@ -1,0 +1,43 @@
+-- Never late: what a planner may count on. PD2 is optimal (001), and so is this dispatcher: a table that is taken, with the cores that its rows need free in
+-- every slot, never has a row late.
+use Prim.Native.Nat.{ℕ, _+_, _*_, _≤_, _<_}
+use mathlib.Core.Path.{_≡_}
+use mathlib.Core.List.{List}
+use lib.ListN.{length}
+use Rattle.counts.specs.Limits.{timeLimit}
+use Rattle.table.specs.declared.Table.{Table}
+use Rattle.table.specs.Causes.{load}
+use Rattle.table.specs.Value.{faultOf, rowsOf}
+use Rattle.table.specs.Bytes.{tableNumber, tableIn}
+use Rattle.table.specs.Example.{example}
+use Rattle.dispatcher.specs.declared.State.{State}
+use Rattle.trace.specs.Said.{bare}
+use Rattle.dispatcher.specs.State.{timeOf, freshOf}
+use Rattle.dispatcher.specs.Slot.{slotOf}
+
+-- The states that slots lead to from a fresh start, if each has at least c cores free, any buffer and any place.
+pub data WithCores (table : Table) (c : ℕ) : State → Type 0 where
+  start : WithCores table c (freshOf table)
+  slot : (s : State) (k : ℕ) (buffer : List ℕ) (place : ℕ) → WithCores table c s → c ≤ k → WithCores table c (slotOf s k buffer place .state)
+
+pub record NeverLateWith (table : Table) (c : ℕ) : Type 0 where
+  -- From there no slot with at least c cores free answers 1,
+  pub never-1 : (s : State) → WithCores table c s → (k : ℕ) (buffer : List ℕ) (place : ℕ) → c ≤ k → slotOf s k buffer place .said .number ≡ 1 → ⊥
+  -- and every such slot answers 0, up to the time limit, if it has no more than M cores and ten bytes for its record.
+  pub always-0 : (s : State) → WithCores table c s → (k : ℕ) (buffer : List ℕ) (place : ℕ) → c ≤ k → k ≤ table .cores → timeOf s < timeLimit →
+      place + 10 ≤ length buffer → slotOf s k buffer place .said ≡ bare 0
+
+-- D7: for every table that the reader takes, from `fresh`, if every slot has all M cores, no slot ever answers 1.
+abbrev pub NeverLateWithAllCores : Type 0
+NeverLateWithAllCores = (bytes : List ℕ) → tableNumber bytes ≡ 0 → NeverLateWith (tableIn bytes) (tableIn bytes .cores)
+
+-- And with a core held back: if every slot has at least c cores, and the rows' sum is at most c·L.
+abbrev pub NeverLateWithSome : Type 0
+NeverLateWithSome = (table : Table) (c : ℕ) → faultOf table ≡ 0 → load (table .cycle) (rowsOf table) ≤ c * table .cycle → NeverLateWith table c
+
+pub record NeverLate : Type 0 where
+  pub all-cores : NeverLateWithAllCores
+  pub some-cores : NeverLateWithSome
+  -- 01's example is such a table, and takes all of its two cores.
+  pub example-taken : tableNumber example ≡ 0
+  pub example-full : load (tableIn example .cycle) (rowsOf (tableIn example)) ≡ tableIn example .cores * tableIn example .cycle

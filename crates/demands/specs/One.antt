@@ -1,0 +1,76 @@
+-- Demand 1: "Every table, trace, state or number that comes in is answered, with a result or with one of the refusals in document 01, given exactly
+-- when that paper says. A refusal hands back the state as it came and writes no byte. Nobody has to check anything before calling."
+use Prim.Native.Nat.{ℕ, _≤_, _<_}
+use mathlib.Core.Path.{_≡_}
+use mathlib.Core.List.{List}
+use mathlib.Core.Logic.{_↔_, _⊎_}
+use lib.ListN.{length}
+use mathlib.Core.Bool.{Bool, false}
+use Rattle.facts.specs.Findings.{FirstFound}
+use Rattle.windows.specs.Question.{WindowsAreAnswered}
+use Rattle.table.specs.Bytes.{tableNumber, tableIn, noTable, reading}
+use Rattle.table.specs.Taken.{NumbersAreFirstCauses, NumbersAre10To22, TakenWhereNoCause}
+use Rattle.trace.specs.Record.{recordOf, marked, hasRoom, partAfter}
+use Rattle.trace.specs.Said.{Said, bare}
+use Rattle.trace.specs.Found.{FoundIfAllInside}
+use Rattle.dispatcher.specs.Kept.{RefusalsAreFirstCauses, RefusalChangesNothing, FaultAnswers30}
+use Rattle.dispatcher.specs.Places.{SlotNumbers, BareUnlessLate, PastIsReturned, PastIsIgnored}
+use Rattle.checker.specs.Check.{traceFindings, checkOf}
+use Rattle.printer.specs.Text.{textOf}
+use Rattle.printer.specs.Buffer.{outAfter}
+use Rattle.demands.specs.Determined.{EveryPromiseDetermines}
+
+-- "with one of the refusals in document 01, given exactly when that paper says", of a window: 50 exactly if e = 0, e is not below p, or i is not in 1
+-- to 1,000,000,001, and else the window;
+abbrev pub Windows : Type 0
+Windows = WindowsAreAnswered
+
+-- of a table: 10 to 22, each exactly if its cause is the first met, and 0 exactly if none is. "A table refusal yields no table";
+pub record Tables : Type 0 where
+  pub numbers : NumbersAre10To22
+  pub refused : NumbersAreFirstCauses
+  pub taken : TakenWhereNoCause
+  pub no-table : (bytes : List ℕ) → (tableNumber bytes ≡ 0 → ⊥) → reading bytes .table ≡ noTable
+
+-- of a slot: 30 to 34, each exactly if its cause is the first met. A fresh state of a table with a fault is answered 30. "Places past row n, and board
+-- numbers past M, are ignored and returned as they came";
+pub record Slots : Type 0 where
+  pub numbers : SlotNumbers
+  pub refused : RefusalsAreFirstCauses
+  pub faulty : FaultAnswers30
+  pub parts : BareUnlessLate
+  pub returned : PastIsReturned
+  pub ignored : PastIsIgnored
+
+-- of a trace: the table's refusal first, and then 40 to 47, each with its row and time, exactly if its cause is the first met;
+pub record Checks : Type 0 where
+  pub numbers : (bytes s : List ℕ) →
+      let number = checkOf bytes s .number in
+      (number ≡ 0) ⊎ ((10 ≤ number) × (number ≤ 22)) ⊎ ((40 ≤ number) × (number ≤ 47))
+  pub table-refused : (bytes s : List ℕ) → (tableNumber bytes ≡ 0 → ⊥) → checkOf bytes s ≡ bare (tableNumber bytes)
+  pub trace-refused : (bytes s : List ℕ) (x : Said) → tableNumber bytes ≡ 0 → (x .number ≡ 0 → ⊥) →
+      (checkOf bytes s ≡ x) ↔ FirstFound (traceFindings (tableIn bytes) s) x
+  pub parts : (bytes s : List ℕ) → let said = checkOf bytes s in (said .number ≡ 44 → ⊥) → (said .number ≡ 45 → ⊥) → said ≡ bare (said .number)
+
+-- of a record in a trace: it is found exactly if 01 says so.
+abbrev pub Records : Type 0
+Records = FoundIfAllInside
+
+-- "A refusal hands back the state as it came and writes no byte": a slot's, the record writer's, and the printer's where its buffer is too short.
+pub record HandsBack : Type 0 where
+  pub slot : RefusalChangesNothing
+  pub write : (part : List ℕ) (free : ℕ) (marks : List Bool) →
+      let entry = recordOf free (marked marks) in
+      hasRoom part entry ≡ false → partAfter part entry ≡ part
+  pub print : (input out : List ℕ) → length out < length (textOf input) → outAfter input out ≡ out
+
+-- "Nobody has to check anything before calling": no public function has a `requires`, or the gate refuses it; and what each answers is determined, on all
+-- inputs.
+pub record DemandOne : Type 0 where
+  pub determined : EveryPromiseDetermines
+  pub windows : Windows
+  pub tables : Tables
+  pub slots : Slots
+  pub checks : Checks
+  pub records : Records
+  pub hands-back : HandsBack

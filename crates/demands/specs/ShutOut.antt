@@ -1,0 +1,94 @@
+-- What must be shut out (01, "What the statements must say"): no function that keeps the promise is so.
+use Prim.Native.Nat.{ℕ, _+_, _<_}
+use mathlib.Core.Path.{_≡_}
+use mathlib.Core.List.{List, [], _∷_}
+use mathlib.Core.Bool.{cond}
+use lib.ListN.{length}
+use Rattle.table.specs.declared.Reading.{Reading}
+use Rattle.table.specs.Limits.{rowLimit}
+use Rattle.table.specs.Bytes.{tableNumber}
+use Rattle.pd2.specs.Choice.{quantaAt}
+use Rattle.trace.specs.Records.{rowsAt, names}
+use Rattle.dispatcher.specs.declared.State.{State}
+use Rattle.dispatcher.specs.declared.Outcome.{Outcome}
+use Rattle.dispatcher.specs.State.{quantaIn, freshOf}
+use Rattle.dispatcher.specs.Answer.{saidOf}
+use Rattle.checker.specs.declared.Answer.{Answer as Checked}
+use Rattle.checker.specs.Answer as checked
+use Rattle.demands.specs.Promises.{table·read, dispatcher·State·slot, checker·check}
+
+-- A reader keeps the promise of `read`, a dispatcher that of `slot` (it gives back the outcome and the buffer), a checker that of `check`.
+abbrev pub IsReader : (List ℕ → Reading) → Type 0
+IsReader read = (bytes : List ℕ) → table·read bytes (read bytes)
+
+abbrev pub Dispatcher : Type 0
+Dispatcher = State → ℕ → List ℕ → ℕ → Outcome × List ℕ
+
+abbrev pub IsDispatcher : Dispatcher → Type 0
+IsDispatcher slot = (s : State) (k : ℕ) (buffer : List ℕ) (place : ℕ) → dispatcher·State·slot s k buffer place (slot s k buffer place .0) (slot s k buffer place .1)
+
+abbrev pub IsChecker : (List ℕ → List ℕ → Checked) → Type 0
+IsChecker check = (bytes s : List ℕ) → checker·check bytes s (check bytes s)
+
+-- "a reader that takes no table"
+abbrev pub TakesNoTable : (List ℕ → Reading) → Type 0
+TakesNoTable read = (bytes : List ℕ) → read bytes .number ≡ 0 → ⊥
+
+-- the number that a dispatcher answers, and the rows of the record at the place
+abbrev pub numberOf : Outcome × List ℕ → ℕ
+numberOf r = saidOf (r .0 .answer) .number
+
+abbrev pub rowsWritten : Outcome × List ℕ → ℕ → List ℕ
+rowsWritten r place = rowsAt (r .1) place
+
+-- "a dispatcher that refuses all",
+abbrev pub RefusesAll : Dispatcher → Type 0
+RefusesAll slot = (s : State) (k : ℕ) (buffer : List ℕ) (place : ℕ) → 1 < numberOf (slot s k buffer place)
+
+-- "or picks nobody, or always row 0",
+abbrev pub PicksNobody : Dispatcher → Type 0
+PicksNobody slot = (s : State) (k : ℕ) (buffer : List ℕ) (place : ℕ) → numberOf (slot s k buffer place) < 2 → rowsWritten (slot s k buffer place) place ≡ []
+
+abbrev pub AlwaysRow0 : Dispatcher → Type 0
+AlwaysRow0 slot = (s : State) (k : ℕ) (buffer : List ℕ) (place : ℕ) → numberOf (slot s k buffer place) < 2 → rowsWritten (slot s k buffer place) place ≡ 0 ∷ []
+
+-- "one that leaves state and buffer as found and says 0",
+abbrev pub ChangesNothing : Dispatcher → Type 0
+ChangesNothing slot =
+    (s : State) (k : ℕ) (buffer : List ℕ) (place : ℕ) → numberOf (slot s k buffer place) ≡ 0 →
+    (slot s k buffer place .0 .state ≡ s) × (slot s k buffer place .1 ≡ buffer)
+
+-- "one that does slot 0 properly and repeats it"
+abbrev pub RepeatsSlot0 : Dispatcher → Type 0
+RepeatsSlot0 slot =
+    (s : State) (k : ℕ) (buffer : List ℕ) (place : ℕ) → numberOf (slot s k buffer place) < 2 →
+    rowsWritten (slot s k buffer place) place ≡ rowsWritten (slot (freshOf (s .table)) k buffer place) place
+
+-- "a checker that always passes or never": for tables that are taken
+abbrev pub AlwaysPasses : (List ℕ → List ℕ → Checked) → Type 0
+AlwaysPasses check = (bytes s : List ℕ) → tableNumber bytes ≡ 0 → checked.saidOf (check bytes s) .number ≡ 0
+
+abbrev pub NeverPasses : (List ℕ → List ℕ → Checked) → Type 0
+NeverPasses check = (bytes s : List ℕ) → checked.saidOf (check bytes s) .number ≡ 0 → ⊥
+
+-- "quanta counts that do not equal the records naming the row": each slot gives a quantum to the rows that its record names, and to no other. (Of a
+-- whole run: `quanta` of demand 3.)
+abbrev pub GivesAsRecorded : Dispatcher → Type 0
+GivesAsRecorded slot =
+    (s : State) (k : ℕ) (buffer : List ℕ) (place : ℕ) → numberOf (slot s k buffer place) < 2 → length (s .quanta) ≡ rowLimit → (i : ℕ) →
+    quantaAt (quantaIn (slot s k buffer place .0 .state)) i ≡ quantaAt (quantaIn s) i + cond (names (rowsWritten (slot s k buffer place) place) i) 1 0
+
+-- A dispatcher is none of these.
+pub record ShutOutOf (slot : Dispatcher) : Type 0 where
+  pub refuses-all : RefusesAll slot → ⊥
+  pub picks-nobody : PicksNobody slot → ⊥
+  pub always-row-0 : AlwaysRow0 slot → ⊥
+  pub changes-nothing : ChangesNothing slot → ⊥
+  pub repeats-slot-0 : RepeatsSlot0 slot → ⊥
+  pub gives-as-recorded : GivesAsRecorded slot
+
+pub record ShutOut : Type 0 where
+  pub reader : (read : List ℕ → Reading) → IsReader read → TakesNoTable read → ⊥
+  pub dispatcher : (slot : Dispatcher) → IsDispatcher slot → ShutOutOf slot
+  pub always-passes : (check : List ℕ → List ℕ → Checked) → IsChecker check → AlwaysPasses check → ⊥
+  pub never-passes : (check : List ℕ → List ℕ → Checked) → IsChecker check → NeverPasses check → ⊥

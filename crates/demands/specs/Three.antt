@@ -1,0 +1,92 @@
+-- Demand 3: "A well-formed trace passes exactly when, at each time it covers, each row holds at least its exact share rounded down, and at most that share
+-- rounded up; for an early-release row the upper limit is the cost of all jobs released before that time. From a fresh start, however many cores each
+-- slot had, the dispatcher keeps every row within these limits until it first reports a row late. It reports that exactly when some row is owed a whole
+-- quantum."
+use Prim.Native.Nat.{ℕ, _+_, _*_, _/_, _≤_, _<_}
+use mathlib.Core.Path.{_≡_}
+use mathlib.Core.List.{List}
+use mathlib.Core.Bool.{cond}
+use mathlib.Core.Logic.{_↔_}
+use lib.ListN.{length}
+use Rattle.facts.specs.Rounding.{ceilDiv}
+use Rattle.table.specs.declared.Row.{Row}
+use Rattle.table.specs.declared.Table.{Table}
+use Rattle.table.specs.Value.{faultOf, rowsOf}
+use Rattle.table.specs.Bytes.{tableNumber, tableIn}
+use Rattle.pd2.specs.Ready.{early}
+use Rattle.pd2.specs.Share.{elapsed, jobsReleased}
+use Rattle.pd2.specs.Choice.{rowAt, quantaAt}
+use Rattle.trace.specs.Records.{slotsIn, timesNamed}
+use Rattle.trace.specs.Said.{Said, bare}
+use Rattle.dispatcher.specs.declared.State.{State}
+use Rattle.dispatcher.specs.State.{quantaIn, timeOf, freshOf}
+use Rattle.dispatcher.specs.Slot.{slotOf}
+use Rattle.dispatcher.specs.RunKept.{QuantaAreRecords, RecordsStandInTurn}
+use Rattle.checker.specs.Check.{checkOf}
+use Rattle.checker.specs.WellFormed.{WellFormed}
+use Rattle.demands.specs.RunPasses.{RunPasses}
+
+-- "The exact share is e·a/p": rounded down, and rounded up
+abbrev pub shareDown : Row → ℕ → ℕ
+shareDown row t = row .cost * elapsed row t / row .period
+
+abbrev pub shareUp : Row → ℕ → ℕ
+shareUp row t = ceilDiv (row .cost * elapsed row t) (row .period)
+
+-- "for an early-release row the upper limit is the cost of all jobs released before that time"
+abbrev pub upperLimit : Row → ℕ → ℕ
+upperLimit row t = cond (early row) (row .cost * jobsReleased row t) (shareUp row t)
+
+-- A row with q quanta at time t "holds at least its exact share rounded down, and at most that share rounded up".
+pub record InLimits (row : Row) (q t : ℕ) : Type 0 where
+  pub at-least : shareDown row t ≤ q
+  pub at-most : q ≤ upperLimit row t
+
+-- "A well-formed trace passes exactly when, at each time it covers, each row holds .."; the quanta of a row are the records that name it
+abbrev pub PassesInLimits : Type 0
+PassesInLimits =
+    (bytes s : List ℕ) → tableNumber bytes ≡ 0 → WellFormed (tableIn bytes) s →
+    (checkOf bytes s ≡ bare 0)
+    ↔ ((t i : ℕ) → t ≤ slotsIn s → i < length (rowsOf (tableIn bytes)) → InLimits (rowAt (rowsOf (tableIn bytes)) i) (timesNamed s i t) t)
+
+-- "From a fresh start, however many cores each slot had": the states that slots lead to, each with any number of cores, any buffer and any place, as long as
+-- none has reported a row late. A slot may also be refused on the way.
+pub data FromFresh (table : Table) : State → Type 0 where
+  start : FromFresh table (freshOf table)
+  slot : (s : State) (k : ℕ) (buffer : List ℕ) (place : ℕ) → FromFresh table s → (slotOf s k buffer place .said .number ≡ 1 → ⊥) →
+      FromFresh table (slotOf s k buffer place .state)
+
+-- "the dispatcher keeps every row within these limits until it first reports a row late"
+abbrev pub KeepsLimits : Type 0
+KeepsLimits =
+    (table : Table) (s : State) → faultOf table ≡ 0 → FromFresh table s → (i : ℕ) → i < length (rowsOf table) →
+    InLimits (rowAt (rowsOf table) i) (quantaAt (quantaIn s) i) (timeOf s)
+
+-- Row i "is owed a whole quantum": "the named row has e·a - p·q at least p".
+abbrev pub IsOwed : Table → State → ℕ → Type 0
+IsOwed table s i =
+    let row = rowAt (rowsOf table) i in
+    row .period * quantaAt (quantaIn s) i + row .period ≤ row .cost * elapsed row (timeOf s)
+
+-- "It reports that exactly when some row is owed a whole quantum." It names the lowest such row and the time, and "at that one the upper limits still hold".
+pub record Reports (table : Table) (said : Said) (after : State) : Type 0 where
+  pub exactly : (said .number ≡ 1) ↔ ((i : ℕ) × (i < length (rowsOf table)) × IsOwed table after i)
+  pub names-time : said .number ≡ 1 → said .time ≡ timeOf after
+  pub names-row : said .number ≡ 1 → (said .row < length (rowsOf table)) × IsOwed table after (said .row)
+  pub names-lowest : said .number ≡ 1 → (i : ℕ) → i < said .row → IsOwed table after i → ⊥
+  pub uppers-hold : (i : ℕ) → i < length (rowsOf table) → quantaAt (quantaIn after) i ≤ upperLimit (rowAt (rowsOf table) i) (timeOf after)
+
+abbrev pub ReportsLate : Type 0
+ReportsLate =
+    (table : Table) (s : State) → faultOf table ≡ 0 → FromFresh table s → (k : ℕ) (buffer : List ℕ) (place : ℕ) →
+    slotOf s k buffer place .said .number < 2 → Reports table (slotOf s k buffer place .said) (slotOf s k buffer place .state)
+
+-- What the records say is what the state says, in a run: slot after slot into one buffer, one record behind the other. "quanta counts that do not equal the
+-- records naming the row" are shut out; and the trace of a run passes the check, or the check names the row and the time that the run named.
+pub record DemandThree : Type 0 where
+  pub passes : PassesInLimits
+  pub keeps : KeepsLimits
+  pub reports : ReportsLate
+  pub quanta : (table : Table) (free : ℕ → ℕ) (buffer : List ℕ) (place : ℕ) → QuantaAreRecords table free buffer place
+  pub in-turn : (table : Table) (free : ℕ → ℕ) (buffer : List ℕ) (place : ℕ) → RecordsStandInTurn table free buffer place
+  pub run-passes : RunPasses

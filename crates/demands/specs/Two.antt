@@ -1,0 +1,54 @@
+-- Demand 2: "The rows picked for a slot are those that PD2 picks: as many as there are free cores, or all that are ready if fewer, best first by its
+-- order. The trace checker passes a trace exactly when the trace is well formed and each quantum falls inside its allowed slots, none overdue."
+use Prim.Native.Nat.{ℕ, _+_, _<_}
+use mathlib.Core.Path.{_≡_}
+use mathlib.Core.List.{List}
+use mathlib.Core.Bool.{cond}
+use mathlib.Core.Logic.{_↔_}
+use lib.ListN.{length}
+use Rattle.table.specs.Limits.{rowLimit}
+use Rattle.table.specs.Bytes.{tableNumber, tableIn}
+use Rattle.pd2.specs.Order.{before}
+use Rattle.pd2.specs.Picks.{AreBest}
+use Rattle.pd2.specs.Choice.{quantaAt, readyIn, firstBy, pd2Picks}
+use Rattle.trace.specs.Record.{withRecord, recordOf}
+use Rattle.trace.specs.Records.{freeAt, rowsAt, names}
+use Rattle.trace.specs.Said.{bare}
+use Rattle.dispatcher.specs.declared.State.{State}
+use Rattle.dispatcher.specs.State.{rowsIn, quantaIn, timeOf}
+use Rattle.dispatcher.specs.Slot.{Given, slotOf}
+use Rattle.dispatcher.specs.Places.{AtMostOneQuantum}
+use Rattle.checker.specs.Check.{checkOf}
+use Rattle.checker.specs.WellFormed.{WellFormed}
+use Rattle.checker.specs.Passes.{InWindows}
+
+-- A slot of state s with k cores free that answers 0 or 1, at a place in a buffer: what it has given back.
+pub record Picks (s : State) (k : ℕ) (buffer : List ℕ) (place : ℕ) (after : Given) : Type 0 where
+  -- "those that PD2 picks": the record that stands at the place names them, "every other byte is as before",
+  pub bytes : after .bytes ≡ withRecord buffer place (recordOf k (pd2Picks (rowsIn s) (quantaIn s) (timeOf s) k))
+  pub free : freeAt (after .bytes) place ≡ k
+  pub rows : rowsAt (after .bytes) place ≡ pd2Picks (rowsIn s) (quantaIn s) (timeOf s) k
+  -- they are "as many as there are free cores, or all that are ready if fewer, best first by its order",
+  pub best : AreBest (readyIn (rowsIn s) (quantaIn s) (timeOf s)) (firstBy before (rowsIn s) (quantaIn s)) (length (rowsIn s)) k
+  -- "each picked row has one quantum more", and no other, "time is one higher"
+  pub quanta : length (s .quanta) ≡ rowLimit → (i : ℕ) →
+      quantaAt (quantaIn (after .state)) i ≡ quantaAt (quantaIn s) i + cond (names (rowsAt (after .bytes) place) i) 1 0
+  pub time : timeOf (after .state) ≡ timeOf s + 1
+
+abbrev pub PicksArePd2s : Type 0
+PicksArePd2s =
+    (s : State) (k : ℕ) (buffer : List ℕ) (place : ℕ) → slotOf s k buffer place .said .number < 2 →
+    Picks s k buffer place (slotOf s k buffer place)
+
+-- "The trace checker passes a trace exactly when the trace is well formed and each quantum falls inside its allowed slots, none overdue": for the bytes
+-- of any table and trace.
+abbrev pub PassesExactly : Type 0
+PassesExactly =
+    (bytes s : List ℕ) →
+    (checkOf bytes s ≡ bare 0) ↔ ((tableNumber bytes ≡ 0) × WellFormed (tableIn bytes) s × InWindows (tableIn bytes) s)
+
+-- "A row gets at most one quantum a slot", whatever the state.
+pub record DemandTwo : Type 0 where
+  pub picks : PicksArePd2s
+  pub at-most-one : AtMostOneQuantum
+  pub passes : PassesExactly

@@ -1,0 +1,59 @@
+-- What a slot answers and what it leaves alone (01, "What comes back").
+use Prim.Native.Nat.{ℕ, _+_, _≤_, _<_}
+use mathlib.Core.Path.{_≡_}
+use mathlib.Core.List.{List}
+use mathlib.Core.Logic.{_⊎_}
+use lib.ListN.{length, take}
+use Rattle.table.specs.Value.{boardsOf}
+use Rattle.pd2.specs.Choice.{quantaAt}
+use Rattle.trace.specs.Said.{bare}
+use Rattle.dispatcher.specs.declared.State.{State}
+use Rattle.dispatcher.specs.State.{rowsIn, quantaIn, timeOf}
+use Rattle.dispatcher.specs.Slot.{Given, slotOf}
+
+-- A slot answers 0, 1 or a number of 30 to 34.
+abbrev pub SlotNumbers : Type 0
+SlotNumbers =
+    (s : State) (k : ℕ) (buffer : List ℕ) (place : ℕ) →
+    let number = slotOf s k buffer place .said .number in
+    (number < 2) ⊎ ((30 ≤ number) × (number ≤ 34))
+
+-- "In the answers of a slot .. row and time are 0 except with 1 .."
+abbrev pub BareUnlessLate : Type 0
+BareUnlessLate =
+    (s : State) (k : ℕ) (buffer : List ℕ) (place : ℕ) →
+    let said = slotOf s k buffer place .said in
+    (said .number ≡ 1 → ⊥) → said ≡ bare (said .number)
+
+-- "A row gets at most one quantum a slot."
+abbrev pub AtMostOneQuantum : Type 0
+AtMostOneQuantum =
+    (s : State) (k : ℕ) (buffer : List ℕ) (place i : ℕ) →
+    quantaAt (quantaIn (slotOf s k buffer place .state)) i ≤ quantaAt (quantaIn s) i + 1
+
+-- "Places past row n, and board numbers past M, are .. returned as they came": the table is the same, and so are the quanta past n.
+abbrev pub PastIsReturned : Type 0
+PastIsReturned =
+    (s : State) (k : ℕ) (buffer : List ℕ) (place : ℕ) →
+    let after = slotOf s k buffer place .state in
+    (after .table ≡ s .table) × ((i : ℕ) → length (rowsIn s) ≤ i → quantaAt (quantaIn after) i ≡ quantaAt (quantaIn s) i)
+
+-- "Places past row n, and board numbers past M, are ignored": two states that differ in nothing else get the same answer and the same bytes.
+pub record AlikeBelow (s s′ : State) : Type 0 where
+  pub cycle : s .table .cycle ≡ s′ .table .cycle
+  pub cores : s .table .cores ≡ s′ .table .cores
+  pub boards : boardsOf (s .table) ≡ boardsOf (s′ .table)
+  pub count : s .table .count ≡ s′ .table .count
+  pub rows : rowsIn s ≡ rowsIn s′
+  pub time : timeOf s ≡ timeOf s′
+  pub stopped : s .stopped ≡ s′ .stopped
+  pub quanta : take (length (rowsIn s)) (quantaIn s) ≡ take (length (rowsIn s)) (quantaIn s′)
+
+pub record SameAnswer (a b : Given) : Type 0 where
+  pub said : a .said ≡ b .said
+  pub bytes : a .bytes ≡ b .bytes
+
+abbrev pub PastIsIgnored : Type 0
+PastIsIgnored =
+    (s s′ : State) (k : ℕ) (buffer : List ℕ) (place : ℕ) → AlikeBelow s s′ →
+    SameAnswer (slotOf s k buffer place) (slotOf s′ k buffer place)

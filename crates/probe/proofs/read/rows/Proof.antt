@@ -1,0 +1,67 @@
+use Prim.Native.Nat.{_+_, _*_, _-_, _≤_}
+use native.Mathlib.Omega.{arith}
+use Rattle.probe.proofs.Reading.{ReadUpTo, nothing-read, one-more-read}
+use Rattle.table.specs.Bytes.{rowAt}
+use Rattle.table.specs.Causes.{zeroRow}
+use borrow.Author.Needs.{needs}
+use Rattle.probe.proofs.read.rows.Statement.{statement}
+use Rattle.probe.proofs.read.rows.Tie as tie
+
+abbrev Inv-loop : tie.InvT-loop
+Inv-loop s at rows₀ i₀ rows i = (i ≤ 32) × ReadUpTo (λ x. x) (λ j. rowAt s (at + 9 * j)) zeroRow 32 i rows
+
+abbrev μ-loop : tie.MeasureT-loop
+μ-loop s at rows₀ i₀ rows i = 32 - i
+
+row-requires : tie.Need-row-requires Inv-loop μ-loop
+row-requires c κs = search needs
+
+loop-holds : tie.Need-loop-holds Inv-loop μ-loop
+loop-holds c = (omega arith, nothing-read _ _ _ _ (search needs))
+
+mul-row : tie.Need-mul-row Inv-loop μ-loop
+mul-row c = search needs
+
+add-row : tie.Need-add-row Inv-loop μ-loop
+add-row c = search needs
+
+row-requires-2 : tie.Need-row-requires-2 Inv-loop μ-loop
+row-requires-2 c κs = search needs
+
+mul-rows : tie.Need-mul-rows Inv-loop μ-loop
+mul-rows c = search needs
+
+array-set-from-rows : tie.Need-array-set-from-rows Inv-loop μ-loop
+array-set-from-rows c = search needs
+
+add-i : tie.Need-add-i Inv-loop μ-loop
+add-i c = search needs
+
+loop-less : tie.Need-loop-less Inv-loop μ-loop
+loop-less c = search needs
+
+loop-again : tie.Need-loop-again Inv-loop μ-loop
+loop-again c =
+    let l = c .before in
+    (omega arith, one-more-read _ _ _ _ (l .before .loop .inv .1) (l .loop-test .taken) (c .row2 .ensures))
+
+returns : tie.Need-returns Inv-loop μ-loop
+returns c = λ j l. c .before .loop .inv .1 .first j (omega arith)
+
+pub rows-spec : {M : Type 1} → statement M
+rows-spec =
+    tie.close
+    (tie.spec
+    Inv-loop
+    μ-loop
+    row-requires
+    loop-holds
+    mul-row
+    add-row
+    row-requires-2
+    mul-rows
+    array-set-from-rows
+    add-i
+    loop-less
+    loop-again
+    returns)

@@ -1,0 +1,47 @@
+-- The values in a request's bytes: what stands at a place.
+use Prim.Native.Nat.{ℕ, _+_, _*_, _<_}
+use mathlib.Core.Path.{_≡_}
+use mathlib.Core.List.{List}
+use lib.Dec.{eqb}
+use lib.ListN.{getD}
+use Rattle.fields.specs.Fields.{byte, word}
+use Rattle.counts.specs.declared.Quanta.{Quanta}
+use Rattle.table.specs.declared.Row.{Row}
+use Rattle.table.specs.declared.Table.{Table}
+use Rattle.table.specs.Causes.{zeroRow}
+use Rattle.table.specs.Bytes.{rowAt}
+use Rattle.dispatcher.specs.declared.State.{State}
+
+-- the number in the eight bytes from place i on
+abbrev pub long : List ℕ → ℕ → ℕ
+long s i = word s i + 4_294_967_296 * word s (i + 4)
+
+-- 8 board numbers, a byte each
+abbrev pub BoardsAt : List ℕ → ℕ → List ℕ → Type 0
+BoardsAt s i boards = (j : ℕ) → j < 8 → getD boards j 0 ≡ byte s (i + j)
+
+-- 32 rows, nine bytes each
+abbrev pub RowsAt : List ℕ → ℕ → List Row → Type 0
+RowsAt s i rows = (j : ℕ) → j < 32 → getD rows j zeroRow ≡ rowAt s (i + 9 * j)
+
+-- 32 quanta, eight bytes each
+abbrev pub none : Quanta
+none = record { 0 = 0 }
+
+abbrev pub QuantaAt : List ℕ → ℕ → List Quanta → Type 0
+QuantaAt s i quanta = (j : ℕ) → j < 32 → getD quanta j none .0 ≡ long s (i + 8 * j)
+
+-- A table value: L (4), M (1), 8 board numbers (1 each), n (1), 32 rows.
+pub record TableAt (s : List ℕ) (i : ℕ) (table : Table) : Type 0 where
+  pub cycle : table .cycle ≡ word s i
+  pub cores : table .cores ≡ byte s (i + 4)
+  pub boards : BoardsAt s (i + 5) (table .boards)
+  pub count : table .count ≡ byte s (i + 13)
+  pub rows : RowsAt s (i + 14) (table .rows)
+
+-- A state: a table value, the time (8), the stopped mark (1), 32 quanta.
+pub record StateAt (s : List ℕ) (i : ℕ) (state : State) : Type 0 where
+  pub table : TableAt s i (state .table)
+  pub time : state .time .0 ≡ long s (i + 302)
+  pub stopped : state .stopped ≡ eqb (byte s (i + 310)) 1
+  pub quanta : QuantaAt s (i + 311) (state .quanta)

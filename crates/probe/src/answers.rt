@@ -1,0 +1,116 @@
+// One function for each letter. Each is lent the input from its letter on, writes the answer, and says how many bytes the request has: 0
+// if it is cut, and then nothing was written. Bytes past the end count as 0, so a length that is itself cut is read as some number; but
+// what it measures would begin past the end, so the request is cut whatever the number is.
+use crate::put;
+use crate::read;
+use crate::verdicts;
+use crate::write;
+use counts::Slot;
+use counts::Subtask;
+use dispatcher::Outcome;
+use libc::STDOUT_FILENO;
+ghost use Prim.Native.Nat.{_≤_};
+ghost use lib.ListN.{length};
+
+// W: e (2), p (2), f (2), i (8).
+pub(crate) fn window(request: &[u8]) -> usize
+    ensures { λ r. ⌜ r ≤ length (now (request .entry)) ⌝ }
+{
+    if request.len() < 15 {
+        return 0;
+    }
+    let e = fields::half(request, 1);
+    let p = fields::half(request, 3);
+    let f = fields::half(request, 5);
+    let i = Subtask::numbered(read::long(request, 7));
+    let mut out = [0u8; 26];
+    write::window(&mut out, windows::window(e, p, f, i));
+    io::write_all(STDOUT_FILENO, &out);
+    15
+}
+
+// T: the length (4) of a table, and its bytes.
+pub(crate) fn table(request: &[u8]) -> usize
+    ensures { λ r. ⌜ r ≤ length (now (request .entry)) ⌝ }
+{
+    let length = fields::word(request, 1) as usize;
+    let end = 5 + length;
+    if request.len() < end {
+        return 0;
+    }
+    let reading = table::read(&request[5..end]);
+    let mut out = [0u8; 303];
+    let next = put::byte(&mut out, 0, reading.number);
+    write::table(&mut out, next, reading.table);
+    io::write_all(STDOUT_FILENO, &out);
+    end
+}
+
+// S: a state (567), k (1), the place (8), the length (4) of the buffer, and its bytes. They are lent to the slot where they stand in the
+// input. The state's mark is 0 or 1: with any other byte the request counts as cut.
+pub(crate) fn slot(request: &mut [u8]) -> usize
+    ensures { λ r. ⌜ r ≤ length (now (request .entry)) ⌝ }
+{
+    let length = fields::word(request, 577) as usize;
+    let end = 581 + length;
+    if request.len() < end {
+        return 0;
+    }
+    if 1 < fields::byte(request, 311) {
+        return 0;
+    }
+    let state = read::state(request, 1);
+    let k = fields::byte(request, 568);
+    let place = read::long(request, 569) as usize;
+    let outcome = state.slot(k, &mut request[581..end], place);
+    tell(outcome);
+    io::write_all(STDOUT_FILENO, &request[581..end]);
+    end
+}
+
+// Writes the head of a slot's answer: number, row and time, and the state that the slot left.
+fn tell(outcome: Outcome) {
+    let mut out = [0u8; 577];
+    let answer = outcome.answer;
+    let next = write::verdict(&mut out, 0, verdicts::of_slot(answer));
+    let after = outcome.state;
+    write::state(&mut out, next, after);
+    io::write_all(STDOUT_FILENO, &out);
+}
+
+// R: a slot (8), the length (4) of a trace, and its bytes.
+pub(crate) fn record(request: &[u8]) -> usize
+    ensures { λ r. ⌜ r ≤ length (now (request .entry)) ⌝ }
+{
+    let length = fields::word(request, 9) as usize;
+    let end = 13 + length;
+    if request.len() < end {
+        return 0;
+    }
+    let slot = Slot::at(read::long(request, 1));
+    let part = trace::record(&request[13..end], slot);
+    let mut out = [0u8; 8];
+    put::long(&mut out, 0, part.len() as u64);
+    io::write_all(STDOUT_FILENO, &out);
+    io::write_all(STDOUT_FILENO, part);
+    end
+}
+
+// C: a table and a trace, each behind its length (4).
+pub(crate) fn check(request: &[u8]) -> usize
+    ensures { λ r. ⌜ r ≤ length (now (request .entry)) ⌝ }
+{
+    let table_length = fields::word(request, 1) as usize;
+    let table_end = 5 + table_length;
+    let trace_length = fields::word(request, table_end) as usize;
+    let trace_start = table_end + 4;
+    let end = trace_start + trace_length;
+    if request.len() < end {
+        return 0;
+    }
+    let answer = checker::check(&request[5..table_end], &request[trace_start..end]);
+    let mut out = [0u8; 10];
+    write::verdict(&mut out, 0, verdicts::of_check(answer));
+    io::write_all(STDOUT_FILENO, &out);
+    end
+}

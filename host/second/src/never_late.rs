@@ -1,0 +1,658 @@
+//! Never late: full boxes by chance, run with all cores free.
+//!
+//! 01 takes its order from 001, and 001's Theorem 18 says of it that it "generates a valid
+//! schedule for any feasible asynchronous task system"; feasible (its Theorem 29) is what 01 asks
+//! of a table: "The sum of e·(L/p) is at most M·L." So no row may be late while all M cores are
+//! free. A full box, with the sum exactly M·L, has no idle core that could mend a wrong choice: a
+//! slip in the order shows there.
+
+use crate::slot::{self, Answer};
+use crate::table::{self, Row, Table};
+use crate::windows;
+
+/// Makes so many full boxes and runs each with all M cores free, for its longest phase and two
+/// cycles more. `Ok` counts what was run, in one line. `Err` tells the first slot that answered
+/// anything but 0; tables, like slots and rows, are numbered from 0.
+pub fn full_boxes(seed: u64, tables: u32) -> Result<String, String> {
+    let mut chance = Chance(seed);
+    let mut counts = Counts::default();
+    for number in 0..tables {
+        let table = full_box(&mut chance);
+        let slots = slots_to_run(&table);
+        if let Some((at, answer)) = first_not_done(&table, table.cores, slots) {
+            let text = not_done_text(&table, at, &answer);
+            return Err(format!("seed {}, table {}: {}", seed, number, text));
+        }
+        counts.add(&table, slots);
+    }
+    Ok(counts.text(seed))
+}
+
+// ---- running a box ----
+
+/// The longest phase, after which every row has begun, and two cycles.
+fn slots_to_run(table: &Table) -> u64 {
+    let phases = table.named_rows().iter().map(|row| row.phase);
+    u64::from(phases.max().unwrap_or(0)) + 2 * u64::from(table.cycle)
+}
+
+/// Runs a table from its fresh state with k cores free: the first slot that answers anything but
+/// 0 ("done"), with its answer.
+fn first_not_done(table: &Table, k: u8, slots: u64) -> Option<(u64, Answer)> {
+    let mut state = slot::fresh(*table);
+    for number in 0..slots {
+        let answer = slot::slot(&mut state, k, &mut [0; 2 + 8], 0);
+        if answer.number != 0 {
+            return Some((number, answer));
+        }
+    }
+    None
+}
+
+fn not_done_text(table: &Table, at: u64, answer: &Answer) -> String {
+    let bytes = table::write(table);
+    let hex: String = bytes.iter().map(|byte| format!("{:02X}", byte)).collect();
+    format!(
+        "slot {} answers {}, row {}, time {}, of table {}",
+        at, answer.number, answer.row, answer.time, hex
+    )
+}
+
+/// What was run.
+#[derive(Default)]
+struct Counts {
+    tables: u64,
+    slots: u64,
+    plain: u64,
+    early: u64,
+    heavy: u64,
+    full_width: u64,
+    full_width_of_32: u64,
+}
+
+impl Counts {
+    fn add(&mut self, table: &Table, slots: u64) {
+        self.tables += 1;
+        self.slots += slots;
+        for row in table.named_rows() {
+            self.plain += u64::from(row.kind == 0);
+            self.early += u64::from(row.kind == 1);
+            self.heavy += u64::from(windows::heavy(row.cost, row.period));
+        }
+        self.full_width += u64::from(table.cores == 8);
+        self.full_width_of_32 += u64::from(table.cores == 8 && table.count == 32);
+    }
+
+    fn text(&self, seed: u64) -> String {
+        format!(
+            "never late: {} tables, {} slots, {} plain rows, {} early-release rows, {} heavy rows, \
+             {} full-width boxes (M = 8), {} of them with 32 rows, seed {}",
+            self.tables,
+            self.slots,
+            self.plain,
+            self.early,
+            self.heavy,
+            self.full_width,
+            self.full_width_of_32,
+            seed
+        )
+    }
+}
+
+// ---- chance ----
+
+/// A plain generator of numbers, the same ones for the same seed; every seed serves, 0 too.
+pub(crate) struct Chance(pub u64);
+
+impl Chance {
+    pub(crate) fn below(&mut self, limit: u64) -> u64 {
+        self.0 = self.0.wrapping_add(0x9E37_79B9_7F4A_7C15);
+        let mut mixed = self.0;
+        mixed = (mixed ^ (mixed >> 30)).wrapping_mul(0xBF58_476D_1CE4_E5B9);
+        mixed = (mixed ^ (mixed >> 27)).wrapping_mul(0x94D0_49BB_1331_11EB);
+        (mixed ^ (mixed >> 31)) % limit
+    }
+
+    fn one_of<T: Copy>(&mut self, things: &[T]) -> T {
+        things[self.below(things.len() as u64) as usize]
+    }
+}
+
+// ---- making a full box ----
+
+/// Cycles with many divisors, or with those of 001's counterexamples (9, 14, 22). The long ones
+/// come seldom, as two cycles of each are run.
+const SHORT: [u32; 22] = [
+    2, 4, 6, 9, 10, 12, 14, 15, 18, 20, 22, 24, 28, 30, 36, 40, 42, 45, 48, 60, 66, 72,
+];
+const MIDDLE: [u32; 14] = [
+    84, 90, 96, 120, 126, 140, 154, 168, 180, 210, 240, 252, 300, 360,
+];
+const LONG: [u32; 8] = [420, 504, 630, 720, 840, 1260, 2520, 5040];
+
+/// A table without fault whose sum of e·(L/p) is exactly M·L.
+fn full_box(chance: &mut Chance) -> Table {
+    let mut table = Table::zero();
+    table.cycle = match chance.below(16) {
+        0 => chance.one_of(&LONG),
+        1..=5 => chance.one_of(&MIDDLE),
+        _ => chance.one_of(&SHORT),
+    };
+    table.cores = 1 + chance.below(8) as u8;
+    put_boards(chance, &mut table);
+    let mut fractions = full_fractions(chance, table.cores, table.cycle);
+    if chance.below(3) == 0 {
+        shuffle(chance, &mut fractions);
+    } else {
+        // where a wrong order leaves it to the row number, the lighter rows go first
+        fractions.sort_by_key(|fraction| fraction.quanta_in(table.cycle));
+    }
+    put_rows(chance, &mut table, &fractions);
+    table
+}
+
+fn put_boards(chance: &mut Chance, table: &mut Table) {
+    let mut board = chance.below(3) as u8;
+    for place in 0..usize::from(table.cores) {
+        table.boards[place] = board;
+        board += 1 + chance.below(4) as u8;
+    }
+}
+
+fn put_rows(chance: &mut Chance, table: &mut Table, fractions: &[Fraction]) {
+    let kinds = chance.one_of(&[&[0, 1][..], &[0], &[0], &[1]]);
+    let beginning = chance.one_of(&[
+        Beginning::AtOnce,
+        Beginning::AtOnce,
+        Beginning::InItsPeriod,
+        Beginning::Anywhere,
+    ]);
+    let mut tank = chance.below(3) as u16;
+    table.count = fractions.len() as u8;
+    for (place, fraction) in fractions.iter().enumerate() {
+        table.rows[place] = Row {
+            tank,
+            cost: fraction.cost,
+            period: fraction.period,
+            phase: phase(chance, beginning, fraction.period, table.cycle),
+            kind: chance.one_of(kinds),
+        };
+        tank += 1 + chance.below(9) as u16;
+    }
+}
+
+/// When the rows of a box begin.
+#[derive(Clone, Copy)]
+enum Beginning {
+    AtOnce,
+    InItsPeriod,
+    /// some at once, the others within a cycle and a half
+    Anywhere,
+}
+
+fn phase(chance: &mut Chance, beginning: Beginning, period: u16, cycle: u32) -> u16 {
+    match beginning {
+        Beginning::InItsPeriod => chance.below(u64::from(period)) as u16,
+        Beginning::Anywhere if chance.below(2) == 0 => {
+            chance.below(u64::from(cycle) * 3 / 2) as u16
+        }
+        _ => 0,
+    }
+}
+
+fn shuffle(chance: &mut Chance, fractions: &mut [Fraction]) {
+    for place in (1..fractions.len()).rev() {
+        fractions.swap(place, chance.below(place as u64 + 1) as usize);
+    }
+}
+
+// ---- fractions that fill the cores ----
+
+/// e/p, "never reduced".
+#[derive(Clone, Copy, PartialEq, Eq, Debug)]
+struct Fraction {
+    cost: u16,
+    period: u16,
+}
+
+impl Fraction {
+    /// e·(L/p)
+    fn quanta_in(self, cycle: u32) -> u32 {
+        u32::from(self.cost) * (cycle / u32::from(self.period))
+    }
+}
+
+/// What share of a core the rows of a box like to have.
+#[derive(Clone, Copy)]
+enum Taste {
+    Any,
+    /// more than one half: D decides only where one of the rows is heavy
+    Heavy,
+    /// at most a quarter: boxes of many rows
+    Small,
+    /// the first window is so many slots long: many rows with the same d, and b decides
+    Alike(u16),
+}
+
+const TASTES: [Taste; 8] = [
+    Taste::Any,
+    Taste::Heavy,
+    Taste::Heavy,
+    Taste::Small,
+    Taste::Alike(2),
+    Taste::Alike(3),
+    Taste::Alike(3),
+    Taste::Alike(4),
+];
+
+/// At most 32 fractions that fill M cores exactly.
+fn full_fractions(chance: &mut Chance, cores: u8, cycle: u32) -> Vec<Fraction> {
+    let taste = chance.one_of(&TASTES);
+    if chance.below(2) == 0 {
+        if let Some(fractions) = of_two_weights(chance, taste, cores, cycle) {
+            return fractions;
+        }
+    }
+    of_many_weights(chance, taste, cores, cycle)
+}
+
+/// "a set A of tasks of one weight and a set B of tasks of another weight": what 001 says of its
+/// counterexamples. None if in eight attempts no two fractions are met that fill the cores.
+fn of_two_weights(
+    chance: &mut Chance,
+    taste: Taste,
+    cores: u8,
+    cycle: u32,
+) -> Option<Vec<Fraction>> {
+    let wanted = u32::from(cores) * cycle;
+    for _ in 0..8 {
+        let a = fraction(chance, taste, cycle);
+        let b = fraction(chance, taste, cycle);
+        let (a_quanta, b_quanta) = (a.quanta_in(cycle), b.quanta_in(cycle));
+        let ways = ways_to_fill(wanted, a_quanta, b_quanta);
+        if a_quanta == b_quanta || ways.is_empty() {
+            continue;
+        }
+        let (a_rows, b_rows) = chance.one_of(&ways);
+        let mut fractions = vec![a; a_rows];
+        fractions.resize(a_rows + b_rows, b);
+        return Some(fractions);
+    }
+    None
+}
+
+/// The numbers of rows, 32 in all at most, of two kinds (so many quanta in a cycle each) that
+/// together have as many quanta as wanted.
+fn ways_to_fill(wanted: u32, a: u32, b: u32) -> Vec<(usize, usize)> {
+    let mut ways = Vec::new();
+    for a_rows in 1..32 {
+        for b_rows in 1..=32 - a_rows {
+            if a_rows * a + b_rows * b == wanted {
+                ways.push((a_rows as usize, b_rows as usize));
+            }
+        }
+    }
+    ways
+}
+
+/// Rows by chance while they fit, then rows for what is left.
+fn of_many_weights(chance: &mut Chance, taste: Taste, cores: u8, cycle: u32) -> Vec<Fraction> {
+    let mut filling = Filling::new(chance, cores, cycle);
+    while filling.unfilled > 0 {
+        let taste = match chance.below(12) {
+            0 => chance.one_of(&TASTES),
+            _ => taste,
+        };
+        let fraction = filling.fitting(chance, taste);
+        filling.push(fraction);
+        // and some more rows of the same fraction
+        for _ in 0..chance.below(4) {
+            if filling.fits(fraction) {
+                filling.push(fraction);
+            }
+        }
+    }
+    filling.fractions
+}
+
+/// A box on its way to being full. What is unfilled never exceeds what the rows it may still get
+/// can take, so that it can always be filled.
+struct Filling {
+    cycle: u32,
+    /// M·L less the sum of e·(L/p) so far
+    unfilled: u32,
+    rows_left: u32,
+    fractions: Vec<Fraction>,
+}
+
+impl Filling {
+    fn new(chance: &mut Chance, cores: u8, cycle: u32) -> Filling {
+        let unfilled = u32::from(cores) * cycle;
+        let heaviest = heaviest(cycle).quanta_in(cycle);
+        let least_rows = (unfilled + heaviest - 1) / heaviest;
+        let more_rows = match chance.below(2) {
+            0 => chance.below(33 - u64::from(least_rows)) as u32,
+            _ => 32 - least_rows,
+        };
+        Filling {
+            cycle,
+            unfilled,
+            rows_left: least_rows + more_rows,
+            fractions: Vec::new(),
+        }
+    }
+
+    /// May the box get this row, and can what is unfilled after it still be filled?
+    fn fits(&self, fraction: Fraction) -> bool {
+        let quanta = fraction.quanta_in(self.cycle);
+        let heaviest = heaviest(self.cycle).quanta_in(self.cycle);
+        self.rows_left > 0
+            && quanta <= self.unfilled
+            && self.unfilled - quanta <= (self.rows_left - 1) * heaviest
+    }
+
+    fn push(&mut self, fraction: Fraction) {
+        self.unfilled -= fraction.quanta_in(self.cycle);
+        self.rows_left -= 1;
+        self.fractions.push(fraction);
+    }
+
+    /// A fraction to one's taste that fits. If in eight attempts none is met: all that is
+    /// unfilled if one row can take it, else as much as one row is counted on to take.
+    fn fitting(&self, chance: &mut Chance, taste: Taste) -> Fraction {
+        for _ in 0..8 {
+            let fraction = fraction(chance, taste, self.cycle);
+            if self.fits(fraction) {
+                return fraction;
+            }
+        }
+        let heaviest = heaviest(self.cycle);
+        if self.unfilled > heaviest.quanta_in(self.cycle) {
+            return heaviest;
+        }
+        the_rest(chance, self.unfilled, self.cycle)
+    }
+}
+
+/// The heaviest row a filling counts on: 59/60 of a core, so that the way to a group deadline
+/// stays short in a long cycle.
+fn heaviest(cycle: u32) -> Fraction {
+    Fraction {
+        cost: (cycle - (cycle / 60).max(1)) as u16,
+        period: cycle as u16,
+    }
+}
+
+/// So many quanta in a cycle (less than the cycle has slots), as e and p = L or both divided by
+/// the same number.
+fn the_rest(chance: &mut Chance, quanta: u32, cycle: u32) -> Fraction {
+    let divides_both = |by: &u32| quanta % by == 0 && cycle % by == 0;
+    let divisors: Vec<u32> = (1..=quanta).filter(divides_both).collect();
+    let by = chance.one_of(&divisors);
+    Fraction {
+        cost: (quanta / by) as u16,
+        period: (cycle / by) as u16,
+    }
+}
+
+/// A fraction to one's taste whose p divides the cycle; where the taste leaves no cost, 1.
+fn fraction(chance: &mut Chance, taste: Taste, cycle: u32) -> Fraction {
+    let periods: Vec<u32> = (2..=cycle).filter(|p| cycle % p == 0).collect();
+    let period = chance.one_of(&periods) as u16;
+    let (lowest, highest) = match taste {
+        Taste::Any => (1, period - 1),
+        Taste::Heavy => (period / 2 + 1, period - 1),
+        Taste::Small => (1, period / 4),
+        // as often as not b = 0 in every window
+        Taste::Alike(length) if period % length == 0 && chance.below(2) == 0 => {
+            (period / length, period / length)
+        }
+        // ceil(p/e) is the length
+        Taste::Alike(length) => ((period + length - 1) / length, (period - 1) / (length - 1)),
+    };
+    let cost = if lowest <= highest {
+        lowest + chance.below(u64::from(highest - lowest) + 1) as u16
+    } else {
+        1
+    };
+    Fraction { cost, period }
+}
+
+#[cfg(test)]
+mod tests {
+    use super::*;
+    use crate::table::tests::{value_of, EXAMPLE};
+
+    const LATE_AT_2: Answer = Answer {
+        number: 1,
+        row: 0,
+        time: 2,
+    };
+
+    #[test]
+    fn boxes_by_chance_are_never_late() {
+        let text = full_boxes(7, 60).unwrap();
+        assert!(text.starts_with("never late: 60 tables, "), "{}", text);
+        assert!(text.ends_with(" rows, seed 7"), "{}", text);
+        assert!(!text.contains('\n'));
+        // the seed alone decides
+        assert_eq!(full_boxes(7, 60).unwrap(), text);
+        assert_ne!(full_boxes(8, 60).unwrap(), text);
+    }
+
+    /// A slip in the order must show in 2,000 full boxes.
+    #[cfg(any(slip = "bit_left_out", slip = "smaller_group_first"))]
+    #[test]
+    fn the_planted_slip_makes_a_row_late() {
+        for seed in 0..4 {
+            let text = full_boxes(seed, 2_000).unwrap_err();
+            assert!(text.contains(" answers 1, row "), "{}", text);
+        }
+    }
+
+    #[test]
+    fn no_box_at_all() {
+        let expected = "never late: 0 tables, 0 slots, 0 plain rows, 0 early-release rows, \
+                        0 heavy rows, 0 full-width boxes (M = 8), 0 of them with 32 rows, seed 5";
+        assert_eq!(full_boxes(5, 0).unwrap(), expected);
+    }
+
+    #[test]
+    fn the_counts() {
+        let mut counts = Counts::default();
+        // 2/3 and 3/4 are heavy, 1/2 is not
+        counts.add(
+            &value_of(12, 2, &[(2, 3, 0, 0), (1, 2, 0, 1), (3, 4, 0, 1)]),
+            24,
+        );
+        counts.add(&value_of(2, 8, &[(1, 2, 0, 0); 16]), 4);
+        counts.add(&value_of(4, 8, &[(1, 4, 0, 1); 32]), 8);
+        let expected = "never late: 3 tables, 36 slots, 17 plain rows, 34 early-release rows, \
+                        2 heavy rows, 2 full-width boxes (M = 8), 1 of them with 32 rows, seed 9";
+        assert_eq!(counts.text(9), expected);
+    }
+
+    /// 01's bench: "Plain rows 2/3, 2/3, 3/4, three cores".
+    fn bench() -> Table {
+        value_of(12, 3, &[(2, 3, 0, 0), (2, 3, 0, 0), (3, 4, 0, 0)])
+    }
+
+    #[test]
+    fn the_first_slot_that_is_not_done() {
+        // "k = 0 twice: the second slot answers 1, row 0, time 2"
+        assert_eq!(first_not_done(&bench(), 0, 24), Some((1, LATE_AT_2)));
+        assert_eq!(first_not_done(&bench(), 0, 1), None);
+        assert_eq!(first_not_done(&bench(), 3, 24), None);
+        // a fault: "its first slot answers 30"
+        let over = value_of(2, 1, &[(1, 2, 0, 0), (1, 2, 0, 0), (1, 2, 0, 0)]);
+        assert_eq!(first_not_done(&over, 1, 4), Some((0, Answer::plain(30))));
+    }
+
+    #[test]
+    fn the_text_of_a_slot_that_is_not_done() {
+        let table = table::read(&EXAMPLE).unwrap();
+        let expected = "slot 1 answers 1, row 0, time 2, of table 010300000002000103\
+                        0A0002000300000000\
+                        0B0002000300000000\
+                        140002000300000000";
+        assert_eq!(not_done_text(&table, 1, &LATE_AT_2), expected);
+    }
+
+    #[test]
+    fn the_longest_phase_and_two_cycles() {
+        let rows = [(1, 2, 0, 0), (1, 3, 7, 0), (1, 6, 3, 1)];
+        assert_eq!(slots_to_run(&value_of(6, 1, &rows)), 19);
+        assert_eq!(slots_to_run(&value_of(6, 1, &[])), 12);
+    }
+
+    /// Every cyclic order of the rows of one table is never late, as plain rows, as early-release
+    /// rows, and with every second row early-release.
+    fn never_late_in_any_turn(cycle: u32, cores: u8, fractions: &[(u16, u16)]) {
+        for turn in 0..fractions.len() {
+            for kinds in [[0, 0], [1, 1], [0, 1]] {
+                let mut rows: Vec<_> = fractions
+                    .iter()
+                    .enumerate()
+                    .map(|(place, &(e, p))| (e, p, 0, kinds[place % 2]))
+                    .collect();
+                rows.rotate_left(turn);
+                let table = value_of(cycle, cores, &rows);
+                assert_eq!(first_not_done(&table, cores, 3 * u64::from(cycle)), None);
+            }
+        }
+    }
+
+    #[test]
+    fn slip_the_counterexamples_of_001() {
+        // Theorem 1, without b: eight of 1/3 and three of 4/9, 24/9 + 12/9 = 4
+        let mut rows = vec![(1, 3); 8];
+        rows.extend([(4, 9); 3]);
+        never_late_in_any_turn(9, 4, &rows);
+        // Theorem 2, light rows not last in D: five of 5/11 and two of 19/22, 50/22 + 38/22 = 4
+        let mut rows = vec![(5, 11); 5];
+        rows.extend([(19, 22); 2]);
+        never_late_in_any_turn(22, 4, &rows);
+        // Theorem 3, without D between heavy rows: three of 5/7 and two of 13/14,
+        // 30/14 + 26/14 = 4
+        let mut rows = vec![(5, 7); 3];
+        rows.extend([(13, 14); 2]);
+        never_late_in_any_turn(14, 4, &rows);
+    }
+
+    #[test]
+    fn made_boxes_are_full_and_of_every_sort() {
+        let mut chance = Chance(11);
+        let mut boxes = Vec::new();
+        for _ in 0..600 {
+            let table = full_box(&mut chance);
+            assert_eq!(table::read(&table::write(&table)), Ok(table));
+            let mut sum = 0;
+            for row in table.named_rows() {
+                sum += u32::from(row.cost) * (table.cycle / u32::from(row.period));
+            }
+            assert_eq!(sum, u32::from(table.cores) * table.cycle);
+            boxes.push(table);
+        }
+        let with_row = |holds: &dyn Fn(&Table, &Row) -> bool| {
+            let one_holds = |table: &&Table| table.named_rows().iter().any(|row| holds(table, row));
+            boxes.iter().filter(one_holds).count()
+        };
+        let boxes_where =
+            |holds: &dyn Fn(&Table) -> bool| boxes.iter().filter(|table| holds(table)).count();
+        for cores in 1..=8 {
+            assert!(boxes_where(&|table| table.cores == cores) > 30);
+        }
+        // M rows of less than a core cannot fill M cores: two rows are the fewest
+        assert!(boxes_where(&|table| table.count == 2) > 0);
+        assert!(boxes_where(&|table| table.count == 32 && table.cores == 8) > 0);
+        assert!(boxes_where(&|table| table.cycle > 1_000) > 0);
+        assert!(with_row(&|_, row| row.kind == 0) > 200);
+        assert!(with_row(&|_, row| row.kind == 1) > 200);
+        assert!(with_row(&|_, row| 2 * row.cost > row.period) > 200);
+        assert!(with_row(&|_, row| 2 * row.cost <= row.period) > 200);
+        assert!(with_row(&|_, row| row.phase > 0) > 100);
+        assert!(with_row(&|_, row| row.phase == 0) > 300);
+        assert!(with_row(&|table, row| u32::from(row.phase) > table.cycle) > 20);
+        // not reduced, and early release: job borders count
+        assert!(with_row(&|_, row| row.kind == 1 && row.cost == 2 && row.period == 6) > 0);
+    }
+
+    /// Every fraction met in many attempts, sorted by p, then e.
+    fn met<F: FnMut(&mut Chance) -> Fraction>(mut make: F) -> Vec<(u16, u16)> {
+        let mut chance = Chance(3);
+        let mut found = Vec::new();
+        for _ in 0..500 {
+            let fraction = make(&mut chance);
+            found.push((fraction.period, fraction.cost));
+        }
+        found.sort_unstable();
+        found.dedup();
+        found.iter().map(|&(period, cost)| (cost, period)).collect()
+    }
+
+    #[test]
+    fn fractions_to_taste() {
+        let of = |taste, cycle| met(|chance| fraction(chance, taste, cycle));
+        assert_eq!(of(Taste::Any, 4), [(1, 2), (1, 4), (2, 4), (3, 4)]);
+        // more than one half; 2 has none
+        assert_eq!(of(Taste::Heavy, 6), [(1, 2), (2, 3), (4, 6), (5, 6)]);
+        // at most a quarter; 2 has none
+        assert_eq!(of(Taste::Small, 8), [(1, 2), (1, 4), (1, 8), (2, 8)]);
+        // ceil(p/e) = 3: 3/1, 9/3, and 9/4 = 2.25; 2 has none
+        assert_eq!(of(Taste::Alike(3), 9), [(1, 3), (3, 9), (4, 9)]);
+        // ceil(p/e) = 2: 2/1, 3/2, and 6/3, 6/4, 6/5
+        let two = [(1, 2), (2, 3), (3, 6), (4, 6), (5, 6)];
+        assert_eq!(of(Taste::Alike(2), 6), two);
+    }
+
+    #[test]
+    fn the_rest_of_a_box() {
+        let of = |quanta, cycle| met(|chance| the_rest(chance, quanta, cycle));
+        assert_eq!(of(6, 12), [(1, 2), (2, 4), (3, 6), (6, 12)]);
+        assert_eq!(of(7, 12), [(7, 12)]);
+        assert_eq!(of(1, 2), [(1, 2)]);
+    }
+
+    #[test]
+    fn ways_to_fill_with_two_weights() {
+        // 001's Theorem 1 in a cycle of 9: 3a + 4b = 36
+        assert_eq!(ways_to_fill(36, 3, 4), [(4, 6), (8, 3)]);
+        // one row of each, 31 of one and one of the other, and one row too many
+        assert_eq!(ways_to_fill(3, 1, 2), [(1, 1)]);
+        assert_eq!(ways_to_fill(31 + 40, 1, 40), [(31, 1)]);
+        assert_eq!(ways_to_fill(32 + 40, 1, 40), []);
+        assert_eq!(ways_to_fill(7, 2, 4), []);
+    }
+
+    #[test]
+    fn a_row_fits_if_the_rest_can_still_be_filled() {
+        let heaviest_of = |cycle| (heaviest(cycle).cost, heaviest(cycle).period);
+        assert_eq!(heaviest_of(2), (1, 2));
+        assert_eq!(heaviest_of(60), (59, 60));
+        assert_eq!(heaviest_of(5_040), (4_956, 5_040));
+
+        let row = |cost| Fraction { cost, period: 6 };
+        let mut filling = Filling {
+            cycle: 6,
+            unfilled: 11,
+            rows_left: 3,
+            fractions: Vec::new(),
+        };
+        // two rows of 5/6 could take 10 of the 11
+        assert!(filling.fits(row(1)));
+        filling.unfilled = 12;
+        assert!(!filling.fits(row(1)));
+        assert!(filling.fits(row(2)));
+        filling.push(row(2));
+        assert_eq!((filling.unfilled, filling.rows_left), (10, 2));
+        assert!(!filling.fits(row(4)));
+        filling.push(row(5));
+        // the last row takes all there is
+        assert!(!filling.fits(row(4)));
+        assert!(filling.fits(row(5)));
+        filling.push(row(5));
+        assert_eq!((filling.unfilled, filling.rows_left), (0, 0));
+        assert!(!filling.fits(row(1)));
+        assert_eq!(filling.fractions, [row(2), row(5), row(5)]);
+    }
+}
