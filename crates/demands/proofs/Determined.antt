@@ -55,4 +55,5 @@ every-promise-determines =
       firmware-zb-trace-check = λ table trace. by-value;
       printer-Printed-length = λ self. by-value;
       printer-print = λ input out a b p q. print-is-determined input out a b (p .0, p .1) (q .0, q .1);
+      slots-run-zb-slots = λ table k slots. by-value;
     }

@@ -15,7 +15,7 @@ use Rattle.dispatcher.specs.declared.State.{State}
 use Rattle.dispatcher.specs.declared.Outcome.{Outcome}
 use Rattle.checker.specs.declared.Answer.{Answer as Checked}
 use Rattle.printer.specs.declared.Printed.{Printed}
-use Rattle.demands.specs.Promises.{counts·Slot·at, counts·Slot·time, counts·Slot·later, counts·Slot·before, counts·Slot·since, counts·Quanta·of, counts·Quanta·count, counts·Quanta·one-more, counts·Quanta·next-subtask, counts·Subtask·numbered, counts·Subtask·number, counts·Subtask·next, counts·Subtask·quanta-before, fields·byte, fields·half, fields·word, windows·window, windows·next-due, windows·next-start, windows·next-job-start, windows·next-group-deadline, table·read, table·fault, pd2·Verdict·is-yes, pd2·origin, pd2·ready, pd2·late, pd2·within, pd2·give, pd2·lowest-late, trace·write, trace·record, dispatcher·State·fresh, dispatcher·State·slot, checker·check, checker·number, firmware·zb-table-check, firmware·zb-trace-check, printer·Printed·length, printer·print}
+use Rattle.demands.specs.Promises.{counts·Slot·at, counts·Slot·time, counts·Slot·later, counts·Slot·before, counts·Slot·since, counts·Quanta·of, counts·Quanta·count, counts·Quanta·one-more, counts·Quanta·next-subtask, counts·Subtask·numbered, counts·Subtask·number, counts·Subtask·next, counts·Subtask·quanta-before, fields·byte, fields·half, fields·word, windows·window, windows·next-due, windows·next-start, windows·next-job-start, windows·next-group-deadline, table·read, table·fault, pd2·Verdict·is-yes, pd2·origin, pd2·ready, pd2·late, pd2·within, pd2·give, pd2·lowest-late, trace·write, trace·record, dispatcher·State·fresh, dispatcher·State·slot, checker·check, checker·number, firmware·zb-table-check, firmware·zb-trace-check, printer·Printed·length, printer·print, slots-run·zb-slots}
 
 pub record EveryPromiseDetermines : Type 0 where
   pub counts-Slot-at : (time : ℕ) → Determined (counts·Slot·at time)
@@ -59,3 +59,4 @@ pub record EveryPromiseDetermines : Type 0 where
   pub firmware-zb-trace-check : (table trace : List ℕ) → Determined (firmware·zb-trace-check table trace)
   pub printer-Printed-length : (self : Printed) → Determined (printer·Printed·length self)
   pub printer-print : (input out : List ℕ) → Determined {R = Printed × List ℕ} (λ r. printer·print input out (r .0) (r .1))
+  pub slots-run-zb-slots : (table : List ℕ) (k slots : ℕ) → Determined (slots-run·zb-slots table k slots)

@@ -34,7 +34,7 @@ use Rattle.trace.specs.Record.{recordOf, marked, hasRoom, storedWhere, partAfte
 use Rattle.trace.specs.Found.{partFound, partBegins}
 use Rattle.dispatcher.specs.declared.State.{State}
 use Rattle.dispatcher.specs.declared.Outcome.{Outcome}
-use Rattle.dispatcher.specs.State.{freshOf}
+use Rattle.dispatcher.specs.State.{timeOf, freshOf}
 use Rattle.dispatcher.specs.Answer.{saidOf}
 use Rattle.dispatcher.specs.Slot.{slotOf}
 use Rattle.checker.specs.declared.Answer.{Answer as Checked}
@@ -44,6 +44,7 @@ use Rattle.printer.specs.declared.Printed.{Printed}
 use Rattle.printer.specs.Limits.{textLimit}
 use Rattle.printer.specs.Text.{textOf}
 use Rattle.printer.specs.Buffer.{lengthOf, printedOf, outAfter}
+use Rattle.slots_run.specs.Slots.{noRecord, slotsFrom}
 
 -- counts::Slot::at
 abbrev pub counts·Slot·at : ℕ → Slot → Type 0
@@ -204,3 +205,7 @@ printer·Printed·length self r = r ≡ lengthOf self
 -- printer::print
 abbrev pub printer·print : List ℕ → List ℕ → Printed → List ℕ → Type 0
 printer·print input out r out-after = (r ≡ printedOf input out) × (out-after ≡ outAfter input out) × (length (textOf input) ≤ textLimit)
+
+-- slots_run::zb_slots
+abbrev pub slots-run·zb-slots : List ℕ → ℕ → ℕ → ℕ → Type 0
+slots-run·zb-slots table k slots r = r ≡ timeOf (slotsFrom (freshOf (reading table .table)) k noRecord slots .state)
