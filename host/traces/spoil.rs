@@ -116,7 +116,7 @@ fn spoil_rows(random: &mut Random, n: u8, rows: &mut [u8]) {
         0 => rows.swap(one, other),
         1 => rows[one] = rows[other],
         2 => rows[one] = rows[other].wrapping_add(1),
-        3 => rows[one] = random.below(usize::from(n)) as u8,
+        3 => rows[one] = random.below(usize::from(n).max(1)) as u8,
         _ => rows[one] = random.pick(&[n, n.wrapping_sub(1), n + 1, 32, 128, 255]),
     }
 }

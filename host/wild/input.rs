@@ -1,0 +1,121 @@
+//! Inputs of the slot printer, as they are written, right or wrong.
+
+use crate::damage;
+use crate::random::Random;
+use crate::sound;
+
+/// Each count stands beside what it counts, so that the two may differ.
+#[derive(Clone, PartialEq)]
+pub struct Input {
+    pub table_length: u16,
+    pub table: Vec<u8>,
+    pub slots: u16,
+    pub free_count: u16,
+    pub free: Vec<u8>,
+    pub after: Vec<u8>,
+    /// so many bytes are missing at the end
+    pub cut: usize,
+}
+
+impl Input {
+    pub fn bytes(&self) -> Vec<u8> {
+        let mut bytes = self.table_length.to_le_bytes().to_vec();
+        bytes.extend_from_slice(&self.table);
+        bytes.extend_from_slice(&self.slots.to_le_bytes());
+        bytes.extend_from_slice(&self.free_count.to_le_bytes());
+        bytes.extend_from_slice(&self.free);
+        bytes.extend_from_slice(&self.after);
+        bytes.truncate(bytes.len() - self.cut.min(bytes.len()));
+        bytes
+    }
+}
+
+/// Short cycles, so that rows have several jobs within a few slots.
+const CYCLES: [usize; 8] = [3, 4, 6, 10, 12, 24, 60, 120];
+
+/// Mostly an input whose counts are right.
+pub fn input(random: &mut Random) -> Input {
+    let table = table(random);
+    let slots = slots(random);
+    let cores = table.get(5).map_or(1, |&cores| cores);
+    let free = free_cores(random, slots.min(4_096), cores);
+    let mut input = Input {
+        table_length: table.len() as u16,
+        table,
+        slots,
+        free_count: free.len() as u16,
+        free,
+        after: vec![],
+        cut: 0,
+    };
+    match random.below(24) {
+        0 | 1 => disturb(random, &mut input),
+        2 | 3 => fill_up(random, &mut input),
+        _ => (),
+    }
+    input
+}
+
+fn table(random: &mut Random) -> Vec<u8> {
+    let cycle = random.pick(&CYCLES);
+    match random.below(8) {
+        0 => damage::table(random).0,
+        1..=4 => sound::full_of(random, cycle, 0)
+            .expect("a short cycle can be filled")
+            .bytes(),
+        _ => sound::any_of(random, cycle).bytes(),
+    }
+}
+
+fn slots(random: &mut Random) -> u16 {
+    match random.below(24) {
+        0 => random.pick(&[4_095, 4_096]),
+        1 => random.pick(&[4_097, 32_768, 65_535]),
+        2 => 0,
+        _ => random.between(1, 200) as u16,
+    }
+}
+
+/// A k for no slot, for some or for every one: any number of cores, or mostly all of them, or once too many.
+fn free_cores(random: &mut Random, slots: u16, cores: u8) -> Vec<u8> {
+    let some = random.below(usize::from(slots) + 1);
+    let length = random.pick(&[0, some, usize::from(slots)]);
+    let any_one_in = random.pick(&[1, 8, 64, 10_000]);
+    let mut free = vec![cores; length];
+    for k in &mut free {
+        if random.one_in(any_one_in) {
+            *k = random.below(usize::from(cores) + 1) as u8;
+        }
+    }
+    if length > 0 && random.one_in(3) {
+        free[random.below(length)] = random.pick(&[cores.wrapping_add(1), 255]);
+    }
+    free
+}
+
+/// A count gets another value, or bytes are missing or too many.
+fn disturb(random: &mut Random, input: &mut Input) {
+    let (length, count) = (input.table_length, input.free_count);
+    match random.below(5) {
+        0 => {
+            input.table_length =
+                random.pick(&[0, length.wrapping_sub(1), length.wrapping_add(1), 65_535])
+        }
+        1 => {
+            input.free_count = random.pick(&[count.wrapping_sub(1), count.wrapping_add(1), 65_535])
+        }
+        2 => {
+            input.free = vec![1; usize::from(input.slots) + 1];
+            input.free_count = input.free.len() as u16;
+        }
+        3 => input.after = random.bytes(1),
+        _ => input.cut = random.between(1, 12),
+    }
+}
+
+/// The longest input, or one byte more, by a table with bytes after its last row.
+fn fill_up(random: &mut Random, input: &mut Input) {
+    let length = random.pick(&[65_536, 65_537]);
+    input.table.resize(length - 6 - input.free.len(), 0);
+    input.table_length = input.table.len() as u16;
+}

@@ -1,0 +1,91 @@
+//! Schedules, as the slot printer prints them.
+
+use crate::case::{boxed, Case, Cases, Kind};
+use crate::input::{input, Input};
+use crate::message::{message, Message};
+use crate::random::Random;
+use crate::smaller;
+use crate::tally::{group, Tally};
+use second::printer::print;
+
+pub struct Printed(Input);
+
+pub const KIND: Kind = Kind {
+    name: "printed schedules",
+    groups: &[
+        group("after the header, last", 40, &["end", "late", "refused"]),
+        group("alone", 40, &["refused", "input"]),
+        group("bytes", 150, &["65536", "65537"]),
+    ],
+    wild: |random| Box::new(wild(random)),
+};
+
+fn wild(random: &mut Random) -> Printed {
+    Printed(input(random))
+}
+
+impl Case for Printed {
+    fn asked(&self) -> Message {
+        message().bytes("input", &self.0.bytes())
+    }
+
+    fn answered(&self) -> Message {
+        message().text("text", &print(&self.0.bytes()))
+    }
+
+    fn count(&self, answer: &[u8], tally: &mut Tally) {
+        let text = String::from_utf8_lossy(answer);
+        let last = text.lines().last().unwrap_or("");
+        let word = last.split(' ').next().unwrap_or("");
+        let alone = text.lines().count() == 1;
+        tally.saw(
+            if alone {
+                "alone"
+            } else {
+                "after the header, last"
+            },
+            word,
+        );
+        let length = self.0.bytes().len();
+        if length == 65_536 || length == 65_537 {
+            tally.saw("bytes", &length.to_string());
+        }
+    }
+
+    fn smaller(&self) -> Cases {
+        let Printed(input) = self;
+        let mut found = Vec::new();
+        for length in [0, input.free.len() / 2, input.free.len().saturating_sub(1)] {
+            found.push(with_free(input, &input.free[..length]));
+        }
+        for slots in [0, input.slots / 2, input.slots.saturating_sub(1)] {
+            let input = input.clone();
+            found.push(Input { slots, ..input });
+        }
+        for table in smaller::table(&input.table) {
+            found.push(with_table(input, table));
+        }
+        found.retain(|other| other != input);
+        boxed(found.into_iter().map(Printed).collect())
+    }
+}
+
+/// Another table, whose length is as wrong as before.
+fn with_table(input: &Input, table: Vec<u8>) -> Input {
+    let wrong = input.table_length.wrapping_sub(input.table.len() as u16);
+    Input {
+        table_length: wrong.wrapping_add(table.len() as u16),
+        table,
+        ..input.clone()
+    }
+}
+
+/// Another list, whose count is as wrong as before.
+fn with_free(input: &Input, free: &[u8]) -> Input {
+    let wrong = input.free_count.wrapping_sub(input.free.len() as u16);
+    Input {
+        free_count: wrong.wrapping_add(free.len() as u16),
+        free: free.to_vec(),
+        ..input.clone()
+    }
+}
