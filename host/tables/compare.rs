@@ -3,23 +3,16 @@
 use crate::call::{library_before, second};
 use crate::damage;
 use crate::hex::hex;
-use crate::random::Random;
+use crate::random::{seed, Random};
 
 const TABLES: usize = 200_000;
-const SEED: u64 = 1;
 
 /// The numbers that 01 gives to a table, each of which must be reached so many times.
 const NUMBERS: [usize; 14] = [0, 10, 11, 12, 13, 14, 15, 16, 17, 18, 19, 20, 21, 22];
 const ENOUGH: usize = 500;
 
-/// Runs with the seed of the environment variable ZB_SEED, or with one that is always the same.
 pub fn run() -> Result<String, String> {
-    let seed = match std::env::var("ZB_SEED") {
-        Ok(text) => text
-            .parse()
-            .map_err(|_| format!("ZB_SEED is no number: {}", text))?,
-        Err(_) => SEED,
-    };
+    let seed = seed()?;
     let mut random = Random::seeded(seed);
     let mut counts = [0; 256];
     let mut sizes = Sizes {

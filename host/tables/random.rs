@@ -1,5 +1,15 @@
 //! Numbers that look random and are the same in every run with the same seed (splitmix64).
 
+/// The seed where none is given.
+const SEED: u64 = 1;
+
+/// The seed of the environment variable ZB_SEED, or one that is always the same.
+pub fn seed() -> Result<u64, String> {
+    let text = std::env::var("ZB_SEED").unwrap_or_else(|_| SEED.to_string());
+    text.parse()
+        .map_err(|_| format!("ZB_SEED is no number: {}", text))
+}
+
 pub struct Random(u64);
 
 impl Random {

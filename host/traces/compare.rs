@@ -4,13 +4,12 @@
 use crate::call::{library_before, second};
 use crate::damage;
 use crate::hex::hex;
-use crate::random::Random;
+use crate::random::{seed, Random};
 use crate::schedule::{schedule, Schedule};
 use crate::spoil;
 
 const SCHEDULES: usize = 6_000;
 const SPOILED: usize = 16;
-const SEED: u64 = 1;
 
 /// The numbers that 01 gives to a trace, each of which must be reached so many times; and those that it gives to a table.
 const TRACE_NUMBERS: [usize; 9] = [0, 40, 41, 42, 43, 44, 45, 46, 47];
@@ -21,14 +20,8 @@ const SOME: usize = 20;
 /// Traces that pass and have at least so many slots, of tables with both kinds of row: ENOUGH of them too.
 const LONG: u32 = 12;
 
-/// Runs with the seed of the environment variable ZB_SEED, or with one that is always the same.
 pub fn run() -> Result<String, String> {
-    let seed = match std::env::var("ZB_SEED") {
-        Ok(text) => text
-            .parse()
-            .map_err(|_| format!("ZB_SEED is no number: {}", text))?,
-        Err(_) => SEED,
-    };
+    let seed = seed()?;
     let mut random = Random::seeded(seed);
     let mut seen = Seen {
         counts: [0; 256],

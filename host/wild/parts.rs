@@ -3,11 +3,10 @@
 use crate::case::Kind;
 use crate::compare::compare;
 use crate::program::Program;
+use crate::random::seed;
 use crate::{check, cut, printed, record, slot, table, window};
 use second::never_late::full_boxes;
 use std::path::Path;
-
-const SEED: u64 = 1;
 
 /// The probe, and how many requests it gets in one run: as many as fit, or, as it ends after one that is cut, one.
 const PROBE: (&str, usize) = ("probe", usize::MAX);
@@ -49,10 +48,4 @@ pub fn run(long: bool, runner: &Path) -> Result<(), String> {
 fn program(runner: &Path, (name, most): (&'static str, usize)) -> Program {
     let runner = runner.to_path_buf();
     Program { runner, name, most }
-}
-
-fn seed() -> Result<u64, String> {
-    let text = std::env::var("ZB_SEED").unwrap_or_else(|_| SEED.to_string());
-    text.parse()
-        .map_err(|_| format!("ZB_SEED is no number: {}", text))
 }
