@@ -2,7 +2,6 @@
 //!
 //!     traces by-hand             the example of 01, its prefixes, every change of one of its bytes, and each number made by hand
 //!     traces damaged             schedules of the second program, cut and damaged, against its checker
-//!     traces many WHO TIMES      a trace of a million slots, checked so many times by WHO: library, or second; see measure
 //!
 //! Exit status 0 if every answer is right; otherwise what is wrong is shown, and 1.
 
@@ -18,8 +17,6 @@ mod damage;
 mod draft;
 #[path = "tables/hex.rs"]
 mod hex;
-#[path = "traces/many.rs"]
-mod many;
 #[path = "tables/random.rs"]
 mod random;
 #[path = "traces/schedule.rs"]
@@ -36,8 +33,7 @@ fn main() {
     let outcome = match words.iter().map(String::as_str).collect::<Vec<_>>()[..] {
         ["by-hand"] => by_hand::run(),
         ["damaged"] => compare::run(),
-        ["many", who, times] => many::run(who, times),
-        _ => Err("usage: traces by-hand | traces damaged | traces many WHO TIMES".to_string()),
+        _ => Err("usage: traces by-hand | traces damaged".to_string()),
     };
     match outcome {
         Ok(words) => println!("{}", words),

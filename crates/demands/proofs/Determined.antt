@@ -1,5 +1,6 @@
 -- Any two results that a promise allows are equal: by the law that stands beside each. Assumes nothing.
 use Prim.Native.Nat.{min}
+use mathlib.Core.Path.{sym, ap₂, _∙_}
 use Rattle.facts.proofs.Determined.{by-value}
 use Rattle.counts.proofs.Determined.{slot-is-determined, quanta-is-determined, subtask-is-determined}
 use Rattle.windows.proofs.Question.{window-is-determined}
@@ -55,5 +56,5 @@ every-promise-determines =
       firmware-zb-trace-check = λ table trace. by-value;
       printer-Printed-length = λ self. by-value;
       printer-print = λ input out a b p q. print-is-determined input out a b (p .0, p .1) (q .0, q .1);
-      slots-run-zb-slots = λ table k slots. by-value;
+      slots-run-zb-slots = λ table k slots entry a b p q. ap₂ (λ time bytes. (time, bytes)) (p .0 ∙ sym (q .0)) (p .1 ∙ sym (q .1));
     }

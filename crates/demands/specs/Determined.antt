@@ -59,4 +59,4 @@ pub record EveryPromiseDetermines : Type 0 where
   pub firmware-zb-trace-check : (table trace : List ℕ) → Determined (firmware·zb-trace-check table trace)
   pub printer-Printed-length : (self : Printed) → Determined (printer·Printed·length self)
   pub printer-print : (input out : List ℕ) → Determined {R = Printed × List ℕ} (λ r. printer·print input out (r .0) (r .1))
-  pub slots-run-zb-slots : (table : List ℕ) (k slots : ℕ) → Determined (slots-run·zb-slots table k slots)
+  pub slots-run-zb-slots : (table : List ℕ) (k slots : ℕ) (entry : List ℕ) → Determined {R = ℕ × List ℕ} (λ r. slots-run·zb-slots table k slots entry (r .0) (r .1))

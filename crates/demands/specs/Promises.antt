@@ -44,7 +44,7 @@ use Rattle.printer.specs.declared.Printed.{Printed}
 use Rattle.printer.specs.Limits.{textLimit}
 use Rattle.printer.specs.Text.{textOf}
 use Rattle.printer.specs.Buffer.{lengthOf, printedOf, outAfter}
-use Rattle.slots_run.specs.Slots.{noRecord, slotsFrom}
+use Rattle.slots_run.specs.Slots.{slotsFrom}
 
 -- counts::Slot::at
 abbrev pub counts·Slot·at : ℕ → Slot → Type 0
@@ -207,5 +207,7 @@ abbrev pub printer·print : List ℕ → List ℕ → Printed → List ℕ → T
 printer·print input out r out-after = (r ≡ printedOf input out) × (out-after ≡ outAfter input out) × (length (textOf input) ≤ textLimit)
 
 -- slots_run::zb_slots
-abbrev pub slots-run·zb-slots : List ℕ → ℕ → ℕ → ℕ → Type 0
-slots-run·zb-slots table k slots r = r ≡ timeOf (slotsFrom (freshOf (reading table .table)) k noRecord slots .state)
+abbrev pub slots-run·zb-slots : List ℕ → ℕ → ℕ → List ℕ → ℕ → List ℕ → Type 0
+slots-run·zb-slots table k slots entry r entry-after =
+    (r ≡ timeOf (slotsFrom (freshOf (reading table .table)) k entry slots .state))
+    × (entry-after ≡ slotsFrom (freshOf (reading table .table)) k entry slots .bytes)

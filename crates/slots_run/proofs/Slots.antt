@@ -1,12 +1,11 @@
 -- The loop over the slots. Assumes nothing.
-use Prim.Native.Nat.{ℕ, suc, _+_, _≤_, _<_}
+use Prim.Native.Nat.{ℕ, _+_, _≤_, _<_}
 use mathlib.Core.Path.{_≡_, refl, sym, ap, ap₂, _∙_}
 use mathlib.Core.List.{List}
 use native.Mathlib.Numerals.{add-one}
 use native.Mathlib.Omega.{arith}
 use lib.ListN.{length}
 use Rattle.dispatcher.specs.declared.State.{State}
-use Rattle.dispatcher.specs.State.{timeOf}
 use Rattle.dispatcher.specs.Slot.{slotOf}
 use Rattle.slots_run.specs.Slots.{slotsFrom}
 
@@ -39,7 +38,8 @@ module _ (start : State) (k : ℕ) (b₀ : List ℕ) (slots : ℕ) where
         long = keeps ∙ so .long;
       }
 
-  pub slots-end : {s : State} {bytes : List ℕ} {done : ℕ} → SlotsSoFar s bytes done → slots ≤ done → timeOf s ≡ timeOf (slotsFrom start k b₀ slots .state)
+  pub slots-end : {s : State} {bytes : List ℕ} {done : ℕ} → SlotsSoFar s bytes done → slots ≤ done →
+      (s ≡ slotsFrom start k b₀ slots .state) × (bytes ≡ slotsFrom start k b₀ slots .bytes)
   slots-end {done = done} so h =
       let all : done ≡ slots = omega (arith, so .within) in
-      ap timeOf (so .state) ∙ ap (λ m. timeOf (slotsFrom start k b₀ m .state)) all
+      (so .state ∙ ap (λ m. slotsFrom start k b₀ m .state) all, so .bytes ∙ ap (λ m. slotsFrom start k b₀ m .bytes) all)

@@ -1,7 +1,6 @@
 -- Slot after slot with one number of free cores, each record written to the front of the same buffer.
 use Prim.Native.Nat.{ℕ, zero, suc}
 use mathlib.Core.List.{List}
-use lib.ListN.{replicate}
 use Rattle.dispatcher.specs.declared.State.{State}
 use Rattle.dispatcher.specs.Slot.{Given, slotOf}
 
@@ -12,10 +11,6 @@ pub record Left : Type 0 where
 
 abbrev pub leftBy : Given → Left
 leftBy given = record { state = given .state; bytes = given .bytes }
-
--- a buffer with room for the record of 8 rows, one for each core
-abbrev pub noRecord : List ℕ
-noRecord = replicate 10 0
 
 -- m slots with k cores free, from a state and a buffer on. A slot that is refused leaves both as they are.
 unfoldable pub slotsFrom : State → ℕ → List ℕ → ℕ → Left

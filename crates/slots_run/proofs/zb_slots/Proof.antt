@@ -1,17 +1,16 @@
-use mathlib.Core.Path.{sym, ap, _∙_}
+use mathlib.Core.Path.{ap, _∙_}
 use Prim.Native.Nat.{_-_}
 use Rattle.dispatcher.specs.State.{freshOf, timeOf}
-use Rattle.slots_run.specs.Slots.{noRecord, slotsFrom}
 use Rattle.slots_run.proofs.Slots.{SlotsSoFar, slots-begin, slots-go-on, slots-end}
 use borrow.Author.Needs.{needs}
 use Rattle.slots_run.proofs.zb_slots.Statement.{statement}
 use Rattle.slots_run.proofs.zb_slots.Tie as tie
 
 abbrev Inv-loop : tie.InvT-loop
-Inv-loop table k slots state₀ entry₀ done₀ state entry done = SlotsSoFar state₀ k entry₀ slots state entry done
+Inv-loop table k slots entry₀ state₀ done₀ entry state done = SlotsSoFar state₀ k entry₀ slots state entry done
 
 abbrev μ-loop : tie.MeasureT-loop
-μ-loop table k slots state₀ entry₀ done₀ state entry done = slots - done
+μ-loop table k slots entry₀ state₀ done₀ entry state done = slots - done
 
 read-requires : tie.Need-read-requires Inv-loop μ-loop
 read-requires c κs = search needs
@@ -21,9 +20,6 @@ fresh-requires c κs = search needs
 
 loop-holds : tie.Need-loop-holds Inv-loop μ-loop
 loop-holds c = slots-begin _ _ _ _
-
-slice-aggregate-slot : tie.Need-slice-aggregate-slot Inv-loop μ-loop
-slice-aggregate-slot c = search needs
 
 slot-requires : tie.Need-slot-requires Inv-loop μ-loop
 slot-requires c κs = search needs
@@ -36,21 +32,22 @@ loop-less c = search needs
 
 loop-again : tie.Need-loop-again Inv-loop μ-loop
 loop-again c =
-    let slot = c .before .before .slot in
-    let l = c .before .before .before .before .before in
-    slots-go-on _ _ _ _ (l .loop .inv) (c .before .before .before .before .loop-test .taken) (slot .ensures .1 .0) (slot .ensures .1 .1) (slot .kept .1 .1 .0)
+    let slot = c .before .before .before .slot in
+    let l = c .before .before .before .before .before .before in
+    slots-go-on _ _ _ _ (l .loop .inv) (c .before .before .before .before .before .loop-test .taken) (slot .ensures .1 .0) (slot .ensures .1 .1) (slot .kept .1 .1 .0)
 
 time-requires : tie.Need-time-requires Inv-loop μ-loop
 time-requires c κs = search needs
 
+same-length : tie.Need-same-length Inv-loop μ-loop
+same-length c = c .before .before .loop .inv .long
+
 returns : tie.Need-returns Inv-loop μ-loop
 returns c =
     let l = c .before .before in
-    let a = l .before .before .before .before in
     let start = l .before .fresh .ensures ∙ ap (λ read. freshOf (read .table)) (l .before .before .read .ensures) in
-    c .time .ensures
-    ∙ (slots-end _ _ _ _ (l .loop .inv) (c .before .loop-test .left)
-    ∙ ap (λ s. timeOf (slotsFrom s (a .args .k) noRecord (a .args .slots) .state)) start)
+    let left = rw start at (slots-end _ _ _ _ (l .loop .inv) (c .before .loop-test .left)) in
+    (c .time .ensures ∙ ap timeOf (left .0), left .1)
 
 pub zb-slots-spec : {M : Type 1} → statement M
 zb-slots-spec =
@@ -61,10 +58,10 @@ zb-slots-spec =
     read-requires
     fresh-requires
     loop-holds
-    slice-aggregate-slot
     slot-requires
     add-done
     loop-less
     loop-again
     time-requires
+    same-length
     returns)

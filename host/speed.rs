@@ -1,0 +1,118 @@
+//! What a slot costs: the proved code, plain Rust and hurried Rust, on the same work. The script host/speed builds it, runs it and prints
+//! the table.
+//!
+//!     bench agree                   whether all programs do the same, with the second program as judge
+//!     bench run CASE WHO NUMBER     the work of a case, so much of it, by WHO: ours, plain or hurried; for counting instructions
+//!     bench time CASE NUMBER        the same by all of them in turn, three times: how long ours and hurried take, with plain as 1
+//!     bench walks                   how many windows are walked in the first slots of many boxes: those with the most
+//!     bench files TABLE TRACE       writes the box of many slots, and a trace for it, to these files
+//!
+//! Exit status 0 if every answer is right; otherwise what is wrong is shown, and 1.
+
+#[path = "speed/agree.rs"]
+mod agree;
+#[path = "speed/boxes.rs"]
+mod boxes;
+#[path = "speed/cases.rs"]
+mod cases;
+#[path = "tables/draft.rs"]
+mod draft;
+#[path = "tables/hex.rs"]
+#[allow(dead_code)]
+mod hex;
+#[path = "speed/hurried.rs"]
+mod hurried;
+#[path = "speed/ours.rs"]
+mod ours;
+#[path = "speed/plain.rs"]
+mod plain;
+#[path = "tables/random.rs"]
+#[allow(dead_code)]
+mod random;
+#[path = "traces/schedule.rs"]
+#[allow(dead_code)]
+mod schedule;
+#[path = "tables/sound.rs"]
+#[allow(dead_code)]
+mod sound;
+#[path = "speed/walks.rs"]
+mod walks;
+#[path = "traces/written.rs"]
+mod written;
+
+use cases::Program;
+use std::time::Instant;
+
+fn run(case: &str, who: &str, number: &str) -> Result<String, String> {
+    let number = number
+        .parse()
+        .map_err(|_| format!("no number: {}", number))?;
+    match cases::case(case)?(&cases::program(who)?, number) {
+        true => Ok(String::new()),
+        false => Err(format!("{}: {} answers wrongly", case, who)),
+    }
+}
+
+fn median(mut three: [f64; 3]) -> String {
+    three.sort_unstable_by(f64::total_cmp);
+    let digits = if three[1] < 0.01 { 5 } else { 2 };
+    format!("{:.*}", digits, three[1])
+}
+
+fn time(case: &str, number: &str) -> Result<String, String> {
+    let number = number
+        .parse()
+        .map_err(|_| format!("no number: {}", number))?;
+    let case = cases::case(case)?;
+    let programs = [
+        cases::program("ours")?,
+        cases::program("plain")?,
+        cases::program("hurried")?,
+    ];
+    let turns = [(); 3].map(|_| {
+        let spent = |program: &Program| {
+            let begin = Instant::now();
+            case(program, number);
+            begin.elapsed().as_secs_f64()
+        };
+        let [ours, plain, hurried] = [
+            spent(&programs[0]),
+            spent(&programs[1]),
+            spent(&programs[2]),
+        ];
+        [ours / plain, hurried / plain]
+    });
+    Ok(format!(
+        "{} {}",
+        median(turns.map(|it| it[0])),
+        median(turns.map(|it| it[1]))
+    ))
+}
+
+fn files(table: &str, trace: &str) -> Result<String, String> {
+    let write = |name, bytes: Vec<u8>| {
+        std::fs::write(name, bytes).map_err(|why| format!("{}: {}", name, why))
+    };
+    write(table, boxes::short())?;
+    write(trace, boxes::million())?;
+    Ok(String::new())
+}
+
+fn main() {
+    let words: Vec<String> = std::env::args().skip(1).collect();
+    let outcome = match words.iter().map(String::as_str).collect::<Vec<_>>()[..] {
+        ["agree"] => agree::run(),
+        ["run", case, who, number] => run(case, who, number),
+        ["time", case, number] => time(case, number),
+        ["walks"] => walks::run(),
+        ["files", table, trace] => files(table, trace),
+        _ => Err("usage: see the head of bench.rs".to_string()),
+    };
+    match outcome {
+        Ok(words) => println!("{}", words),
+        Err(words) => {
+            println!("{}", words);
+            std::process::exit(1);
+        }
+    }
+}

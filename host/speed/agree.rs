@@ -1,0 +1,132 @@
+//! Before anything is measured: on several boxes, and some thousand slots of each, all programs do the same.
+
+use crate::cases::{program, Entry, NAMES};
+use crate::random::Random;
+use crate::written::{written, Record};
+use crate::{boxes, hurried, ours, plain, sound};
+use second::slot::{fresh, slot};
+
+const SLOTS: u32 = 2_000;
+/// In a box of long walks: the second program walks for every row, with a step for each time.
+const FEW_SLOTS: u32 = 4;
+/// So many records of the proved code are compared too. Each needs a run from the first slot on, since only the last one is there.
+const RECORDS: usize = 100;
+const RANDOM_BOXES: usize = 30;
+/// Cycles with many divisors, short and long.
+const CYCLES: [usize; 6] = [12, 60, 420, 2_520, 5_040, 27_720];
+
+/// The boxes that are measured, and random ones, full or not.
+fn all_boxes() -> Vec<(Vec<u8>, u32)> {
+    let mut random = Random::seeded(0x5107);
+    let mut tables = vec![
+        (boxes::full(), SLOTS),
+        (boxes::short(), SLOTS),
+        (boxes::longest_walks(), FEW_SLOTS),
+    ];
+    for number in 0..RANDOM_BOXES {
+        let cycle = random.pick(&CYCLES);
+        let table = match number % 2 {
+            0 => sound::any_of(&mut random, cycle),
+            _ => sound::full_of(&mut random, cycle, 0).expect("such a cycle can be filled"),
+        };
+        tables.push((table.bytes(), SLOTS));
+    }
+    tables
+}
+
+/// With all cores free, and with one less.
+pub fn run() -> Result<String, String> {
+    let tables = all_boxes();
+    let mut slots = 0;
+    for (table, most) in &tables {
+        let cores = table[5];
+        for k in [cores, cores - 1] {
+            let compared = one(table, k, *most);
+            slots += compared.map_err(|what| format!("{}: {:02X?}, k {}", what, table, k))?;
+        }
+    }
+    Ok(format!(
+        "all programs agree on {} slots of {} boxes",
+        slots,
+        tables.len()
+    ))
+}
+
+/// How many slots were compared: up to the first late one.
+fn one(table: &[u8], k: u8, most: u32) -> Result<u64, String> {
+    let mut state =
+        fresh(second::table::read(table).map_err(|number| format!("refused {}", number))?);
+    let mut plain = plain::slot::State::fresh(plain::table::read(table).unwrap_or_default());
+    let mut hurried = hurried::slots::State::fresh(table);
+    let mut records = Vec::new();
+    while state.time < most.into() && !state.stopped {
+        let [mut by_second, mut by_plain, mut by_hurried] = [[0; 10]; 3];
+        slot(&mut state, k, &mut by_second, 0);
+        plain.slot(k, &mut by_plain, 0);
+        hurried.slot(k, &mut by_hurried);
+        if [by_plain, by_hurried] != [by_second; 2] {
+            let picks = [by_second, by_plain, by_hurried];
+            return Err(format!(
+                "the records at time {} are {:?}",
+                state.time, picks
+            ));
+        }
+        records.push(by_second);
+    }
+    by_ours(table, k, &records)?;
+    times(table, k, most, state.time)?;
+    checks(table, &trace(&records), state.stopped)?;
+    Ok(state.time)
+}
+
+/// The records of the proved code are these.
+fn by_ours(table: &[u8], k: u8, records: &[Entry]) -> Result<(), String> {
+    for (number, record) in records.iter().enumerate().take(RECORDS) {
+        let mut entry = [0; 10];
+        let time = ours::slots(table, k, number as u32 + 1, &mut entry);
+        let length = 2 + usize::from(record[1]);
+        if time != number as u64 + 1 || entry[..length] != record[..length] {
+            return Err(format!(
+                "the record {} is {:?}, not {:?}",
+                number, entry, record
+            ));
+        }
+    }
+    Ok(())
+}
+
+/// All come to the same time.
+fn times(table: &[u8], k: u8, most: u32, time: u64) -> Result<(), String> {
+    for name in NAMES {
+        let got = (program(name)?.slots)(table, k, most, &mut [0; 10]);
+        if got != time {
+            return Err(format!("{} comes to time {}, not {}", name, got, time));
+        }
+    }
+    Ok(())
+}
+
+fn trace(records: &[Entry]) -> Vec<u8> {
+    let record = |entry: &Entry| {
+        let [k, c, rows @ ..] = *entry;
+        let rows = rows[..usize::from(c)].to_vec();
+        Record { k, c, rows }
+    };
+    written(records.iter().map(record).collect()).bytes()
+}
+
+/// All checks take the table, and the trace unless a row is late at its end.
+fn checks(table: &[u8], trace: &[u8], late: bool) -> Result<(), String> {
+    let right = if late { 45 } else { 0 };
+    for name in NAMES {
+        let program = program(name)?;
+        let got = (
+            (program.table_check)(table),
+            (program.trace_check)(table, trace),
+        );
+        if got != (0, right) {
+            return Err(format!("{} answers {:?}, not 0 and {}", name, got, right));
+        }
+    }
+    Ok(())
+}

@@ -1,0 +1,78 @@
+//! The boxes that are measured, and the trace of a million slots.
+
+use crate::draft::{draft, row, Row};
+use crate::hex::bytes_of;
+use crate::schedule::record;
+use crate::written::written;
+
+/// A full box: 8 cores, and 32 rows whose sum is exactly 8·L. 18 rows are plain and 14 early release, 6 heavy and 26 light; periods 7 to
+/// 5,040, some fractions not reduced, phases 0 to 459. First L, the boards and n, then the rows: tank, e, p, f, kind.
+const FULL: &str = "01 50FF0A00 08 0001020308090A0B 20\
+    | 6400 EC04 B013 0000 00 | 6500 0C00 3C00 0000 00 | 6700 0400 5B00 A101 00 | 6800 0300 1400 2401 00\
+    | 6A00 1405 B013 1801 00 | 6B00 0300 0C00 0300 01 | 6D00 0100 0C00 0300 01 | 6F00 1400 F000 0000 00\
+    | 7000 0400 0700 0400 01 | 7200 0800 2100 1C00 00 | 7300 0B00 1400 0000 01 | 7400 0600 2100 0000 00\
+    | 7600 0400 F000 0100 01 | 7D00 BC02 E903 0000 01 | 8400 2500 F000 0000 00 | 8600 1200 4200 9100 01\
+    | 8800 9700 E903 0300 01 | 8900 3200 E903 0300 00 | 8A00 0500 3C00 0000 00 | 9100 4200 5B00 0300 00\
+    | 9200 6400 E903 CB01 01 | 9300 0800 5B00 3700 01 | 9A00 0200 1400 0300 00 | 9B00 0100 0700 0000 00\
+    | 9C00 8200 8E03 0C00 00 | 9E00 0100 0700 0000 01 | A000 0B00 4D00 0000 00 | A700 D804 B013 0300 01\
+    | AE00 0A00 2100 F600 01 | AF00 0700 0C00 0000 01 | B000 D804 B013 9001 00 | B100 B300 F000 0000 00";
+
+pub fn full() -> Vec<u8> {
+    bytes_of(FULL).expect("these are bytes")
+}
+
+/// Rows of these weights (e, p), plain and with phase 0, on 8 cores.
+pub fn plain_rows(cycle: u32, weights: impl Iterator<Item = (u16, u16)>) -> Vec<u8> {
+    let rows: Vec<Row> = weights
+        .zip(0..)
+        .map(|((e, p), tank)| row(tank, e, p))
+        .collect();
+    draft(cycle, &BOARDS, &rows).bytes()
+}
+
+/// The longest walks that a table can ask for in one slot: see worst.rs. A full box.
+pub fn longest_walks() -> Vec<u8> {
+    let weights = [(65_534, 65_535), (1, 65_535)];
+    plain_rows(65_535, weights.into_iter().flat_map(|it| [it; 8]))
+}
+
+const BOARDS: [u8; 8] = [0, 1, 2, 3, 4, 5, 6, 7];
+
+pub const TRACE_SLOTS: usize = 1_000_000;
+const CYCLE: usize = 420;
+
+/// A period and four costs that make it whole: a core each, 8 in all, from light rows to heavy ones.
+const CORES: [(u16, [u16; 4]); 8] = [
+    (4, [1, 1, 1, 1]),
+    (6, [3, 1, 1, 1]),
+    (10, [6, 2, 1, 1]),
+    (12, [7, 3, 1, 1]),
+    (60, [31, 17, 11, 1]),
+    (84, [43, 25, 13, 3]),
+    (105, [60, 30, 10, 5]),
+    (420, [211, 113, 71, 25]),
+];
+
+/// A full box of a short cycle: 32 rows, plain and early release in turn.
+pub fn short() -> Vec<u8> {
+    let weights = CORES
+        .iter()
+        .flat_map(|(p, costs)| costs.iter().map(move |e| (*e, *p)));
+    let rows: Vec<Row> = weights
+        .zip(0..)
+        .map(|((e, p), tank)| Row {
+            kind: (tank % 2) as u8,
+            ..row(tank, e, p)
+        })
+        .collect();
+    draft(CYCLE as u32, &BOARDS, &rows).bytes()
+}
+
+/// The dispatcher's records of one cycle of the short box, again and again. In a full box every row has its whole share at the
+/// end of a cycle, neither more nor less, so that the next cycle is as the first.
+pub fn million() -> Vec<u8> {
+    let table = second::table::read(&short()).expect("a full box is taken");
+    let mut state = second::slot::fresh(table);
+    let cycle: Vec<_> = (0..CYCLE).map(|_| record(&mut state, 8).0).collect();
+    written(cycle.into_iter().cycle().take(TRACE_SLOTS).collect()).bytes()
+}

@@ -1,0 +1,67 @@
+//! The cases: what is measured, for each of the three programs.
+
+use crate::{boxes, hurried, ours, plain};
+
+/// Room for the record of 8 rows, one for each core.
+pub type Entry = [u8; 10];
+
+/// One of the programs that are measured: its calls.
+pub struct Program {
+    pub slots: fn(&[u8], u8, u32, &mut Entry) -> u64,
+    pub trace_check: fn(&[u8], &[u8]) -> u8,
+    pub table_check: fn(&[u8]) -> u8,
+}
+
+pub const NAMES: [&str; 3] = ["ours", "plain", "hurried"];
+
+pub fn program(name: &str) -> Result<Program, String> {
+    match name {
+        "ours" => Ok(Program {
+            slots: ours::slots,
+            trace_check: ours::trace_check,
+            table_check: ours::table_check,
+        }),
+        "plain" => Ok(Program {
+            slots: plain::slots,
+            trace_check: plain::trace_check,
+            table_check: plain::table_check,
+        }),
+        "hurried" => Ok(Program {
+            slots: hurried::slots,
+            trace_check: hurried::trace_check,
+            table_check: hurried::table_check,
+        }),
+        _ => Err(format!("no program is called {}", name)),
+    }
+}
+
+/// A case: does its work for a program and a number, and answers whether every answer was right.
+pub type Case = Box<dyn Fn(&Program, u32) -> bool>;
+
+/// The number is that of slots, of checks of the trace, of tables read, or of calls for a fresh state and its first slot; `fresh` is the
+/// last one without the slot, to be taken off.
+pub fn case(name: &str) -> Result<Case, String> {
+    let full = boxes::full();
+    let walks = boxes::longest_walks();
+    match name {
+        "slot" => Ok(Box::new(move |program, number| {
+            (program.slots)(&full, 8, number, &mut [0; 10]) == number.into()
+        })),
+        "trace" => {
+            let (short, trace) = (boxes::short(), boxes::million());
+            Ok(Box::new(move |program, number| {
+                (0..number).all(|_| (program.trace_check)(&short, &trace) == 0)
+            }))
+        }
+        "table" => Ok(Box::new(move |program, number| {
+            (0..number).all(|_| (program.table_check)(&full) == 0)
+        })),
+        "worst" => Ok(Box::new(move |program, number| {
+            (0..number).all(|_| (program.slots)(&walks, 7, 1, &mut [0; 10]) == 1)
+        })),
+        "fresh" => Ok(Box::new(move |program, number| {
+            (0..number).all(|_| (program.slots)(&walks, 7, 0, &mut [0; 10]) == 0)
+        })),
+        _ => Err(format!("no case is called {}", name)),
+    }
+}

@@ -1,0 +1,44 @@
+//! Plain Rust that does what the proved code does, on every input, and is measured beside it: straightforward code, with the tests that 01
+//! asks for and no tricks. Nothing is kept between slots but the state.
+
+#[path = "plain/check.rs"]
+pub mod check;
+#[path = "plain/picks.rs"]
+mod picks;
+#[path = "plain/slot.rs"]
+pub mod slot;
+#[path = "plain/table.rs"]
+pub mod table;
+#[path = "plain/windows.rs"]
+mod windows;
+
+use crate::cases::Entry;
+use slot::State;
+
+/// The number for the bytes of a table, as `zb_table_check` gives it.
+#[inline(never)]
+pub fn table_check(bytes: &[u8]) -> u8 {
+    match table::read(bytes) {
+        Ok(_) => 0,
+        Err(number) => number,
+    }
+}
+
+/// The number for a table and a trace, as `zb_trace_check` gives it.
+#[inline(never)]
+pub fn trace_check(table: &[u8], trace: &[u8]) -> u8 {
+    match check::check(table, trace) {
+        Ok(()) => 0,
+        Err(number) => number,
+    }
+}
+
+/// So many slots with k cores free, and the time at the end, as `zb_slots` gives it.
+#[inline(never)]
+pub fn slots(bytes: &[u8], k: u8, slots: u32, entry: &mut Entry) -> u64 {
+    let mut state = State::fresh(table::read(bytes).unwrap_or_default());
+    for _ in 0..slots {
+        state.slot(k, entry, 0);
+    }
+    state.time
+}

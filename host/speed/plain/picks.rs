@@ -1,0 +1,60 @@
+//! Who is picked in a slot.
+
+use super::slot::State;
+
+/// The rows that are picked, rising.
+pub struct Picks {
+    rows: [u8; 32],
+    count: usize,
+}
+
+impl Picks {
+    pub fn rows(&self) -> &[u8] {
+        &self.rows[..self.count]
+    }
+}
+
+/// A ready row, and what decides first: its deadline, then b = 1 before b = 0. Both are in one number, the class.
+type Candidate = (u64, u8);
+
+pub fn picks(state: &State, k: u8) -> Picks {
+    let mut all = [(0, 0); 32];
+    let mut count = 0;
+    for (i, row) in state.table.named().iter().enumerate() {
+        let given = state.quanta[i];
+        if row.is_ready(given, state.time) {
+            let (deadline, bit) = row.due(given + 1);
+            all[count] = (2 * deadline + (1 - bit), i as u8);
+            count += 1;
+        }
+    }
+    let ready = &mut all[..count];
+    ready.sort_unstable();
+    let k = usize::from(k).min(count);
+    order_cut_class(state, ready, k);
+    let mut picks = Picks {
+        rows: [0; 32],
+        count: k,
+    };
+    for (row, candidate) in picks.rows.iter_mut().zip(&ready[..k]) {
+        *row = candidate.1;
+    }
+    picks.rows[..k].sort_unstable();
+    picks
+}
+
+/// Group deadlines are needed only in a class of b = 1 that is picked in part.
+fn order_cut_class(state: &State, ready: &mut [Candidate], k: usize) {
+    if k == 0 || k == ready.len() || ready[k - 1].0 != ready[k].0 || ready[k].0 % 2 == 1 {
+        return;
+    }
+    let class = ready[k].0;
+    let group = |candidate: &Candidate| {
+        let row = usize::from(candidate.1);
+        state.table.rows[row].group_deadline(state.quanta[row] + 1)
+    };
+    let first = ready.iter().position(|it| it.0 == class).unwrap_or(0);
+    let behind = ready.iter().rposition(|it| it.0 == class).unwrap_or(0) + 1;
+    // the largest first; among equals the order of the rows is kept
+    ready[first..behind].sort_by_cached_key(|it| std::cmp::Reverse(group(it)));
+}
