@@ -1,4 +1,4 @@
-//! What a slot costs: the proved code, plain Rust and hurried Rust, on the same work. The script host/speed builds it, runs it and prints
+//! What a slot costs: the proved code, plain Rust and hurried Rust, on the same work. The script host/bench builds it, runs it and prints
 //! the table.
 //!
 //!     bench agree                   whether all programs do the same, with the second program as judge
@@ -106,7 +106,7 @@ fn main() {
         ["time", case, number] => time(case, number),
         ["walks"] => walks::run(),
         ["files", table, trace] => files(table, trace),
-        _ => Err("usage: see the head of bench.rs".to_string()),
+        _ => Err("usage: see the head of speed.rs".to_string()),
     };
     match outcome {
         Ok(words) => println!("{}", words),

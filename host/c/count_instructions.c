@@ -2,7 +2,7 @@
  * count_instructions
  *
  * A plugin for qemu-x86_64 that counts the x86-64 instructions that a program executes: the same number in every run, whatever else the
- * machine does. It is built for the machine itself, as host/measure does, and writes the line 'instructions NUMBER' when the program
+ * machine does. It is built for the machine itself, as host/bench does, and writes the line 'instructions NUMBER' when the program
  * ends. The declarations are those of qemu's plugin interface, version 1, which Debian has no header for.
  */
 #include <inttypes.h>

@@ -109,7 +109,7 @@ fn cut_at(keys: [u64; 32], n: usize, k: u8) -> Cut
     let mut past: u64 = 0;
     let mut left = k;
     while 0 < left {
-        let class = class_from(keys, n, past);
+        let class = class_from(&keys, n, past);
         if class.key == NOT_READY {
             return Cut {
                 class: NOT_READY,
@@ -132,9 +132,9 @@ fn cut_at(keys: [u64; 32], n: usize, k: u8) -> Cut
 }
 
 // The first class among the keys from `past` on.
-fn class_from(keys: [u64; 32], n: usize, past: u64) -> Class
+fn class_from(keys: &[u64; 32], n: usize, past: u64) -> Class
     requires { ⌜ (n ≤ 32) × (past ≤ most) ⌝ }
-    ensures { λ r. ⌜ NextClass (keyIn keys) past n (r .key) (r .rows) ⌝ }
+    ensures { λ r. ⌜ NextClass (keyIn (now (keys .entry))) past n (r .key) (r .rows) ⌝ }
 {
     let mut class = Class {
         key: NOT_READY,
@@ -142,7 +142,8 @@ fn class_from(keys: [u64; 32], n: usize, past: u64) -> Class
     };
     let mut i: usize = 0;
     while i < n {
-        class = with_key(class, keys[i], past);
+        let key = keys[i];
+        class = with_key(class, key, past);
         i += 1;
     }
     class
@@ -220,15 +221,15 @@ fn marks(keys: [u64; 32], groups: [u64; 32], n: usize, cut: Cut) -> [bool; 32]
     let mut marks = [false; 32];
     let mut i: usize = 0;
     while i < n {
-        marks[i] = is_picked(keys, groups, n, cut, i);
+        marks[i] = is_picked(&keys, &groups, n, cut, i);
         i += 1;
     }
     marks
 }
 
-fn is_picked(keys: [u64; 32], groups: [u64; 32], n: usize, cut: Cut, i: usize) -> bool
+fn is_picked(keys: &[u64; 32], groups: &[u64; 32], n: usize, cut: Cut, i: usize) -> bool
     requires { ⌜ (n ≤ 32) × (i < n) ⌝ }
-    ensures { λ r. ⌜ r ≡ inCut (keyIn keys) (groupIn groups) n (cut .class) (cut .left) i ⌝ }
+    ensures { λ r. ⌜ r ≡ inCut (keyIn (now (keys .entry))) (groupIn (now (groups .entry))) n (cut .class) (cut .left) i ⌝ }
 {
     let key = keys[i];
     if key < cut.class {
@@ -241,30 +242,29 @@ fn is_picked(keys: [u64; 32], groups: [u64; 32], n: usize, cut: Cut, i: usize) -
 }
 
 // How many rows of its class go before row i.
-fn ahead(keys: [u64; 32], groups: [u64; 32], n: usize, i: usize) -> u8
+fn ahead(keys: &[u64; 32], groups: &[u64; 32], n: usize, i: usize) -> u8
     requires { ⌜ (n ≤ 32) × (i < n) ⌝ }
-    ensures { λ r. ⌜ r ≡ howMany (λ j. tied (keyIn keys) (groupIn groups) j i) n ⌝ }
+    ensures { λ r. ⌜ r ≡ howMany (λ j. tied (keyIn (now (keys .entry))) (groupIn (now (groups .entry))) j i) n ⌝ }
 {
-    let own = standing_of(keys, groups, i);
+    let own_key = keys[i];
+    let own_group = groups[i];
+    let own = Standing {
+        key: own_key,
+        group: own_group,
+        row: i,
+    };
     let mut count: u8 = 0;
     let mut j: usize = 0;
     while j < n {
-        let rival = standing_of(keys, groups, j);
+        let key = keys[j];
+        let group = groups[j];
+        let rival = Standing { key, group, row: j };
         if goes_first(rival, own) {
             count += 1;
         }
         j += 1;
     }
     count
-}
-
-fn standing_of(keys: [u64; 32], groups: [u64; 32], row: usize) -> Standing
-    requires { ⌜ row < 32 ⌝ }
-    ensures { λ r. ⌜ r ≡ record { key = keyIn keys row; group = groupIn groups row; row = row } ⌝ }
-{
-    let key = keys[row];
-    let group = groups[row];
-    Standing { key, group, row }
 }
 
 // In a class the larger group deadline goes first, then the lower row.

@@ -55,7 +55,7 @@ cast-n : tie.Need-cast-n
 cast-n c = search needs
 
 fault-requires-2 : tie.Need-fault-requires-2
-fault-requires-2 c κs = search needs
+fault-requires-2 c κs = c .before .if4 .left
 
 returns-5 : tie.Need-returns-5
 returns-5 c =
@@ -65,7 +65,7 @@ returns-5 c =
     rows-are-fault _ (cycle-passed (cores .before .before)) (cores-passed cores) (boards-passed boards) (count .if4 .left) (c .before .fault2 .ensures) (c .if5 .taken)
 
 is-overfull-requires : tie.Need-is-overfull-requires
-is-overfull-requires c κs = search needs
+is-overfull-requires c κs = c .before .before .before .if4 .left
 
 returns-6 : tie.Need-returns-6
 returns-6 c =

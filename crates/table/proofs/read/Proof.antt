@@ -75,13 +75,13 @@ returns-4 c =
     c .refused4 .ensures ∙ count-refused _ (head first) (boards .before .before .word .ensures) (boards .before .byte .ensures) (boards .read .ensures) (second .if2 .left) (third .if3 .left) (count .byte2 .ensures) (c .before .if4 .taken)
 
 cast-n : tie.Need-cast-n
-cast-n c = search needs
+cast-n c = omega (arith, c .if4 .left)
 
 add-read : tie.Need-add-read
-add-read c = search needs
+add-read c = omega (arith, c .before .before .before .before .before .before .byte .ok)
 
 read-requires-2 : tie.Need-read-requires-2
-read-requires-2 c κs = search needs
+read-requires-2 c κs = c .if4 .left
 
 refused-requires-5 : tie.Need-refused-requires-5
 refused-requires-5 c κs = search needs
@@ -98,13 +98,13 @@ returns-5 c =
     c .refused5 .ensures ∙ rows-refused _ (head first) (boards .before .before .word .ensures) (boards .before .byte .ensures) (boards .read .ensures) (second .if2 .left) (third .if3 .left) (count .byte2 .ensures) (fourth .if4 .left) (rows .read2 .ensures) (c .before .if5 .taken)
 
 add-if6 : tie.Need-add-if6
-add-if6 c = search needs
+add-if6 c = omega (arith, c .before .before .before .before .before .before .before .before .before .byte .ok)
 
 mul-if6 : tie.Need-mul-if6
-mul-if6 c = search needs
+mul-if6 c = omega (arith, c .before .before .before .if4 .left)
 
 add-if6-2 : tie.Need-add-if6-2
-add-if6-2 c = search needs
+add-if6-2 c = omega (arith, c .before .before .before .if4 .left, c .before .before .before .before .before .before .before .before .before .byte .ok)
 
 refused-requires-6 : tie.Need-refused-requires-6
 refused-requires-6 c κs = search needs
@@ -122,7 +122,7 @@ returns-6 c =
     c .refused6 .ensures ∙ after-refused _ (head first) (boards .before .before .word .ensures) (boards .before .byte .ensures) (boards .read .ensures) (second .if2 .left) (third .if3 .left) (count .byte2 .ensures) (fourth .if4 .left) (rows .read2 .ensures) (fifth .if5 .left) (c .before .if6 .taken)
 
 is-overfull-requires : tie.Need-is-overfull-requires
-is-overfull-requires c κs = search needs
+is-overfull-requires c κs = c .before .before .before .before .before .if4 .left
 
 refused-requires-7 : tie.Need-refused-requires-7
 refused-requires-7 c κs = search needs

@@ -1,18 +1,21 @@
-use mathlib.Core.Path.{_≡_, refl, sym, _∙_}
-use mathlib.Core.List.{_++_}
+use mathlib.Core.Path.{_≡_, refl, sym, ap, _∙_}
+use mathlib.Core.List.{List, _++_}
 use mathlib.Core.Bool.{false}
-use Prim.Native.Nat.{_<_}
+use Prim.Native.Nat.{ℕ, _+_, _<_}
 use native.Mathlib.Omega.{arith}
 use lib.ListN.{take, length-map}
 use Rattle.facts.proofs.Lent.{lent-from, comes-back}
 use Rattle.counts.specs.Limits.{timeLimit}
 use Rattle.trace.specs.declared.Stored.the-variants as stored
+use Rattle.trace.specs.Records.{names}
+use Rattle.dispatcher.specs.declared.State.{State}
+use Rattle.dispatcher.specs.Answer.{doneSaid}
 use Rattle.dispatcher.specs.declared.Answer.the-variants.{Broken, Stopped, AtLimit, TooManyCores}
 use Rattle.dispatcher.specs.declared.Answer.the-variants as answer
 use Rattle.dispatcher.specs.State.{timeOf}
 use Rattle.dispatcher.specs.Broken.{broken}
 use Rattle.trace.specs.Record.{withRecord}
-use Rattle.dispatcher.specs.Slot.{recordIn, refusal}
+use Rattle.dispatcher.specs.Slot.{recordIn, refusal, ran, judged, lateIn}
 use Rattle.dispatcher.specs.Usable.{Usable}
 use Rattle.dispatcher.proofs.Ran.{marks-are-rows}
 use Rattle.dispatcher.proofs.Refused.{refused-gives, done-gives, first-30, first-31, first-32, first-33, past-end, no-room, has-room}
@@ -103,16 +106,16 @@ write-requires : tie.Need-write-requires
 write-requires c κs = search needs
 
 enum-told : tie.Need-enum-told
-enum-told c = search needs
+enum-told c = c .match .keys1
 
 enum-told-2 : tie.Need-enum-told-2
-enum-told-2 c = search needs
+enum-told-2 c = c .match .keys2
 
 refused-requires-6 : tie.Need-refused-requires-6
 refused-requires-6 c κs = search needs
 
 same-length : tie.Need-same-length
-same-length c = search needs
+same-length c = c .before .before .before .before .buffer .given .1
 
 -- what was written, as the record in the whole buffer
 not-written : (c : tie.After-slice-known2) → c .before .before .write .result ≡ stored.NoRoom →
@@ -143,14 +146,18 @@ one-on-requires c κs =
     record { usable = usable (c .before .before .before .before .before .before .before .before .before .before .before); only-rows = marks-are-rows (c .before .before .before .before .before .before .before .before .before .before .before .before .before .before .before .before .before .args .self) (c .before .before .before .before .before .before .before .before .before .before .before .before .before .before .before .before .before .args .k) (c .before .before .before .before .before .before .picks .result) (c .before .before .before .before .before .before .picks .ensures); early = early (c .before .before .before .before .before .before .before .before .before .before .before) }
 
 same-length-2 : tie.Need-same-length-2
-same-length-2 c = search needs
+same-length-2 c = c .before .before .before .before .buffer .given .1
+
+-- what is said of a slot goes by the rows that ran in it
+said-with : (s : State) {l m : List ℕ} → l ≡ m → doneSaid (lateIn (ran s (names l)) (timeOf s + 1)) (timeOf s + 1) ≡ doneSaid (lateIn (ran s (names m)) (timeOf s + 1)) (timeOf s + 1)
+said-with s e = ap (λ rows. doneSaid (lateIn (ran s (names rows)) (timeOf s + 1)) (timeOf s + 1)) e
 
 returns-7 : tie.Need-returns-7
 returns-7 c =
     let a = c .before .before .before .before .before .before .before .before .before .before .before .before .before .before .before .before .before .before in
     let law = is-written (c .before .before .before) (c .before .enum-told .given .1) in
-    let state = rw (c .before .before .before .before .before .before .before .picks .ensures) at (c .one-on .ensures) in
-    done-gives (a .args .self) (a .args .k) (a .args .buffer .now) (a .args .place) (law .0) (c .one-on .result) (state .0) (state .1) (comes-back (a .args .buffer .now) (a .args .place) (c .before .before .before .before .before .write .last .0) ∙ law .1)
+    let picked = c .before .before .before .before .before .before .before .picks .ensures in
+    done-gives (a .args .self) (a .args .k) (a .args .buffer .now) (a .args .place) (law .0) (c .one-on .result) (c .one-on .ensures .0 ∙ said-with (a .args .self) picked) (c .one-on .ensures .1 ∙ ap (λ rows. judged (ran (a .args .self) (names rows))) picked) (comes-back (a .args .buffer .now) (a .args .place) (c .before .before .before .before .before .write .last .0) ∙ law .1)
 
 pub slot-spec : {M : Type 1} → statement M
 slot-spec =

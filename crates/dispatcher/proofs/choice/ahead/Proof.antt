@@ -9,27 +9,45 @@ use Rattle.dispatcher.proofs.choice.ahead.Statement.{statement}
 use Rattle.dispatcher.proofs.choice.ahead.Tie as tie
 
 abbrev Inv-loop : tie.InvT-loop
-Inv-loop keys groups n i own count₀ j₀ count j = Counted (λ j. tied (keyIn keys) (groupIn groups) j i) n count j
+Inv-loop keys groups n i own-key own-group own count₀ j₀ count j = Counted (λ j. tied (keyIn keys) (groupIn groups) j i) n count j
 
 abbrev μ-loop : tie.MeasureT-loop
-μ-loop keys groups n i own count₀ j₀ count j = n - j
+μ-loop keys groups n i own-key own-group own count₀ j₀ count j = n - j
 
-standing-of-requires : tie.Need-standing-of-requires Inv-loop μ-loop
-standing-of-requires c κs = search needs
+mul-own-key : tie.Need-mul-own-key Inv-loop μ-loop
+mul-own-key c = search needs
+
+element-copy-out-own-key : tie.Need-element-copy-out-own-key Inv-loop μ-loop
+element-copy-out-own-key c = search needs
+
+mul-own-group : tie.Need-mul-own-group Inv-loop μ-loop
+mul-own-group c = search needs
+
+element-copy-out-own-group : tie.Need-element-copy-out-own-group Inv-loop μ-loop
+element-copy-out-own-group c = search needs
 
 loop-holds : tie.Need-loop-holds Inv-loop μ-loop
 loop-holds c = counting-begins _ _
 
-standing-of-requires-2 : tie.Need-standing-of-requires-2 Inv-loop μ-loop
-standing-of-requires-2 c κs = search needs
+mul-key : tie.Need-mul-key Inv-loop μ-loop
+mul-key c = search needs
+
+element-copy-out-key : tie.Need-element-copy-out-key Inv-loop μ-loop
+element-copy-out-key c = search needs
+
+mul-group : tie.Need-mul-group Inv-loop μ-loop
+mul-group c = search needs
+
+element-copy-out-group : tie.Need-element-copy-out-group Inv-loop μ-loop
+element-copy-out-group c = search needs
 
 goes-first-requires : tie.Need-goes-first-requires Inv-loop μ-loop
 goes-first-requires c κs = search needs
 
 add-count : tie.Need-add-count Inv-loop μ-loop
 add-count c =
-    let few = c .before .before .before .before .loop .inv .few in
-    omega (arith, c .before .before .before .before .before .before .pre .0, c .before .before .before .loop-test .taken)
+    let few = c .before .before .before .before .before .loop .inv .few in
+    omega (arith, c .before .before .before .before .before .before .before .before .pre .0, c .before .before .before .before .loop-test .taken)
 
 add-j : tie.Need-add-j Inv-loop μ-loop
 add-j c = search needs
@@ -39,9 +57,9 @@ loop-less c = search needs
 
 loop-again : tie.Need-loop-again Inv-loop μ-loop
 loop-again c =
-    let a = c .before .before .before .before in
-    let l = c .before .before .before .loop-test .taken in
-    let met = rw (c .before .before .standing-of2 .ensures, a .before .standing-of .ensures) at (c .before .goes-first .ensures) in
+    let a = c .before .before .before .before .before in
+    let l = c .before .before .before .before .loop-test .taken in
+    let met = c .before .goes-first .ensures in
     ⊎-elim
     (λ w. rw (w .1) (counts-passed _ _ (a .loop .inv) l (sym met ∙ w .0 .taken)))
     (λ w. rw (w .1) (skips-failed _ _ (a .loop .inv) l (sym met ∙ w .0 .left)))
@@ -56,9 +74,15 @@ ahead-spec =
     (tie.spec
     Inv-loop
     μ-loop
-    standing-of-requires
+    mul-own-key
+    element-copy-out-own-key
+    mul-own-group
+    element-copy-out-own-group
     loop-holds
-    standing-of-requires-2
+    mul-key
+    element-copy-out-key
+    mul-group
+    element-copy-out-group
     goes-first-requires
     add-count
     add-j

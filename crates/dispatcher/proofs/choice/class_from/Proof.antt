@@ -8,24 +8,24 @@ use Rattle.dispatcher.proofs.choice.class_from.Statement.{statement}
 use Rattle.dispatcher.proofs.choice.class_from.Tie as tie
 
 abbrev Inv-loop : tie.InvT-loop
-Inv-loop n past keys class₀ i₀ class i = NextClass (keyIn keys) past i (class .key) (class .rows) × (i ≤ n)
+Inv-loop keys n past class₀ i₀ class i = NextClass (keyIn keys) past i (class .key) (class .rows) × (i ≤ n)
 
 abbrev μ-loop : tie.MeasureT-loop
-μ-loop n past keys class₀ i₀ class i = n - i
+μ-loop keys n past class₀ i₀ class i = n - i
 
 loop-holds : tie.Need-loop-holds Inv-loop μ-loop
 loop-holds c = (no-class-yet _ _ (c .pre .1), omega arith)
 
-mul-with-key : tie.Need-mul-with-key Inv-loop μ-loop
-mul-with-key c = search needs
+mul-key : tie.Need-mul-key Inv-loop μ-loop
+mul-key c = search needs
 
-array-read-with-key : tie.Need-array-read-with-key Inv-loop μ-loop
-array-read-with-key c = search needs
+element-copy-out-key : tie.Need-element-copy-out-key Inv-loop μ-loop
+element-copy-out-key c = search needs
 
 with-key-requires : tie.Need-with-key-requires Inv-loop μ-loop
 with-key-requires c κs =
-    let few = c .before .loop .inv .0 .few in
-    omega arith
+    let few = c .before .before .loop .inv .0 .few in
+    omega (arith, c .before .loop-test .taken, c .before .before .before .pre .0)
 
 add-i : tie.Need-add-i Inv-loop μ-loop
 add-i c = search needs
@@ -35,8 +35,8 @@ loop-less c = search needs
 
 loop-again : tie.Need-loop-again Inv-loop μ-loop
 loop-again c =
-    let a = c .before .before in
-    rw (c .with-key .ensures .0, c .with-key .ensures .1) (one-key-more _ _ (a .loop .inv .0), omega (arith, c .before .loop-test .taken))
+    let a = c .before .before .before in
+    rw (c .with-key .ensures .0, c .with-key .ensures .1) (one-key-more _ _ (a .loop .inv .0), omega (arith, c .before .before .loop-test .taken))
 
 returns : tie.Need-returns Inv-loop μ-loop
 returns c =
@@ -51,8 +51,8 @@ class-from-spec =
     Inv-loop
     μ-loop
     loop-holds
-    mul-with-key
-    array-read-with-key
+    mul-key
+    element-copy-out-key
     with-key-requires
     add-i
     loop-less

@@ -6,8 +6,8 @@ use Rattle.dispatcher.proofs.choice.is_picked.Tie as tie
 mul-key : tie.Need-mul-key
 mul-key c = search needs
 
-array-read-key : tie.Need-array-read-key
-array-read-key c = search needs
+element-copy-out-key : tie.Need-element-copy-out-key
+element-copy-out-key c = search needs
 
 returns : tie.Need-returns
 returns c = inside _ _ _ _ _ _ (c .if1 .taken)
@@ -24,4 +24,4 @@ returns-3 c =
 
 pub is-picked-spec : {M : Type 1} → statement M
 is-picked-spec =
-    tie.close (tie.spec mul-key array-read-key returns returns-2 ahead-requires returns-3)
+    tie.close (tie.spec mul-key element-copy-out-key returns returns-2 ahead-requires returns-3)

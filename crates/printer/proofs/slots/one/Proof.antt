@@ -49,10 +49,10 @@ number-requires : tie.Need-number-requires
 number-requires c κs = search needs
 
 refused-requires : tie.Need-refused-requires
-refused-requires c κs = search needs
+refused-requires c κs = omega (arith, c .before .before .before .before .before .before .before .before .pre .0)
 
 same-length : tie.Need-same-length
-same-length c = search needs
+same-length c = c .before .out .given
 
 returns : tie.Need-returns
 returns c =
@@ -69,7 +69,7 @@ slot-requires-2 c κs =
     (omega (arith, a .pre .0), (omega (arith, c .time .ensures, a .pre .1), record-is-readable (a .args .state) (a .args .k) (is-done e) (bytes-are e) (bytes-fit e) (places a)))
 
 same-length-2 : tie.Need-same-length-2
-same-length-2 c = search needs
+same-length-2 c = c .before .before .out2 .given
 
 returns-2 : tie.Need-returns-2
 returns-2 c =
@@ -97,10 +97,10 @@ time-requires-2 : tie.Need-time-requires-2
 time-requires-2 c κs = search needs
 
 late-requires : tie.Need-late-requires
-late-requires c κs = search needs
+late-requires c κs = omega (arith, c .before .before .before .before .before .before .before .slot2 .ensures)
 
 same-length-3 : tie.Need-same-length-3
-same-length-3 c = search needs
+same-length-3 c = c .before .out3 .given ∙ c .before .before .before .before .before .before .before .before .before .out2 .given
 
 returns-3 : tie.Need-returns-3
 returns-3 c =

@@ -28,7 +28,7 @@ add-at c = search needs
 returns : tie.Need-returns Inv-loop μ-loop
 returns c =
     let at = c .before .before in
-    reading-stops _ _ _ _ _ _ _ _ {place = 6 + at .loop .i} (at .loop .inv) (omega arith) (omega arith)
+    reading-stops _ _ _ _ _ _ _ _ {place = 6 + at .loop .i} (at .loop .inv) (c .before .loop-test .taken) (omega arith)
     (sym (board-cut (at .before .before .args .bytes .now) (at .loop .least) (6 + at .loop .i) (c .if1 .taken))) (λ z. omega arith)
 
 byte-requires : tie.Need-byte-requires Inv-loop μ-loop
@@ -43,7 +43,7 @@ returns-2 c =
     let at = there .before .before in
     let number = c .before .wide .ensures .0 ∙ c .before .before .byte .ensures in
     let low : byte (at .before .before .args .bytes .now) (6 + at .loop .i) < at .loop .least = omega (arith, number, c .if2 .taken) in
-    reading-stops _ _ _ _ _ _ _ _ {place = 6 + at .loop .i} (at .loop .inv) (omega arith) (omega arith)
+    reading-stops _ _ _ _ _ _ _ _ {place = 6 + at .loop .i} (at .loop .inv) (there .before .loop-test .taken) (omega arith)
     (sym (board-there (at .before .before .args .bytes .now) (at .loop .least) (6 + at .loop .i) (there .if1 .left) ∙ board-too-low _ _ low)) (λ z. omega arith)
 
 array-write-boards : tie.Need-array-write-boards Inv-loop μ-loop
@@ -53,10 +53,10 @@ add-least : tie.Need-add-least Inv-loop μ-loop
 add-least c = search needs
 
 add-i : tie.Need-add-i Inv-loop μ-loop
-add-i c = search needs
+add-i c = omega (arith, c .before .before .before .before .loop-test .taken, c .before .before .before .before .before .before .before .pre)
 
 loop-less : tie.Need-loop-less Inv-loop μ-loop
-loop-less c = search needs
+loop-less c = omega (arith, c .before .before .before .before .loop-test .taken)
 
 loop-again : tie.Need-loop-again Inv-loop μ-loop
 loop-again c =
@@ -65,11 +65,11 @@ loop-again c =
     let board = c .before .before .byte .ensures in
     let number = c .before .wide .ensures .0 ∙ board in
     let high : at .loop .least ≤ byte (at .before .before .args .bytes .now) (6 + at .loop .i) = omega (arith, number, c .if2 .left) in
-    reading-goes-on _ _ _ _ _ _ _ _ {place = 6 + at .loop .i} (at .loop .inv) (omega arith) (omega arith) (omega (arith, at .before .before .pre))
+    reading-goes-on _ _ _ _ _ _ _ _ {place = 6 + at .loop .i} (at .loop .inv) (there .before .loop-test .taken) (omega arith) (omega (arith, there .before .loop-test .taken, at .before .before .pre))
     (board-there (at .before .before .args .bytes .now) (at .loop .least) (6 + at .loop .i) (there .if1 .left) ∙ board-rises _ _ high) board (ap boardAbove number)
 
 returns-3 : tie.Need-returns-3 Inv-loop μ-loop
-returns-3 c = reading-ends _ _ _ _ _ _ _ _ (c .before .loop .inv) (omega arith)
+returns-3 c = reading-ends _ _ _ _ _ _ _ _ (c .before .loop .inv) (c .loop-test .left)
 
 pub read-spec : {M : Type 1} → statement M
 read-spec =

@@ -1,32 +1,72 @@
-use mathlib.Core.Path.{sym, ap, _∙_}
-use native.Mathlib.Omega.{arith}
+use mathlib.Core.Path.{_≡_, sym, ap, _∙_}
+use mathlib.Core.Bool.{Bool, true, false}
+use mathlib.Core.List.{List, [], _∷_}
+use Prim.Native.Nat.{ℕ, _≤_, _<_}
 use borrow.Author.Tests.{eq-eqb, ne-eqb, lt-ltb, le-ltb}
 use lib.ListN.{length}
 use Rattle.facts.specs.Faults.{firstMet}
 use Rattle.fields.specs.Fields.{byte}
 use Rattle.table.specs.Limits.{cycleLimit, coreLimit}
-use Rattle.table.specs.Causes.{outside}
+use Rattle.table.specs.Causes.{outside, cut, coresTest}
+use Rattle.table.specs.Bytes.{cycleIn, coresIn, headTests}
 use borrow.Author.Needs.{needs}
 use Rattle.table.proofs.head.fault.Statement.{statement}
 use Rattle.table.proofs.head.fault.Tie as tie
 
+-- what a callee answers of a number that was read
+told : (low high : ℕ) {x y : ℕ} {r b : Bool} → r ≡ outside low high x → x ≡ y → r ≡ b → outside low high y ≡ b
+told low high e f g = sym (e ∙ ap (outside low high) f) ∙ g
+
+-- each answer is the first fault of the head
+module _ (s : List ℕ) where
+  is-empty : length s < 1 → 10 ≡ firstMet (headTests s)
+  unfolding firstMet
+  is-empty h = simp (lt-ltb _ _ h)
+
+  module _ (some : 1 ≤ length s) where
+    is-other-format : (byte s 0 ≡ 1 → ⊥) → 11 ≡ firstMet (headTests s)
+    unfolding firstMet
+    is-other-format h = simp (le-ltb _ _ some, ne-eqb _ _ h)
+
+    module _ (format : byte s 0 ≡ 1) where
+      ends-in-cycle : length s < 5 → 10 ≡ firstMet (headTests s)
+      unfolding firstMet
+      ends-in-cycle h = simp (le-ltb _ _ some, eq-eqb _ _ format, lt-ltb _ _ h)
+
+      module _ (long : 5 ≤ length s) where
+        cycle-decides : outside 1 cycleLimit (cycleIn s) ≡ true → 12 ≡ firstMet (headTests s)
+        unfolding firstMet
+        cycle-decides e = simp (le-ltb _ _ some, eq-eqb _ _ format, le-ltb _ _ long, e)
+
+        module _ (cycle : outside 1 cycleLimit (cycleIn s) ≡ false) where
+          past-cycle : firstMet (headTests s) ≡ firstMet (cut s 6 ∷ coresTest (coresIn s) ∷ [])
+          unfolding firstMet
+          past-cycle = simp (le-ltb _ _ some, eq-eqb _ _ format, le-ltb _ _ long, cycle)
+
+          ends-in-cores : length s < 6 → 10 ≡ firstMet (headTests s)
+          unfolding firstMet
+          ends-in-cores h = sym (past-cycle ∙ simp (lt-ltb _ _ h))
+
+          module _ (longer : 6 ≤ length s) where
+            cores-decide : outside 1 coreLimit (coresIn s) ≡ true → 13 ≡ firstMet (headTests s)
+            unfolding firstMet
+            cores-decide e = sym (past-cycle ∙ simp (le-ltb _ _ longer, e))
+
+            none-decides : outside 1 coreLimit (coresIn s) ≡ false → 0 ≡ firstMet (headTests s)
+            unfolding firstMet
+            none-decides e = sym (past-cycle ∙ simp (le-ltb _ _ longer, e))
+
 returns : tie.Need-returns
-unfolding firstMet
-returns c = simp (lt-ltb _ _ (c .if1 .taken))
+returns c = is-empty (c .before .before .args .bytes .now) (c .if1 .taken)
 
 byte-requires : tie.Need-byte-requires
 byte-requires c κs = search needs
 
 returns-2 : tie.Need-returns-2
-unfolding firstMet
-returns-2 c = simp (le-ltb _ _ (c .before .before .if1 .left), ne-eqb _ _ (λ e. c .if2 .taken (c .before .byte .ensures ∙ e)))
+returns-2 c = is-other-format (c .before .before .before .before .args .bytes .now) (c .before .before .if1 .left) (λ e. c .if2 .taken (c .before .byte .ensures ∙ e))
 
 returns-3 : tie.Need-returns-3
-unfolding firstMet
-returns-3 c =
-    let format = c .before in
-    let s = format .before .before .before .before .args .bytes .now in
-    simp (le-ltb (length s) 1 (omega arith), eq-eqb (byte s 0) 1 (omega (arith, format .before .byte .ensures)), lt-ltb (length s) 5 (omega arith))
+returns-3 c = let second = c .before in ends-in-cycle (second .before .before .before .before .args .bytes .now) (second .before .before .if1 .left) (sym (second .before .byte .ensures) ∙ second .if2 .left) (c .if3 .taken)
 
 word-requires : tie.Need-word-requires
 word-requires c κs = search needs
@@ -35,18 +75,17 @@ cycle-is-outside-requires : tie.Need-cycle-is-outside-requires
 cycle-is-outside-requires c κs = search needs
 
 returns-4 : tie.Need-returns-4
-unfolding firstMet
 returns-4 c =
-    let format = c .before .before .before .before in
-    let s = format .before .before .before .before .args .bytes .now in
-    simp (le-ltb (length s) 1 (omega arith), eq-eqb (byte s 0) 1 (omega (arith, format .before .byte .ensures)), le-ltb (length s) 5 (omega arith), sym (c .before .cycle-is-outside .ensures ∙ ap (outside 1 cycleLimit) (c .before .before .word .ensures)) ∙ c .if4 .taken)
+    let third = c .before .before .before in
+    let second = third .before in
+    cycle-decides (second .before .before .before .before .args .bytes .now) (second .before .before .if1 .left) (sym (second .before .byte .ensures) ∙ second .if2 .left) (third .if3 .left) (told 1 cycleLimit (c .before .cycle-is-outside .ensures) (c .before .before .word .ensures) (c .if4 .taken))
 
 returns-5 : tie.Need-returns-5
-unfolding firstMet
 returns-5 c =
-    let format = c .before .before .before .before .before in
-    let s = format .before .before .before .before .args .bytes .now in
-    simp (le-ltb (length s) 1 (omega arith), eq-eqb (byte s 0) 1 (omega (arith, format .before .byte .ensures)), le-ltb (length s) 5 (omega arith), sym (c .before .before .cycle-is-outside .ensures ∙ ap (outside 1 cycleLimit) (c .before .before .before .word .ensures)) ∙ c .before .if4 .left, lt-ltb (length s) 6 (omega arith))
+    let fourth = c .before in
+    let third = fourth .before .before .before in
+    let second = third .before in
+    ends-in-cores (second .before .before .before .before .args .bytes .now) (second .before .before .if1 .left) (sym (second .before .byte .ensures) ∙ second .if2 .left) (third .if3 .left) (told 1 cycleLimit (fourth .before .cycle-is-outside .ensures) (fourth .before .before .word .ensures) (fourth .if4 .left)) (c .if5 .taken)
 
 byte-requires-2 : tie.Need-byte-requires-2
 byte-requires-2 c κs = search needs
@@ -55,18 +94,20 @@ cores-are-outside-requires : tie.Need-cores-are-outside-requires
 cores-are-outside-requires c κs = search needs
 
 returns-6 : tie.Need-returns-6
-unfolding firstMet
 returns-6 c =
-    let format = c .before .before .before .before .before .before .before .before in
-    let s = format .before .before .before .before .args .bytes .now in
-    simp (le-ltb (length s) 1 (omega arith), eq-eqb (byte s 0) 1 (omega (arith, format .before .byte .ensures)), le-ltb (length s) 5 (omega arith), sym (c .before .before .before .before .before .cycle-is-outside .ensures ∙ ap (outside 1 cycleLimit) (c .before .before .before .before .before .before .word .ensures)) ∙ c .before .before .before .before .if4 .left, le-ltb (length s) 6 (omega arith), sym (c .before .cores-are-outside .ensures ∙ ap (outside 1 coreLimit) (c .before .before .byte2 .ensures)) ∙ c .if6 .taken)
+    let fifth = c .before .before .before in
+    let fourth = fifth .before in
+    let third = fourth .before .before .before in
+    let second = third .before in
+    cores-decide (second .before .before .before .before .args .bytes .now) (second .before .before .if1 .left) (sym (second .before .byte .ensures) ∙ second .if2 .left) (third .if3 .left) (told 1 cycleLimit (fourth .before .cycle-is-outside .ensures) (fourth .before .before .word .ensures) (fourth .if4 .left)) (fifth .if5 .left) (told 1 coreLimit (c .before .cores-are-outside .ensures) (c .before .before .byte2 .ensures) (c .if6 .taken))
 
 returns-7 : tie.Need-returns-7
-unfolding firstMet
 returns-7 c =
-    let format = c .before .before .before .before .before .before .before .before in
-    let s = format .before .before .before .before .args .bytes .now in
-    simp (le-ltb (length s) 1 (omega arith), eq-eqb (byte s 0) 1 (omega (arith, format .before .byte .ensures)), le-ltb (length s) 5 (omega arith), sym (c .before .before .before .before .before .cycle-is-outside .ensures ∙ ap (outside 1 cycleLimit) (c .before .before .before .before .before .before .word .ensures)) ∙ c .before .before .before .before .if4 .left, le-ltb (length s) 6 (omega arith), sym (c .before .cores-are-outside .ensures ∙ ap (outside 1 coreLimit) (c .before .before .byte2 .ensures)) ∙ c .if6 .left)
+    let fifth = c .before .before .before in
+    let fourth = fifth .before in
+    let third = fourth .before .before .before in
+    let second = third .before in
+    none-decides (second .before .before .before .before .args .bytes .now) (second .before .before .if1 .left) (sym (second .before .byte .ensures) ∙ second .if2 .left) (third .if3 .left) (told 1 cycleLimit (fourth .before .cycle-is-outside .ensures) (fourth .before .before .word .ensures) (fourth .if4 .left)) (fifth .if5 .left) (told 1 coreLimit (c .before .cores-are-outside .ensures) (c .before .before .byte2 .ensures) (c .if6 .left))
 
 pub fault-spec : {M : Type 1} → statement M
 fault-spec =

@@ -49,7 +49,7 @@ returns c =
     let told = c .before .enum-told .given .1 in
     let was = row-was-faulty _ _ _ _ (got .read-one .ensures) told in
     let number = c .number .ensures ∙ ap numberOf told ∙ was .0 in
-    reading-stops _ _ _ _ _ _ _ _ (at .loop .inv .0) (omega arith) (at .loop .inv .1) number (λ z. was .1 (sym number ∙ z))
+    reading-stops _ _ _ _ _ _ _ _ (at .loop .inv .0) (got .before .loop-test .taken) (at .loop .inv .1) number (λ z. was .1 (sym number ∙ z))
 
 mul-rows : tie.Need-mul-rows Inv-loop μ-loop
 mul-rows c = search needs
@@ -61,10 +61,10 @@ above-requires : tie.Need-above-requires Inv-loop μ-loop
 above-requires c κs = search needs
 
 add-i : tie.Need-add-i Inv-loop μ-loop
-add-i c = search needs
+add-i c = omega (arith, c .before .before .before .before .before .loop-test .taken, c .before .before .before .before .before .before .before .before .before .pre)
 
 loop-less : tie.Need-loop-less Inv-loop μ-loop
-loop-less c = search needs
+loop-less c = omega (arith, c .before .before .before .before .before .loop-test .taken)
 
 loop-again : tie.Need-loop-again Inv-loop μ-loop
 loop-again c =
@@ -72,12 +72,12 @@ loop-again c =
     let at = got .before .before in
     let was = row-was-read _ _ _ _ (got .read-one .ensures) (c .before .before .got .given .1) in
     let past = ap (λ (x : Cursor). x .at) (was .2) in (
-      reading-goes-on _ _ _ _ _ _ _ _ (at .loop .inv .0) (omega arith) (at .loop .inv .1) (omega arith) (was .0) (was .1) (c .above .ensures ∙ ap tankAbove (was .1)),
+      reading-goes-on _ _ _ _ _ _ _ _ (at .loop .inv .0) (got .before .loop-test .taken) (at .loop .inv .1) (omega (arith, got .before .loop-test .taken, at .before .before .before .pre)) (was .0) (was .1) (c .above .ensures ∙ ap tankAbove (was .1)),
       omega (arith, past, at .loop .inv .1),
     )
 
 returns-2 : tie.Need-returns-2 Inv-loop μ-loop
-returns-2 c = reading-ends _ _ _ _ _ _ _ _ (c .before .loop .inv .0) (omega arith)
+returns-2 c = reading-ends _ _ _ _ _ _ _ _ (c .before .loop .inv .0) (c .loop-test .left)
 
 pub read-spec : {M : Type 1} → statement M
 read-spec =

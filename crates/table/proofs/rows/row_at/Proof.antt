@@ -30,7 +30,7 @@ byte-requires : tie.Need-byte-requires
 byte-requires c κs = search needs
 
 returns : tie.Need-returns
-returns c = cc
+returns c = λ i. record { tank = c .before .before .before .before .half .ensures i; cost = c .before .before .before .half2 .ensures i; period = c .before .before .half3 .ensures i; phase = c .before .half4 .ensures i; kind = c .byte .ensures i }
 
 pub row-at-spec : {M : Type 1} → statement M
 row-at-spec =
