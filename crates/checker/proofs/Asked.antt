@@ -1,8 +1,8 @@
 -- What is asked of the rows of a table in a slot. Assumes nothing.
 use Prim.Native.Nat.{ℕ, _<_}
-use mathlib.Core.Path.{_≡_, refl, sym, _∙_}
+use mathlib.Core.Path.{_≡_, refl, sym, ap, _∙_}
 use mathlib.Core.List.{List}
-use mathlib.Core.Bool.{Bool, true, false, not, _&&_}
+use mathlib.Core.Bool.{Bool, true, false}
 use native.Mathlib.Omega.{arith}
 use borrow.Author.Tests.{lt-ltb, le-leb}
 use lib.ListN.{length, getD, length-take}
@@ -14,11 +14,12 @@ use Rattle.table.specs.declared.Table.{Table}
 use Rattle.table.specs.Causes.{zeroRow}
 use Rattle.table.specs.Value.{rowsOf}
 use Rattle.table.proofs.Taken.{rows-are-sound}
+use Rattle.pd2.specs.declared.Verdict.{Verdict}
 use Rattle.pd2.specs.Ready.{ready}
 use Rattle.pd2.specs.Verdict.{isYes, answered, verdict}
 use Rattle.pd2.specs.Choice.{rowAt}
 use Rattle.pd2.specs.Rows.{quantaOf}
-use Rattle.checker.specs.Walking.{Askable, isEarly}
+use Rattle.checker.specs.Walking.{Askable}
 
 -- An answered question is answered yes exactly if it holds.
 pub yes-when-answered : (holds : Bool) {a : Bool} → a ≡ true → isYes (verdict a holds) ≡ holds
@@ -43,6 +44,8 @@ module _ (table : Table) (quanta : List Quanta) (t : ℕ) (ask : Askable table q
       (rw (lt-ltb _ _ (sound .cost), le-leb (rowAt (rowsOf table) i .cost) (rowAt (rowsOf table) i .period) (omega (arith, sound .weight)))
       (rw (le-leb (quantaOf quanta i) 70_368_744_177_664 (omega (arith, ask .few i l, ask .time)), le-leb t 70_368_744_177_664 (omega (arith, ask .time))) refl))
 
-  -- and is found early as the definition has it.
-  pub early-as-read : (marks : List Bool) {early mark : Bool} → mark ≡ getD marks i false → early ≡ mark && not (ready (getD (table .rows) i d) (getD quanta i q .0) t) → early ≡ isEarly table quanta marks t i
-  early-as-read marks same e = e ∙ rw (same, row-there table i d l, getD-any quanta i q (record { 0 = 0 }) there) refl
+  -- and is ready as the definition has it.
+  pub ready-as-read : {yes : Bool} {v : Verdict} → yes ≡ isYes v → v ≡ verdict (answered (getD (table .rows) i d) (getD quanta i q .0) t) (ready (getD (table .rows) i d) (getD quanta i q .0) t) →
+      yes ≡ ready (rowAt (rowsOf table) i) (quantaOf quanta i) t
+  ready-as-read e f =
+      e ∙ (ap isYes f ∙ (yes-when-answered _ can-be-asked ∙ rw (row-there table i d l, getD-any quanta i q (record { 0 = 0 }) there) refl))

@@ -17,16 +17,16 @@ use Rattle.table.specs.declared.Table.{Table}
 use Rattle.table.specs.Causes.{zeroRow}
 use Rattle.table.specs.Value.{rowsOf}
 use Rattle.pd2.specs.Ready.{late}
-use Rattle.pd2.specs.Rows.{quantaOf, GaveMarked, isLate}
+use Rattle.pd2.specs.Rows.{quantaOf, isLate}
 use Rattle.trace.specs.Said.{Said, named}
-use Rattle.trace.specs.Records.{countAt, pastRecord, placeOf, names, firstPlace, placeIn, rowsIn, timesNamed}
+use Rattle.trace.specs.Records.{pastRecord, placeOf, names, firstPlace, placeIn, rowsIn, timesNamed}
 use Rattle.trace.proofs.Records.{counted-if-named, uncounted-if-not-named}
 use Rattle.checker.specs.declared.Answer.{Answer}
 use Rattle.checker.specs.declared.Walk.{Walk}
 use Rattle.checker.specs.Answer.{saidOf}
-use Rattle.checker.specs.Causes.{tooEarly, lateAt, lowest, anyRow}
+use Rattle.checker.specs.Causes.{badRows, tooEarly, lateAt, lowest, anyRow}
 use Rattle.checker.specs.Check.{shapeAt, timeFindings, recordFindings}
-use Rattle.checker.specs.Walking.{Askable, CanJudge, Walked, Leads, Read, isEarly, isPassed}
+use Rattle.checker.specs.Walking.{Askable, CanJudge, Walked, Leads, Read, NamesFit, GaveNamed, isEarly, isPassed}
 use Rattle.checker.proofs.Asked.{row-there, can-be-asked, yes-when-answered}
 
 -- The lowest row that is so is the one that is named.
@@ -57,26 +57,41 @@ module _ (table : Table) (s : List ℕ) (t : ℕ) (walk : Walk) (can : CanJudge 
       let at = can .reached in
       record { can = can .can; long = at .long; few = λ i l. omega (arith, at .quanta i l, at .few i); time = omega (arith, can .time) }
 
-  module _ {marks : List Bool} {next : ℕ} (read : Read table s (walk .at) marks next) where
+  module _ {first count : ℕ} (read : Read table s (walk .at) first count) where
     sound : NoneFound (shapeAt table s (placeIn s t))
     sound = subst (λ place. NoneFound (shapeAt table s place)) (can .reached .place) (read .sound)
 
-    marked : (i : ℕ) → getD marks i false ≡ names (rowsIn s t) i
-    marked i = subst (λ place. getD marks i false ≡ names (take (countAt s place) (drop (place + 2) s)) i) (can .reached .place) (read .rows i)
+    -- the rows that are named, as they stand in the record
+    abbrev named-rows : List ℕ
+    named-rows = take count (drop first s)
+
+    rows-are : named-rows ≡ rowsIn s t
+    rows-are = rw (read .begins, read .all, can .reached .place) refl
+
+    -- They lie inside the trace,
+    pub rows-inside : first + count ≤ length s
+    rows-inside = omega (arith, read .begins, read .all, read .inside)
+
+    -- and rise.
+    pub rows-rise : badRows (length (rowsOf table)) 0 named-rows ≡ false
+    rows-rise = rw (read .begins, read .all) (read .rise)
+
+    pub rows-fit : NamesFit named-rows
+    rows-fit = record { below = length (rowsOf table); few = omega (arith, can .can .few, can .can .all); rise = rows-rise }
 
     -- the lowest early row, as it was found in the arrays
-    early-is : {i : ℕ} → Lowest (isEarly table (walk .quanta) marks t) (length (rowsOf table)) i → Lowest (tooEarly table s t) (length (rowsOf table)) i
+    early-is : {i : ℕ} → Lowest (isEarly table (walk .quanta) named-rows t) (length (rowsOf table)) i → Lowest (tooEarly table s t) (length (rowsOf table)) i
     early-is {i} low =
-        same-lowest (isEarly table (walk .quanta) marks t) (tooEarly table s t) (length (rowsOf table)) i (λ j l. rw (marked j, can .reached .quanta j l) refl) low
+        same-lowest (isEarly table (walk .quanta) named-rows t) (tooEarly table s t) (length (rowsOf table)) i (λ j l. rw (rows-are, can .reached .quanta j l) refl) low
 
     -- An early row ends the check,
-    pub early-ends : {i : ℕ} → Lowest (isEarly table (walk .quanta) marks t) (length (rowsOf table)) i → i < length (rowsOf table) → FirstFound (recordFindings table s t) (named 44 i t)
+    pub early-ends : {i : ℕ} → Lowest (isEarly table (walk .quanta) named-rows t) (length (rowsOf table)) i → i < length (rowsOf table) → FirstFound (recordFindings table s t) (named 44 i t)
     early-ends {i} low l =
         let is = is-lowest table (tooEarly table s t) i (early-is low) l in
         first-behind sound (subst (λ row. FirstFound (timeFindings table s t) (named 44 row t)) (is .1) (FirstFound.here (is .0)))
 
-    module _ {i : ℕ} (low : Lowest (isEarly table (walk .quanta) marks t) (length (rowsOf table)) i) (none : length (rowsOf table) ≤ i)
-        {given : List Quanta} (gave : GaveMarked marks (walk .quanta) given) where
+    module _ {i : ℕ} (low : Lowest (isEarly table (walk .quanta) named-rows t) (length (rowsOf table)) i) (none : length (rowsOf table) ≤ i)
+        {given : List Quanta} (gave : GaveNamed named-rows (walk .quanta) given) where
       no-early : anyRow table (tooEarly table s t) ≡ false
       no-early = none-is table (tooEarly table s t) i (early-is low) none
 
@@ -85,11 +100,11 @@ module _ (table : Table) (s : List ℕ) (t : ℕ) (walk : Walk) (can : CanJudge 
       quanta-after j l = gave .each j ∙ go (names (rowsIn s t) j) refl
         where
           go : (b : Bool) → names (rowsIn s t) j ≡ b →
-              cond (getD marks j false) (kept (quantaOf (walk .quanta) j + 1)) (quantaOf (walk .quanta) j) ≡ timesNamed s j (t + 1)
+              cond (names named-rows j) (kept (quantaOf (walk .quanta) j + 1)) (quantaOf (walk .quanta) j) ≡ timesNamed s j (t + 1)
           go true e =
-              rw (marked j, e, can .reached .quanta j l)
+              rw (rows-are, e, can .reached .quanta j l)
               (omega (arith, can .reached .few j, can .time) ∙ sym (counted-if-named s firstPlace j t e))
-          go false e = rw (marked j, e, can .reached .quanta j l) (sym (uncounted-if-not-named s firstPlace j t e))
+          go false e = rw (rows-are, e, can .reached .quanta j l) (sym (uncounted-if-not-named s firstPlace j t e))
 
       few-after : (j : ℕ) → timesNamed s j (t + 1) ≤ t + 1
       few-after j = go (names (rowsIn s t) j) refl
@@ -129,7 +144,7 @@ module _ (table : Table) (s : List ℕ) (t : ℕ) (walk : Walk) (can : CanJudge 
 
       -- and else the walk goes on.
       pub goes-on : {time k : ℕ} → time ≡ t + 1 → Lowest (isLate (table .rows) given time) (min (table .count) 32) k → length (rowsOf table) ≤ k →
-          Walked table s t (record { at = next; quanta = given })
+          Walked table s t (record { at = first + count; quanta = given })
       unfolding placeOf
       goes-on {k = k} e late h =
           record {
@@ -138,8 +153,8 @@ module _ (table : Table) (s : List ℕ) (t : ℕ) (walk : Walk) (can : CanJudge 
                 (NoneFound.later no-early (NoneFound.later (none-is table (lateAt table s (t + 1)) k (late-is e late) h) NoneFound.end));
             reached =
                 record {
-                  place = read .place ∙ (ap (pastRecord s) (can .reached .place) ∙ ap (placeIn s) (sym (add-one t)));
-                  inside = read .inside;
+                  place = rw (read .begins, read .all) (ap (pastRecord s) (can .reached .place) ∙ ap (placeIn s) (sym (add-one t)));
+                  inside = rows-inside;
                   long = gave .places ∙ can .reached .long;
                   quanta = quanta-after;
                   few = few-after;

@@ -1,6 +1,6 @@
 -- The shape of a record, as it is read. Assumes nothing.
 use Prim.Native.Nat.{ℕ, _+_, _-_, _≤_, _<_}
-use mathlib.Core.Path.{_≡_, sym, ap, subst, _∙_}
+use mathlib.Core.Path.{_≡_, refl, sym, ap, subst, _∙_}
 use mathlib.Core.List.{List}
 use mathlib.Core.Bool.{Bool, true, false, true≢false}
 use native.Mathlib.Omega.{arith}
@@ -9,19 +9,18 @@ use lib.Dec.{ltb}
 use lib.ListN.{length}
 use Rattle.facts.specs.Findings.{FirstFound, NoneFound}
 use Rattle.table.specs.declared.Table.{Table}
-use Rattle.table.specs.Value.{rowsOf}
 use Rattle.trace.specs.Said.{bare}
 use Rattle.trace.specs.Records.{freeAt, countAt, rowsAt, pastRecord}
 use Rattle.checker.specs.declared.Answer.{Answer}
 use Rattle.checker.specs.Answer.{saidOf}
-use Rattle.checker.specs.Causes.{badRows}
+use Rattle.checker.specs.Causes.{badRows, badRow}
 use Rattle.checker.specs.Check.{shapeAt}
-use Rattle.checker.specs.Walking.{CanCheck, NamedAre, ReadLeads, isPassed}
+use Rattle.checker.specs.Walking.{CanCheck, ReadLeads, isPassed}
 
 module _ (table : Table) (s : List ℕ) (at : ℕ) where
   -- A record that is refused with an answer.
-  pub refuses : {answer a : Answer} {marks : List Bool} {next : ℕ} → answer ≡ a → isPassed a ≡ false → FirstFound (shapeAt table s at) (saidOf a) →
-      ReadLeads table s at answer marks next
+  pub refuses : {answer a : Answer} {first count : ℕ} → answer ≡ a → isPassed a ≡ false → FirstFound (shapeAt table s at) (saidOf a) →
+      ReadLeads table s at answer first count
   refuses e p f =
       record {
         read = λ h. absurd (true≢false (sym h ∙ (ap isPassed e ∙ p)));
@@ -57,12 +56,12 @@ module _ (table : Table) (s : List ℕ) (at : ℕ) where
         rows-are-cut h =
             FirstFound.later head-there (FirstFound.later enough (FirstFound.later fit (FirstFound.here (lt-ltb (length s) (pastRecord s at) h))))
 
-        module _ (rows : pastRecord s at ≤ length s) (can : CanCheck table) {bad : Bool} {marks : List Bool} (named : NamedAre (rowsAt s at) (table .count) bad marks) where
+        module _ (rows : pastRecord s at ≤ length s) (can : CanCheck table) {bad : Bool} (named : bad ≡ badRows (table .count) 0 (rowsAt s at)) where
           there : ltb (length s) (pastRecord s at) ≡ false
           there = le-ltb (length s) (pastRecord s at) rows
 
-          judged : badRows (length (rowsOf table)) 0 (rowsAt s at) ≡ bad
-          judged = ap (λ n. badRows n 0 (rowsAt s at)) (can .all) ∙ sym (named .judged)
+          judged : badRow table s at ≡ bad
+          judged = ap (λ n. badRows n 0 (rowsAt s at)) (can .all) ∙ sym named
 
           -- or they are named wrongly;
           pub rows-are-bad : bad ≡ true → FirstFound (shapeAt table s at) (bare 43)
@@ -71,16 +70,17 @@ module _ (table : Table) (s : List ℕ) (at : ℕ) where
               (FirstFound.later enough (FirstFound.later fit (FirstFound.later there (FirstFound.here (judged ∙ h)))))
 
           -- else the record is sound.
-          pub record-is-read : bad ≡ false → {answer : Answer} → isPassed answer ≡ true → {next : ℕ} → next ≡ pastRecord s at → ReadLeads table s at answer marks next
+          pub record-is-read : bad ≡ false → {answer : Answer} → isPassed answer ≡ true → {count : ℕ} → count ≡ countAt s at → ReadLeads table s at answer (at + 2) count
           record-is-read h p e =
               record {
                 read = λ _. record {
                   sound =
                       NoneFound.later head-there
                       (NoneFound.later enough (NoneFound.later fit (NoneFound.later there (NoneFound.later (judged ∙ h) NoneFound.end))));
-                  place = e;
-                  inside = omega (arith, e, rows);
-                  rows = named .marked h;
+                  begins = refl;
+                  all = e;
+                  inside = rows;
+                  rise = judged ∙ h;
                 };
                 refused = λ f. absurd (true≢false (sym p ∙ f));
               }

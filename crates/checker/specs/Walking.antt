@@ -2,22 +2,23 @@
 use Prim.Native.Nat.{ℕ, _+_, _≤_, _<_}
 use mathlib.Core.Path.{_≡_}
 use mathlib.Core.List.{List}
-use mathlib.Core.Bool.{Bool, true, false, not, _&&_}
+use mathlib.Core.Bool.{Bool, true, false, cond, not, _&&_}
 use lib.Dec.{eqb}
-use lib.ListN.{length, getD}
+use lib.ListN.{length}
 use Rattle.facts.specs.Findings.{FirstFound, NoneFound}
 use Rattle.counts.specs.declared.Quanta.{Quanta}
+use Rattle.counts.specs.Limits.{kept}
 use Rattle.table.specs.declared.Table.{Table}
 use Rattle.table.specs.Limits.{rowLimit}
 use Rattle.table.specs.Value.{faultOf, rowsOf}
 use Rattle.pd2.specs.Ready.{ready}
 use Rattle.pd2.specs.Choice.{rowAt}
 use Rattle.pd2.specs.Rows.{quantaOf}
-use Rattle.trace.specs.Records.{pastRecord, names, rowsAt, placeIn, timesNamed}
+use Rattle.trace.specs.Records.{countAt, pastRecord, names, placeIn, timesNamed}
 use Rattle.checker.specs.declared.Answer.{Answer}
 use Rattle.checker.specs.declared.Walk.{Walk}
 use Rattle.checker.specs.Answer.{saidOf}
-use Rattle.checker.specs.Causes.{slotLimit, badRows}
+use Rattle.checker.specs.Causes.{slotLimit, badRows, badRow}
 use Rattle.checker.specs.Check.{shapeAt, recordFindings}
 
 -- A table without fault, whose rows stand in their array.
@@ -59,22 +60,29 @@ pub record Leads (table : Table) (s : List ℕ) (t : ℕ) (answer : Answer) (wal
   pub walked : isPassed answer ≡ true → Walked table s t walk
   pub ended : isPassed answer ≡ false → FirstFound (recordFindings table s t) (saidOf answer)
 
--- Rows that are read as marks: row i is marked exactly if it is named; bad exactly if a number is not below n, or they do not rise.
-pub record NamedAre (rows : List ℕ) (n : ℕ) (bad : Bool) (marks : List Bool) : Type 0 where
-  pub judged : bad ≡ badRows n 0 rows
-  pub marked : bad ≡ false → (i : ℕ) → getD marks i false ≡ names rows i
+-- Row numbers that can be looked up: they rise, and each is below some count of rows.
+pub record NamesFit (rows : List ℕ) : Type 0 where
+  pub below : ℕ
+  pub few : below ≤ rowLimit
+  pub rise : badRows below 0 rows ≡ false
 
--- What reading the record at a place leads to: its rows as marks, with the place behind it, if it is sound; or the first fault in it.
-pub record Read (table : Table) (s : List ℕ) (at : ℕ) (marks : List Bool) (next : ℕ) : Type 0 where
+-- What reading the record at a place leads to: where its rows begin and how many there are, if it is sound; or the first fault in it.
+pub record Read (table : Table) (s : List ℕ) (at first count : ℕ) : Type 0 where
   pub sound : NoneFound (shapeAt table s at)
-  pub place : next ≡ pastRecord s at
-  pub inside : next ≤ length s
-  pub rows : (i : ℕ) → getD marks i false ≡ names (rowsAt s at) i
+  pub begins : first ≡ at + 2
+  pub all : count ≡ countAt s at
+  pub inside : pastRecord s at ≤ length s
+  pub rise : badRow table s at ≡ false
 
-pub record ReadLeads (table : Table) (s : List ℕ) (at : ℕ) (answer : Answer) (marks : List Bool) (next : ℕ) : Type 0 where
-  pub read : isPassed answer ≡ true → Read table s at marks next
+pub record ReadLeads (table : Table) (s : List ℕ) (at : ℕ) (answer : Answer) (first count : ℕ) : Type 0 where
+  pub read : isPassed answer ≡ true → Read table s at first count
   pub refused : isPassed answer ≡ false → FirstFound (shapeAt table s at) (saidOf answer)
 
--- Row i is marked and not ready.
-abbrev pub isEarly : Table → List Quanta → List Bool → ℕ → ℕ → Bool
-isEarly table quanta marks t i = getD marks i false && not (ready (rowAt (rowsOf table) i) (quantaOf quanta i) t)
+-- Row i is named and not ready.
+abbrev pub isEarly : Table → List Quanta → List ℕ → ℕ → ℕ → Bool
+isEarly table quanta rows t i = names rows i && not (ready (rowAt (rowsOf table) i) (quantaOf quanta i) t)
+
+-- Each row that is named has one quantum more.
+pub record GaveNamed (rows : List ℕ) (before after : List Quanta) : Type 0 where
+  pub places : length after ≡ length before
+  pub each : (i : ℕ) → quantaOf after i ≡ cond (names rows i) (kept (quantaOf before i + 1)) (quantaOf before i)

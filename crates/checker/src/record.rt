@@ -5,31 +5,23 @@ use crate::Walk;
 use crate::is_passed;
 use counts::Quanta;
 use counts::Slot;
-use table::Row;
 use table::Table;
 ghost use mathlib.Core.Path.{_≡_};
 ghost use Prim.Native.Nat.{_+_, _≤_, _<_};
-ghost use mathlib.Core.Bool.{true, not, _&&_};
+ghost use mathlib.Core.Bool.{false};
 ghost use lib.ListN.{length, take, drop};
-ghost use Rattle.pd2.specs.Ready.{ready};
-ghost use Rattle.trace.specs.Said.{named};
-ghost use Rattle.checker.specs.Answer.{saidOf};
-ghost use Rattle.pd2.specs.Verdict.{answered};
 ghost use Rattle.facts.specs.First.{Lowest};
 ghost use Rattle.table.specs.Value.{rowsOf};
-ghost use Rattle.checker.specs.Walking.{CanCheck, Askable, CanJudge, Leads, ReadLeads, NamedAre, isEarly};
+ghost use Rattle.trace.specs.Said.{named};
+ghost use Rattle.checker.specs.Answer.{saidOf};
+ghost use Rattle.checker.specs.Causes.{badRows};
+ghost use Rattle.checker.specs.Walking.{CanCheck, Askable, CanJudge, Leads, ReadLeads, NamesFit, GaveNamed, isEarly};
 
-// What the bytes of a record hold: `Passed`, the rows that it names, as marks, and the place behind it; or the answer that ends the check.
+// What the bytes of a record hold: `Passed`, where its rows begin and how many there are; or the answer that ends the check.
 struct RecordRead {
     answer: Answer,
-    marks: [bool; 32],
-    next: usize,
-}
-
-// The rows that a record names, as marks; bad if it names them wrongly.
-struct Named {
-    bad: bool,
-    marks: [bool; 32],
+    first: usize,
+    count: usize,
 }
 
 // Judges the record of a slot and goes behind it.
@@ -42,22 +34,22 @@ pub(crate) fn judge(table: Table, trace: &[u8], walk: Walk, slot: Slot) -> Step
     if !is_passed(answer) {
         return ended(answer, walk);
     }
-    let marks = read.marks;
     let quanta = walk.quanta;
     let n = table.count as usize;
-    let early = lowest_early(table, quanta, marks, slot);
+    let early = lowest_early(trace, read.first, read.count, table, quanta, slot);
     if early < n {
         return ended(early_in(early, slot), walk);
     }
-    let given = pd2::give(quanta, marks);
+    let given = give(trace, read.first, read.count, quanta);
     let time = slot.later(1);
     let rows = table.rows;
     let late = pd2::lowest_late(rows, given, n, time);
     if late < n {
         return ended(late_at(late, time), walk);
     }
+    let past = read.first + read.count;
     let next = Walk {
-        at: read.next,
+        at: past,
         quanta: given,
     };
     ended(Answer::Passed, next)
@@ -92,7 +84,7 @@ fn late_at(row: usize, time: Slot) -> Answer
 // Reads the record at a place, and judges its shape.
 fn read_at(table: Table, trace: &[u8], at: usize) -> RecordRead
     requires { ⌜ CanCheck table × (at ≤ length (now trace)) ⌝ }
-    ensures { λ r. ⌜ ReadLeads table (now (trace .entry)) at (r .answer) (r .marks) (r .next) ⌝ }
+    ensures { λ r. ⌜ ReadLeads table (now (trace .entry)) at (r .answer) (r .first) (r .count) ⌝ }
 {
     if trace.len() - at < 2 {
         return refused(Answer::Cut);
@@ -110,15 +102,13 @@ fn read_at(table: Table, trace: &[u8], at: usize) -> RecordRead
     if trace.len() - first < c {
         return refused(Answer::Cut);
     }
-    let named = rows_at(trace, first, c, table.count);
-    if named.bad {
+    if are_bad(trace, first, c, table.count) {
         return refused(Answer::BadRow);
     }
-    let marks = named.marks;
     RecordRead {
         answer: Answer::Passed,
-        marks,
-        next: first + c,
+        first,
+        count: c,
     }
 }
 
@@ -126,63 +116,72 @@ fn read_at(table: Table, trace: &[u8], at: usize) -> RecordRead
 fn refused(answer: Answer) -> RecordRead
     ensures { λ r. ⌜ r .answer ≡ answer ⌝ }
 {
-    let marks = [false; 32];
     RecordRead {
         answer,
-        marks,
-        next: 0,
+        first: 0,
+        count: 0,
     }
 }
 
-// The c row numbers from a place on, as marks; bad if one is not below n, or they do not rise.
-fn rows_at(trace: &[u8], first: usize, c: usize, n: u8) -> Named
+// Whether one of the c row numbers from a place on is not below n, or they do not rise.
+fn are_bad(trace: &[u8], first: usize, c: usize, n: u8) -> bool
     requires { ⌜ (first + c ≤ length (now trace)) × (n ≤ 32) ⌝ }
-    ensures { λ r. ⌜ NamedAre (take c (drop first (now (trace .entry)))) n (r .bad) (r .marks) ⌝ }
+    ensures { λ r. ⌜ r ≡ badRows n 0 (take c (drop first (now (trace .entry)))) ⌝ }
 {
-    let mut marks = [false; 32];
     let mut least: u8 = 0;
     let mut j: usize = 0;
     while j < c {
         let row = fields::byte(trace, first + j);
         if n <= row {
-            return Named { bad: true, marks };
+            return true;
         }
         if row < least {
-            return Named { bad: true, marks };
+            return true;
         }
-        marks[row as usize] = true;
         least = row + 1;
         j += 1;
     }
-    Named { bad: false, marks }
+    false
 }
 
-// The lowest row that is marked and was not ready in the slot, or n where none is.
-fn lowest_early(table: Table, quanta: [Quanta; 32], marks: [bool; 32], slot: Slot) -> usize
-    requires { ⌜ Askable table quanta (slot .0) ⌝ }
-    ensures { λ r. ⌜ Lowest (isEarly table quanta marks (slot .0)) (length (rowsOf table)) r ⌝ }
+// The lowest of the c rows from a place on that was not ready in the slot, or n where all were. They rise, so the first is the lowest.
+fn lowest_early(
+    trace: &[u8],
+    first: usize,
+    c: usize,
+    table: Table,
+    quanta: [Quanta; 32],
+    slot: Slot,
+) -> usize
+    requires { ⌜ (first + c ≤ length (now trace)) × Askable table quanta (slot .0) × (badRows (length (rowsOf table)) 0 (take c (drop first (now trace))) ≡ false) ⌝ }
+    ensures { λ r. ⌜ Lowest (isEarly table quanta (take c (drop first (now (trace .entry)))) (slot .0)) (length (rowsOf table)) r ⌝ }
 {
     let n = table.count as usize;
-    let mut i: usize = 0;
-    while i < n {
+    let mut j: usize = 0;
+    while j < c {
+        let i = fields::byte(trace, first + j) as usize;
         let row = table.rows[i];
         let given = quanta[i];
-        if is_early(row, given, marks[i], slot) {
+        let verdict = pd2::ready(row, given, slot);
+        if !verdict.is_yes() {
             return i;
         }
-        i += 1;
+        j += 1;
     }
     n
 }
 
-// Whether a row is marked and was not ready. A row that is not marked is not asked.
-fn is_early(row: Row, given: Quanta, mark: bool, slot: Slot) -> bool
-    requires { ⌜ answered row (given .0) (slot .0) ≡ true ⌝ }
-    ensures { λ r. ⌜ r ≡ mark && not (ready row (given .0) (slot .0)) ⌝ }
+// One quantum more for each of the c rows from a place on.
+fn give(trace: &[u8], first: usize, c: usize, mut quanta: [Quanta; 32]) -> [Quanta; 32]
+    requires { ⌜ (first + c ≤ length (now trace)) × NamesFit (take c (drop first (now trace))) ⌝ }
+    ensures { λ r. ⌜ GaveNamed (take c (drop first (now (trace .entry)))) quanta r ⌝ }
 {
-    if !mark {
-        return false;
+    let mut j: usize = 0;
+    while j < c {
+        let i = fields::byte(trace, first + j) as usize;
+        let given = quanta[i];
+        quanta[i] = given.one_more();
+        j += 1;
     }
-    let verdict = pd2::ready(row, given, slot);
-    !verdict.is_yes()
+    quanta
 }

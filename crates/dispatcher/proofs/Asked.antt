@@ -9,6 +9,9 @@ use lib.ListN.{length, getD, length-take, List·getD-map}
 use lib.Seq.{getD-take}
 use Rattle.counts.specs.declared.Quanta.{Quanta}
 use Rattle.table.specs.Causes.{zeroRow}
+use Rattle.table.specs.Value.{faultOf}
+use Rattle.pd2.specs.Share.{CanBe}
+use Rattle.pd2.proofs.Share.{row-can-be}
 use Rattle.pd2.specs.declared.Verdict.{Verdict}
 use Rattle.pd2.specs.Choice.{rowAt, quantaAt}
 use Rattle.dispatcher.specs.declared.State.{State}
@@ -31,7 +34,7 @@ use Rattle.pd2.specs.Ready.{origin, ready}
 use Rattle.pd2.specs.Verdict.{isYes, answered, verdict}
 use Rattle.facts.proofs.Filling.{getD-any}
 use Rattle.pd2.proofs.Verdicts.{yes-if-it-holds}
-use Rattle.dispatcher.specs.Usable.{UsableRow, Usable}
+use Rattle.dispatcher.specs.Usable.{UsableRow, InPlace, Usable}
 use Rattle.dispatcher.specs.Classes.{keyOf, groupOf}
 
 -- What an answer holds.
@@ -123,6 +126,15 @@ row-there s i d l =
 pub quanta-there : (s : State) (i : ℕ) (d : Quanta) → i < length (s .quanta) → getD (s .quanta) i d .0 ≡ quantaAt (quantaIn s) i
 quanta-there s i d there =
     ap (λ q. q .0) (getD-any (s .quanta) i d (record { 0 = 0 }) there) ∙ sym (List·getD-map (λ q. q .0) (s .quanta) i (record { 0 = 0 }))
+
+-- Row i of a state, as the code reads it, can be, if the table has no fault,
+pub can-be-there : (s : State) → faultOf (s .table) ≡ 0 → (i : ℕ) → i < length (rowsIn s) → (r : Row) → CanBe (getD (s .table .rows) i r)
+can-be-there s sound i l r = rw (row-there s i r l) (row-can-be (s .table) sound i l)
+
+-- and a question about it is one about the state's row.
+pub as-read : (s : State) → InPlace s → (i : ℕ) → i < length (rowsIn s) → (r : Row) (q : Quanta) (is : Row → ℕ → Bool) →
+    is (getD (s .table .rows) i r) (getD (s .quanta) i q .0) ≡ ofRow s is i
+as-read s place i l r q is = rw (row-there s i r l, quanta-there s i q (omega (arith, l, place .few, place .all, place .long))) refl
 
 -- Row i of a usable state, as the code reads it.
 module _ (s : State) (u : Usable s) (i : ℕ) (l : i < length (rowsIn s)) (r : Row) (q : Quanta) where

@@ -1,7 +1,7 @@
 -- The choice picks what PD2 picks. Assumes nothing.
 use Prim.Native.Nat.{ℕ, _+_, _-_, _%_, _<_}
 use mathlib.Core.Path.{_≡_, refl, sym, ap, _∙_}
-use mathlib.Core.List.{List}
+use mathlib.Core.List.{List, []}
 use mathlib.Core.Bool.{Bool, true, false, cond, not, _&&_, _||_}
 use mathlib.Core.Logic.{_⊎_, inl, inr}
 use native.Mathlib.Nat.{div-add-mod', mod-lt}
@@ -9,7 +9,8 @@ use native.Mathlib.Omega.{arith}
 use borrow.Author.Tests.{le-ltb, eq-eqb, ne-eqb}
 use lib.Dec.{ltb, eqb}
 use lib.ListN.{length}
-use Rattle.facts.specs.Counting.{those}
+use Rattle.facts.specs.Counting.{howMany, those}
+use Rattle.facts.proofs.Tests.{or-false}
 use Rattle.facts.proofs.Counting.{same-list}
 use Rattle.counts.specs.Limits.{most}
 use Rattle.windows.proofs.Windows.{bit-is-0-or-1}
@@ -19,7 +20,7 @@ use Rattle.pd2.specs.Choice.{rowAt, quantaAt, readyIn, firstBy}
 use Rattle.dispatcher.specs.declared.State.{State}
 use Rattle.dispatcher.specs.State.{rowsIn, quantaIn, timeOf}
 use Rattle.dispatcher.specs.Slot.{picksIn}
-use Rattle.dispatcher.specs.Classes.{keyFor, keyOf, keyIn, KeysAre, IsCut, askedOf, groupOf, groupIn, GroupsAre, larger, tied, inCut}
+use Rattle.dispatcher.specs.Classes.{keyFor, keyOf, keyIn, KeysAre, IsCut, groupOf, groupIn, GroupsAre, larger, tied, inCut}
 use Rattle.dispatcher.proofs.Keys.{tie, before-is-by-key}
 use Rattle.dispatcher.proofs.Classes.{cut-takes-picked}
 
@@ -37,7 +38,7 @@ parity x (inl z) = let rest = mod-lt (keyFor x) {m = 2} (omega arith) in omega (
 parity x (inr z) = let rest = mod-lt (keyFor x) {m = 2} (omega arith) in omega (arith, div-add-mod' (keyFor x) 2, z)
 
 module _ (s : State) (k : ℕ) (keys groups : List ℕ) (class left : ℕ)
-    (keyed : KeysAre s keys) (cut : IsCut (keyIn keys) (length (rowsIn s)) k class left) (grouped : GroupsAre s keys (askedOf class left) groups) where
+    (keyed : KeysAre s keys) (cut : IsCut (keyIn keys) (length (rowsIn s)) k class left) (grouped : 0 < left → GroupsAre s keys class groups) where
   abbrev rank : ℕ → Rank
   rank i = rankOf (rowAt (rowsIn s) i) i (quantaAt (quantaIn s) i)
 
@@ -74,7 +75,7 @@ module _ (s : State) (k : ℕ) (keys groups : List ℕ) (class left : ℕ)
   group-of : (i : ℕ) → i < n → 0 < left → keyIn keys i ≡ class → class < most → groupIn groups i ≡ cond (eqb (rank i .b) 1) (rank i .D) 0
   unfolding groupOf
   group-of i l some same low =
-      rw (grouped .each i l, ne-eqb left 0 (λ z. omega arith), same, eq-eqb class class refl) (go (bit-of i))
+      rw (grouped some .each i l, same, eq-eqb class class refl) (go (bit-of i))
     where
       key : class ≡ keyFor (rank i)
       key = sym same ∙ ready-key i l (is-ready i l (omega (arith, same)))
@@ -112,3 +113,28 @@ module _ (s : State) (k : ℕ) (keys groups : List ℕ) (class left : ℕ)
       same-list (inCut (keyIn keys) (groupIn groups) n class left) (picked isReady (firstBy before (rowsIn s) (quantaIn s)) n k) n
       (cut-takes-picked isReady (firstBy before (rowsIn s) (quantaIn s)) (λ j i. tie (rank j) (rank i)) (keyIn keys) n unready-key
       (λ i l h. keyed .low i l h) by-key (λ i l. tie-is-irreflexive (rank i)) cut (groupIn groups) ties)
+
+-- For the caller: the rows that are found are the picks, where the class is cut,
+pub found-are-picks : (s : State) (k : ℕ) {n class left : ℕ} {keys groups found : List ℕ} → length (rowsIn s) ≡ n → KeysAre s keys →
+    IsCut (keyIn keys) n k class left → GroupsAre s keys class groups →
+    found ≡ those (inCut (keyIn keys) (groupIn groups) n class left) n → found ≡ picksIn s k
+found-are-picks s k {n} {class} {left} {keys} {groups} all keyed cut grouped found =
+    found ∙ rw (← all) (cut-picks s k keys groups class left keyed (rw all cut) (λ _. grouped))
+
+-- and where it is not.
+pub whole-are-picks : (s : State) (k : ℕ) {n class left : ℕ} {keys found : List ℕ} → length (rowsIn s) ≡ n → KeysAre s keys →
+    IsCut (keyIn keys) n k class left → left ≡ 0 → found ≡ those (λ i. ltb (keyIn keys i) class) n → found ≡ picksIn s k
+unfolding inCut
+whole-are-picks s k {n} {class} {left} {keys} all keyed cut none found =
+    found
+    ∙ (same-list (λ i. ltb (keyIn keys i) class) (inCut (keyIn keys) (groupIn []) n class left) n (λ i l. sym (only-before i))
+    ∙ rw (← all) (cut-picks s k keys [] class left keyed (rw all cut) (λ some. absurd (omega (arith, none)))))
+  where
+    and-false : (b : Bool) → b && false ≡ false
+    and-false true = refl
+    and-false false = refl
+
+    only-before : (i : ℕ) → inCut (keyIn keys) (groupIn []) n class left i ≡ ltb (keyIn keys i) class
+    only-before i =
+        rw (le-ltb (howMany (λ j. tied (keyIn keys) (groupIn []) j i) n) left (omega (arith, none)))
+        (ap (λ b. ltb (keyIn keys i) class || b) (and-false (not (ltb class (keyIn keys i)))) ∙ or-false (ltb (keyIn keys i) class))

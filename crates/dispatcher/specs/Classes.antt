@@ -1,6 +1,6 @@
 -- How the choice goes about it: rows of the same deadline and bit form a class. What its functions promise one another; that it picks as
 -- PD2 does is proved.
-use Prim.Native.Nat.{ℕ, _+_, _-_, _*_, _%_, _≤_, _<_}
+use Prim.Native.Nat.{ℕ, _+_, _-_, _*_, _%_, _≤_, _<_, min}
 use mathlib.Core.Path.{_≡_}
 use mathlib.Core.List.{List}
 use mathlib.Core.Bool.{Bool, true, cond, not, _&&_, _||_}
@@ -29,21 +29,20 @@ pub record KeysAre (s : State) (keys : List ℕ) : Type 0 where
   pub each : (i : ℕ) → i < length (rowsIn s) → keyIn keys i ≡ keyOf (rowAt (rowsIn s) i) (quantaAt (quantaIn s) i) (timeOf s)
   pub low : (i : ℕ) → i < length (rowsIn s) → ready (rowAt (rowsIn s) i) (quantaAt (quantaIn s) i) (timeOf s) ≡ true → keyIn keys i < most
 
--- The first class among the keys from `past` on, of n rows: its key and how many rows it has; the largest number where there is none.
-pub record NextClass (key : ℕ → ℕ) (past n class rows : ℕ) : Type 0 where
-  pub range : class ≤ most
-  pub from : past ≤ class
-  pub least : (i : ℕ) → i < n → past ≤ key i → class ≤ key i
-  pub number : rows ≡ howMany (λ i. eqb (key i) class) n
-  pub some : class < most → 0 < rows
-  pub few : rows ≤ n
+-- Keys that do not fall.
+abbrev pub Rises : ℕ → List ℕ → Type 0
+Rises k best = (i j : ℕ) → i ≤ j → j < k → keyIn best i ≤ keyIn best j
 
--- the class with one key more
-abbrev pub nextKey : ℕ → ℕ → ℕ → ℕ
-nextKey class past key = cond (ltb key past) class (cond (ltb key class) key class)
+-- The k smallest of the keys of n rows, in order: below every number lie as many of them as of the keys, but no more than k.
+pub record Smallest (key : ℕ → ℕ) (n k : ℕ) (best : List ℕ) : Type 0 where
+  pub rises : Rises k best
+  pub counts : (v : ℕ) → v ≤ most → howMany (λ j. ltb (keyIn best j) v) k ≡ min k (howMany (λ i. ltb (key i) v) n)
 
-abbrev pub nextRows : ℕ → ℕ → ℕ → ℕ → ℕ
-nextRows class rows past key = cond (ltb key past) rows (cond (ltb key class) 1 (cond (ltb class key) rows (rows + 1)))
+-- The same with one key more.
+pub record OneKeyMore (k : ℕ) (best : List ℕ) (key : ℕ) (after : List ℕ) : Type 0 where
+  pub rises : Rises k after
+  pub counts : (v : ℕ) →
+      howMany (λ j. ltb (keyIn after j) v) k ≡ min k (howMany (λ j. ltb (keyIn best j) v) k + cond (ltb key v) 1 0)
 
 -- where k picks of n rows end: all rows before the class and `left` of the class fit, and more do not
 pub record IsCut (key : ℕ → ℕ) (n k class left : ℕ) : Type 0 where
@@ -52,10 +51,6 @@ pub record IsCut (key : ℕ → ℕ) (n k class left : ℕ) : Type 0 where
   pub fits : howMany (λ i. ltb (key i) class) n + left ≤ k
   pub full : (i : ℕ) → i < n → class ≤ key i → key i < most → howMany (λ i. ltb (key i) class) n + left ≡ k
   pub crowded : (i : ℕ) → i < n → class < key i → key i < most → left ≤ howMany (λ i. eqb (key i) class) n
-
--- the class whose group deadlines are asked for
-abbrev pub askedOf : ℕ → ℕ → ℕ
-askedOf class left = cond (eqb left 0) most class
 
 -- the group deadline of a row in a class with b = 1, else 0
 unfoldable pub groupOf : Row → ℕ → ℕ → ℕ → ℕ

@@ -2,11 +2,14 @@
 use Prim.Native.Nat.{ℕ, _≤_, _<_}
 use mathlib.Core.Path.{_≡_}
 use mathlib.Core.List.{List}
-use mathlib.Core.Bool.{Bool, true, false}
+use mathlib.Core.Bool.{Bool, true, false, not, _&&_, _||_}
+use lib.Dec.{ltb}
 use lib.ListN.{length, getD}
 use Rattle.counts.specs.Limits.{timeLimit}
 use Rattle.table.specs.declared.Row.{Row}
 use Rattle.table.specs.Limits.{rowLimit}
+use Rattle.table.specs.Value.{faultOf}
+use Rattle.pd2.specs.Share.{within}
 use Rattle.pd2.specs.Choice.{rowAt, quantaAt}
 use Rattle.dispatcher.specs.declared.State.{State}
 use Rattle.dispatcher.specs.State.{rowsIn, quantaIn, timeOf}
@@ -23,6 +26,16 @@ pub record InPlace (s : State) : Type 0 where
   pub few : s .table .count ≤ rowLimit
   pub all : length (rowsIn s) ≡ s .table .count
   pub long : length (s .quanta) ≡ rowLimit
+
+-- A state whose rows can be judged: its table has no fault and stands in its array, and its time is within the limit.
+pub record CanJudge (s : State) : Type 0 where
+  pub place : InPlace s
+  pub sound : faultOf (s .table) ≡ 0
+  pub time : timeOf s ≤ timeLimit
+
+-- A row that breaks a state: its quanta exceed the time, or it is outside its share and the state is not stopped.
+abbrev pub brokenRow : Bool → ℕ → Row → ℕ → Bool
+brokenRow stopped time row q = ltb time q || (not stopped && not (within row q time))
 
 -- A state whose rows are all usable.
 pub record Usable (s : State) : Type 0 where

@@ -9,6 +9,7 @@ use windows::Moment;
 ghost use mathlib.Core.Path.{_≡_};
 ghost use Prim.Native.Nat.{_≤_, _<_};
 ghost use mathlib.Core.Bool.{true};
+ghost use lib.Dec.{ltb};
 ghost use Rattle.pd2.specs.Ready.{ready};
 ghost use Rattle.trace.specs.Record.{marked};
 ghost use Rattle.dispatcher.specs.Slot.{picksIn};
@@ -19,11 +20,10 @@ ghost use Rattle.dispatcher.specs.Classes.{
   keyOf,
   keyIn,
   KeysAre,
-  NextClass,
-  nextKey,
-  nextRows,
+  Rises,
+  Smallest,
+  OneKeyMore,
   IsCut,
-  askedOf,
   groupOf,
   groupIn,
   GroupsAre,
@@ -34,12 +34,6 @@ ghost use Rattle.dispatcher.specs.Classes.{
 
 // The key of a row that is not ready: it lies past all others.
 const NOT_READY: u64 = 18_446_744_073_709_551_615;
-
-// The class that goes first among those from some key on: its key, and how many rows it has.
-struct Class {
-    key: u64,
-    rows: u8,
-}
 
 // Where the picks end: all rows before the class are picked, and so many of the class are left to be.
 struct Cut {
@@ -56,15 +50,17 @@ struct Standing {
 
 // The rows picked with k cores free, as marks.
 pub(crate) fn picks(state: State, k: u8) -> [bool; 32]
-    requires { ⌜ Usable state ⌝ }
+    requires { ⌜ Usable state × (k ≤ 8) ⌝ }
     ensures { λ r. ⌜ marked r ≡ picksIn state k ⌝ }
 {
     let keys = keys(state);
-    let table = state.table;
-    let n = table.count as usize;
-    let cut = cut_at(keys, n, k);
-    let groups = groups(state, keys, asked(cut));
-    marks(keys, groups, n, cut)
+    let n = state.table.count as usize;
+    let cut = cut_at(&keys, n, k);
+    if cut.left == 0 {
+        return whole_classes(&keys, n, cut.class);
+    }
+    let groups = groups(state, &keys, cut.class);
+    marks(&keys, &groups, n, cut)
 }
 
 // The key of each row.
@@ -101,85 +97,109 @@ fn key(row: Row, given: Quanta, slot: Slot) -> u64
     2 * deadline.time() + (1 - bit) as u64
 }
 
-// Where k picks end.
-fn cut_at(keys: [u64; 32], n: usize, k: u8) -> Cut
-    requires { ⌜ n ≤ 32 ⌝ }
-    ensures { λ r. ⌜ IsCut (keyIn keys) n k (r .class) (r .left) ⌝ }
+// Where k picks end: in the class of the k-th key if one key more is of that class too, else behind it; past all keys if there are fewer.
+fn cut_at(keys: &[u64; 32], n: usize, k: u8) -> Cut
+    requires { ⌜ (n ≤ 32) × (k ≤ 8) ⌝ }
+    ensures { λ r. ⌜ IsCut (keyIn (now (keys .entry))) n k (r .class) (r .left) ⌝ }
 {
-    let mut past: u64 = 0;
-    let mut left = k;
-    while 0 < left {
-        let class = class_from(&keys, n, past);
-        if class.key == NOT_READY {
-            return Cut {
-                class: NOT_READY,
-                left: 0,
-            };
-        }
-        if left < class.rows {
-            return Cut {
-                class: class.key,
-                left,
-            };
-        }
-        past = class.key + 1;
-        left -= class.rows;
+    if k == 0 {
+        return Cut { class: 0, left: 0 };
     }
-    Cut {
-        class: past,
-        left: 0,
+    let places = k as usize;
+    let best = smallest(keys, n, places + 1);
+    let last = places - 1;
+    let class = best[last];
+    if class == NOT_READY {
+        return Cut {
+            class: NOT_READY,
+            left: 0,
+        };
     }
+    let behind = best[places];
+    if class < behind {
+        let past = class + 1;
+        return Cut {
+            class: past,
+            left: 0,
+        };
+    }
+    let left = k - below(&best, places, class);
+    Cut { class, left }
 }
 
-// The first class among the keys from `past` on.
-fn class_from(keys: &[u64; 32], n: usize, past: u64) -> Class
-    requires { ⌜ (n ≤ 32) × (past ≤ most) ⌝ }
-    ensures { λ r. ⌜ NextClass (keyIn (now (keys .entry))) past n (r .key) (r .rows) ⌝ }
+// The k smallest keys of n rows, in order: the largest number where there are fewer rows.
+fn smallest(keys: &[u64; 32], n: usize, k: usize) -> [u64; 9]
+    requires { ⌜ (n ≤ 32) × (0 < k) × (k ≤ 9) ⌝ }
+    ensures { λ r. ⌜ Smallest (keyIn (now (keys .entry))) n k r ⌝ }
 {
-    let mut class = Class {
-        key: NOT_READY,
-        rows: 0,
-    };
+    let mut best = [NOT_READY; 9];
     let mut i: usize = 0;
     while i < n {
         let key = keys[i];
-        class = with_key(class, key, past);
+        with_key(&mut best, k, key);
         i += 1;
     }
-    class
+    best
 }
 
-// The class with one key more.
-fn with_key(class: Class, key: u64, past: u64) -> Class
-    requires { ⌜ class .rows < 32 ⌝ }
-    ensures { λ r. ⌜ (r .key ≡ nextKey (class .key) past key) × (r .rows ≡ nextRows (class .key) (class .rows) past key) ⌝ }
+// The k smallest with one key more: each place keeps the smaller, and the larger is carried on; what is carried past the last is
+// dropped. A key that is no smaller than the last is dropped at once.
+fn with_key(best: &mut [u64; 9], k: usize, key: u64)
+    requires { ⌜ (0 < k) × (k ≤ 9) × Rises k (now best) ⌝ }
+    ensures { λ _. ⌜ OneKeyMore k (now (best .entry)) key (now (best .exit)) ⌝ }
 {
-    if key < past {
-        return class;
+    let last = k - 1;
+    if best[last] <= key {
+        return;
     }
-    if key < class.key {
-        return Class { key, rows: 1 };
-    }
-    if class.key < key {
-        return class;
-    }
-    Class {
-        key,
-        rows: class.rows + 1,
+    let mut carried = key;
+    let mut j: usize = 0;
+    while j < k {
+        let kept = best[j];
+        if carried < kept {
+            best[j] = carried;
+            carried = kept;
+        }
+        j += 1;
     }
 }
 
-// The class whose group deadlines are asked for: none if no row of it is left to be picked.
-fn asked(cut: Cut) -> u64
-    ensures { λ r. ⌜ r ≡ askedOf (cut .class) (cut .left) ⌝ }
+// How many of the k smallest lie below the class.
+fn below(best: &[u64; 9], k: usize, class: u64) -> u8
+    requires { ⌜ k ≤ 9 ⌝ }
+    ensures { λ r. ⌜ (r ≡ howMany (λ j. ltb (keyIn (now (best .entry)) j) class) k) × (r ≤ k) ⌝ }
 {
-    if cut.left == 0 { NOT_READY } else { cut.class }
+    let mut count: u8 = 0;
+    let mut j: usize = 0;
+    while j < k {
+        let key = best[j];
+        if key < class {
+            count += 1;
+        }
+        j += 1;
+    }
+    count
+}
+
+// The rows before a class: all that are picked where none of the class is.
+fn whole_classes(keys: &[u64; 32], n: usize, class: u64) -> [bool; 32]
+    requires { ⌜ n ≤ 32 ⌝ }
+    ensures { λ r. ⌜ marked r ≡ those (λ i. ltb (keyIn (now (keys .entry)) i) class) n ⌝ }
+{
+    let mut marks = [false; 32];
+    let mut i: usize = 0;
+    while i < n {
+        let key = keys[i];
+        marks[i] = key < class;
+        i += 1;
+    }
+    marks
 }
 
 // The group deadlines of the rows of the class, 0 for all others.
-fn groups(state: State, keys: [u64; 32], class: u64) -> [u64; 32]
+fn groups(state: State, keys: &[u64; 32], class: u64) -> [u64; 32]
     requires { ⌜ Usable state ⌝ }
-    ensures { λ r. ⌜ GroupsAre state keys class r ⌝ }
+    ensures { λ r. ⌜ GroupsAre state (now (keys .entry)) class r ⌝ }
 {
     let mut groups = [0u64; 32];
     let table = state.table;
@@ -214,14 +234,14 @@ fn group(row: Row, given: Quanta, time: Slot, key: u64, class: u64) -> u64
 }
 
 // The rows that are picked, by where the picks end.
-fn marks(keys: [u64; 32], groups: [u64; 32], n: usize, cut: Cut) -> [bool; 32]
+fn marks(keys: &[u64; 32], groups: &[u64; 32], n: usize, cut: Cut) -> [bool; 32]
     requires { ⌜ n ≤ 32 ⌝ }
-    ensures { λ r. ⌜ marked r ≡ those (inCut (keyIn keys) (groupIn groups) n (cut .class) (cut .left)) n ⌝ }
+    ensures { λ r. ⌜ marked r ≡ those (inCut (keyIn (now (keys .entry))) (groupIn (now (groups .entry))) n (cut .class) (cut .left)) n ⌝ }
 {
     let mut marks = [false; 32];
     let mut i: usize = 0;
     while i < n {
-        marks[i] = is_picked(&keys, &groups, n, cut, i);
+        marks[i] = is_picked(keys, groups, n, cut, i);
         i += 1;
     }
     marks

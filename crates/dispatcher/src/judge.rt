@@ -1,8 +1,14 @@
 // Whether a state is broken.
 use crate::State;
+use counts::Quanta;
+use counts::Slot;
+use table::Row;
 ghost use mathlib.Core.Path.{_≡_};
-ghost use Rattle.dispatcher.specs.Broken.{someRow, exceeds, outsideShare, broken};
-ghost use Rattle.dispatcher.specs.Usable.{InPlace, Usable};
+ghost use Prim.Native.Nat.{_≤_};
+ghost use Rattle.counts.specs.Limits.{timeLimit};
+ghost use Rattle.pd2.specs.Share.{CanBe};
+ghost use Rattle.dispatcher.specs.Broken.{someRow, broken};
+ghost use Rattle.dispatcher.specs.Usable.{CanJudge, brokenRow};
 
 // Whether the state is broken. The state may be wild: only what passed is looked at further.
 pub(crate) fn is_broken(state: State) -> bool
@@ -14,38 +20,13 @@ pub(crate) fn is_broken(state: State) -> bool
     if counts::TIME_LIMIT < state.time.time() {
         return true;
     }
-    if exceeds_time(state) {
-        return true;
-    }
-    if state.stopped {
-        return false;
-    }
-    is_outside_share(state)
+    has_broken_row(state)
 }
 
-// Whether some row's quanta exceed the time.
-fn exceeds_time(state: State) -> bool
-    requires { ⌜ InPlace state ⌝ }
-    ensures { λ r. ⌜ r ≡ someRow state (exceeds state) ⌝ }
-{
-    let table = state.table;
-    let n = table.count as usize;
-    let time = state.time.time();
-    let mut i: usize = 0;
-    while i < n {
-        let given = state.quanta[i];
-        if time < given.count() {
-            return true;
-        }
-        i += 1;
-    }
-    false
-}
-
-// Whether some row is outside its share.
-fn is_outside_share(state: State) -> bool
-    requires { ⌜ Usable state ⌝ }
-    ensures { λ r. ⌜ r ≡ someRow state (outsideShare state) ⌝ }
+// Whether some row breaks the state.
+fn has_broken_row(state: State) -> bool
+    requires { ⌜ CanJudge state ⌝ }
+    ensures { λ r. ⌜ r ≡ someRow state (brokenRow (state .stopped) (state .time .0)) ⌝ }
 {
     let table = state.table;
     let n = table.count as usize;
@@ -53,11 +34,25 @@ fn is_outside_share(state: State) -> bool
     while i < n {
         let row = table.rows[i];
         let given = state.quanta[i];
-        let verdict = pd2::within(row, given, state.time);
-        if !verdict.is_yes() {
+        if is_broken_row(row, given, state.time, state.stopped) {
             return true;
         }
         i += 1;
     }
     false
+}
+
+// Whether a row's quanta exceed the time, or it is outside its share and the state is not stopped.
+fn is_broken_row(row: Row, given: Quanta, time: Slot, stopped: bool) -> bool
+    requires { ⌜ CanBe row × (time .0 ≤ timeLimit) ⌝ }
+    ensures { λ r. ⌜ r ≡ brokenRow stopped (time .0) row (given .0) ⌝ }
+{
+    if time.time() < given.count() {
+        return true;
+    }
+    if stopped {
+        return false;
+    }
+    let verdict = pd2::within(row, given, time);
+    !verdict.is_yes()
 }

@@ -2,7 +2,7 @@
 use Prim.Native.Nat.{ℕ, zero, suc, _+_, _≤_, _<_}
 use mathlib.Core.Path.{_≡_, refl, sym, ap, _∙_}
 use mathlib.Core.List.{List, [], _∷_, _++_, append-nil}
-use mathlib.Core.Bool.{Bool, true, false, cond, _||_, true≢false}
+use mathlib.Core.Bool.{Bool, true, false, cond, _&&_, _||_, true≢false}
 use mathlib.Core.Logic.{_⊎_, inl, inr}
 use lib.ListN.{length, getD, length-append, List·getD-append}
 use lib.Seq.{getD-append-seam}
@@ -13,6 +13,7 @@ use borrow.Author.Tests.{lt-ltb, le-ltb}
 use lib.Dec.{ltb}
 use Rattle.facts.specs.Counting.{howMany, those, some}
 use Rattle.facts.specs.First.{Lowest}
+use Rattle.facts.proofs.Tests.{or-true}
 
 -- What passes is counted and listed,
 pub counted-if-passed : (a : ℕ → Bool) (n : ℕ) → a n ≡ true → howMany a (n + 1) ≡ howMany a n + 1
@@ -319,6 +320,41 @@ module _ (a : ℕ → Bool) (n : ℕ) where
   -- and ends with the count of all.
   pub counted-all : {count i : ℕ} → Counted a n count i → n ≤ i → count ≡ howMany a n
   counted-all so h = so .number ∙ ap (howMany a) (omega (arith, so .within))
+
+-- One number more is counted if it passes,
+pub counted-one-more : (a : ℕ → Bool) (n : ℕ) → howMany a (n + 1) ≡ howMany a n + cond (a n) 1 0
+counted-one-more a n = go (a n) refl
+  where
+    go : (t : Bool) → a n ≡ t → howMany a (n + 1) ≡ howMany a n + cond t 1 0
+    go true e = counted-if-passed a n e
+    go false e = uncounted-if-failed a n e ∙ omega arith
+
+-- of n numbers no more than n pass,
+pub no-more-than-all : (a : ℕ → Bool) (n : ℕ) → howMany a n ≤ n
+no-more-than-all a n = omega (arith, counts-no-more a (λ i. ltb i n) n (λ i l h. lt-ltb i n l), how-many-below n n (omega arith))
+
+-- and just n if each does.
+pub all-counted : (a : ℕ → Bool) (n : ℕ) → ((i : ℕ) → i < n → a i ≡ true) → howMany a n ≡ n
+all-counted a n h = same-count a (λ i. ltb i n) n (λ i l. h i l ∙ sym (lt-ltb i n l)) ∙ how-many-below n n (omega arith)
+
+-- Some pass one of two tests exactly if some pass the first, or some the second,
+pub some-either : (a b : ℕ → Bool) (n : ℕ) → some (λ i. a i || b i) n ≡ some a n || some b n
+some-either a b n = go (some-or-none a n) (some-or-none b n)
+  where
+    either : ℕ → Bool
+    either i = a i || b i
+
+    go : ((i : ℕ) × (i < n) × (a i ≡ true)) ⊎ ((i : ℕ) → i < n → a i ≡ false) → ((i : ℕ) × (i < n) × (b i ≡ true)) ⊎ ((i : ℕ) → i < n → b i ≡ false) →
+        some either n ≡ some a n || some b n
+    go (inl x) y = some-if either n (x .0) (x .1) (rw (x .2) refl) ∙ sym (rw (some-if a n (x .0) (x .1) (x .2)) refl)
+    go (inr x) (inl y) =
+        some-if either n (y .0) (y .1) (rw (y .2) (or-true (a (y .0)))) ∙ sym (rw (none-if a n x, some-if b n (y .0) (y .1) (y .2)) refl)
+    go (inr x) (inr y) = none-if either n (λ i l. rw (x i l, y i l) refl) ∙ sym (rw (none-if a n x, none-if b n y) refl)
+
+-- and some pass a test that is made on a condition exactly if the condition holds and some pass it.
+pub some-where : (c : Bool) (a : ℕ → Bool) (n : ℕ) → some (λ i. c && a i) n ≡ c && some a n
+some-where true a n = refl
+some-where false a n = none-if (λ i. false) n (λ i l. refl)
 
 -- For a loop that looks for the lowest that passes: none of the first i does.
 pub record NoneYet (a : ℕ → Bool) (n i : ℕ) : Type 0 where

@@ -120,19 +120,20 @@ module _ (s : List ℕ) where
                 rows-are : rows ≡ tableIn s .rows
                 rows-are = rw (cores-is, count-is) at (r .content z₄)
 
-                sum-in : ltb (cores * cycle) (load cycle (take count rows)) ≡ ltb (coresIn s * cycleIn s) (load (cycleIn s) (map (rowAt s) (rowPlaces s)))
-                sum-in =
-                    rw (rows-are, cycle-is, count-is, cores-is)
-                    (ap (λ l. ltb (coresIn s * cycleIn s) (load (cycleIn s) l)) (first-are-read (rowAt s) zeroRow rowLimit (rowsPlace s) 9 (countIn s)))
+                module _ {sum : ℕ} (sum-is : sum ≡ load cycle (take count rows)) where
+                  sum-in : ltb (cores * cycle) sum ≡ ltb (coresIn s * cycleIn s) (load (cycleIn s) (map (rowAt s) (rowPlaces s)))
+                  sum-in =
+                      rw (sum-is, rows-are, cycle-is, count-is, cores-is)
+                      (ap (λ l. ltb (coresIn s * cycleIn s) (load (cycleIn s) l)) (first-are-read (rowAt s) zeroRow rowLimit (rowsPlace s) 9 (countIn s)))
 
-                pub sum-refused : ltb (cores * cycle) (load cycle (take count rows)) ≡ true → refusedWith 22 ≡ reading s
-                unfolding firstMet
-                sum-refused h = is-refused s (by-last (simp (le-ltb _ _ ended, sym sum-in ∙ h))) (λ z. omega arith)
+                  pub sum-refused : ltb (cores * cycle) sum ≡ true → refusedWith 22 ≡ reading s
+                  unfolding firstMet
+                  sum-refused h = is-refused s (by-last (simp (le-ltb _ _ ended, sym sum-in ∙ h))) (λ z. omega arith)
 
-                pub is-read : ltb (cores * cycle) (load cycle (take count rows)) ≡ false →
-                    _≡_ {A = Reading} (record { number = 0; table = record { cycle = cycle; cores = cores; boards = boards; count = count; rows = rows } }) (reading s)
-                unfolding firstMet
-                is-read h =
-                    let boards-are : boards ≡ tableIn s .boards = rw cores-is at (b .content z₂) in
-                    is-taken s (by-last (simp (le-ltb _ _ ended, sym sum-in ∙ h)))
-                    (λ k. record { cycle = cycle-is k; cores = cores-is k; boards = boards-are k; count = count-is k; rows = rows-are k })
+                  pub is-read : ltb (cores * cycle) sum ≡ false →
+                      _≡_ {A = Reading} (record { number = 0; table = record { cycle = cycle; cores = cores; boards = boards; count = count; rows = rows } }) (reading s)
+                  unfolding firstMet
+                  is-read h =
+                      let boards-are : boards ≡ tableIn s .boards = rw cores-is at (b .content z₂) in
+                      is-taken s (by-last (simp (le-ltb _ _ ended, sym sum-in ∙ h)))
+                      (λ k. record { cycle = cycle-is k; cores = cores-is k; boards = boards-are k; count = count-is k; rows = rows-are k })

@@ -117,7 +117,8 @@ taken-value-has-no-fault s h =
     (few s (each .2))
     (rw (first-are-read (rowAt s) zeroRow rowLimit (rowsPlace s) 9 (countIn s))
     (passes-as-read (rowTestsIn s (cycleIn s)) (rowTests (cycleIn s)) tankAbove (rowAt s) (row-as-read s (cycleIn s)) 0 (rowPlaces s) (each .3)))
-    (rw (first-are-read (rowAt s) zeroRow rowLimit (rowsPlace s) 9 (countIn s)) (within s (each .4))))
+    (sym (ap (load (cycleIn s)) (first-are-read (rowAt s) zeroRow rowLimit (rowsPlace s) 9 (countIn s))))
+    (within s (each .4)))
 
 pub taken-has-no-fault : TakenHasNoFault
 taken-has-no-fault s h =

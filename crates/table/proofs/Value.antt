@@ -63,10 +63,11 @@ module _ (t : Table) where
           unfolding faultOf
           by-sum e = decides-5 (sizeTests t) (boardsTests t) (countTests t) (rowsTests t) (sumTests t) sizes-pass boards count-passes rows e
 
-          pub sum-is-fault : ltb (t .cores * t .cycle) (load (t .cycle) (rowsOf t)) ≡ true → 22 ≡ faultOf t
-          unfolding firstMet
-          sum-is-fault h = by-sum (simp h)
+          module _ {sum : ℕ} (sum-is : sum ≡ load (t .cycle) (rowsOf t)) where
+            pub sum-is-fault : ltb (t .cores * t .cycle) sum ≡ true → 22 ≡ faultOf t
+            unfolding firstMet
+            sum-is-fault h = by-sum (rw (← sum-is) (simp h))
 
-          pub no-fault : ltb (t .cores * t .cycle) (load (t .cycle) (rowsOf t)) ≡ false → 0 ≡ faultOf t
-          unfolding firstMet
-          no-fault h = by-sum (simp h)
+            pub no-fault : ltb (t .cores * t .cycle) sum ≡ false → 0 ≡ faultOf t
+            unfolding firstMet
+            no-fault h = by-sum (rw (← sum-is) (simp h))

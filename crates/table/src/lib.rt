@@ -4,10 +4,8 @@ mod head;
 mod rows;
 
 ghost use mathlib.Core.Path.{_≡_};
-ghost use Prim.Native.Nat.{_*_, _≤_};
+ghost use Prim.Native.Nat.{_*_};
 ghost use lib.Dec.{ltb};
-ghost use lib.ListN.{take};
-ghost use Rattle.table.specs.Causes.{load};
 ghost use Rattle.table.specs.Value.{faultOf};
 ghost use Rattle.table.specs.Bytes.{reading};
 ghost use Rattle.table.specs.Parts.{refusedWith};
@@ -53,10 +51,17 @@ struct BoardsRead {
     boards: [u8; 8],
 }
 
-// The rows that were read, or the number of the first fault met.
+// The rows that were read and the quanta that they take in a cycle, or the number of the first fault met.
 struct RowsRead {
     number: u8,
     rows: [Row; 32],
+    sum: u64,
+}
+
+// The first fault of rows, or 0 and the quanta that they take in a cycle.
+struct RowsJudged {
+    number: u8,
+    sum: u64,
 }
 
 // The table in these bytes, or the number of the first fault met.
@@ -90,11 +95,11 @@ pub fn read(bytes: &[u8]) -> Reading
     if at + 1 + 9 * n < bytes.len() {
         return refused(21);
     }
-    let rows = rows_read.rows;
-    if is_overfull(cores, cycle, rows, n) {
+    if is_overfull(cores, cycle, rows_read.sum) {
         return refused(22);
     }
     let boards = boards_read.boards;
+    let rows = rows_read.rows;
     let table = Table {
         cycle,
         cores,
@@ -128,11 +133,11 @@ pub fn fault(table: Table) -> u8
     }
     let n = count as usize;
     let rows = table.rows;
-    let row_fault = rows::fault(rows, n, cycle);
-    if row_fault != 0 {
-        return row_fault;
+    let judged = rows::judge(rows, n, cycle);
+    if judged.number != 0 {
+        return judged.number;
     }
-    if is_overfull(cores, cycle, rows, n) {
+    if is_overfull(cores, cycle, judged.sum) {
         return 22;
     }
     0
@@ -155,11 +160,10 @@ fn refused(number: u8) -> Reading
     Reading { number, table }
 }
 
-// Whether the first n rows take more quanta in a cycle than the cores have: their sum is above M·L.
-fn is_overfull(cores: u8, cycle: u32, rows: [Row; 32], n: usize) -> bool
-    requires { ⌜ n ≤ 32 ⌝ }
-    ensures { λ r. ⌜ r ≡ ltb (cores * cycle) (load cycle (take n rows)) ⌝ }
+// Whether the quanta that rows take in a cycle are more than the cores have: their sum is above M·L.
+fn is_overfull(cores: u8, cycle: u32, sum: u64) -> bool
+    ensures { λ r. ⌜ r ≡ ltb (cores * cycle) sum ⌝ }
 {
     let quanta = (cores as u64) * (cycle as u64);
-    quanta < rows::sum(rows, n, cycle)
+    quanta < sum
 }

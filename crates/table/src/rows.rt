@@ -2,6 +2,7 @@
 use crate::Cursor;
 use crate::Row;
 use crate::RowRead;
+use crate::RowsJudged;
 use crate::RowsRead;
 ghost use mathlib.Core.Path.{_≡_};
 ghost use Prim.Native.Nat.{_+_, _*_, _/_, _≤_, _<_};
@@ -12,14 +13,15 @@ ghost use Rattle.table.specs.Causes.{rowTests, tankAbove, load, zeroRow}
 ghost use Rattle.table.specs.Bytes.{rowAt};
 ghost use Rattle.table.specs.Parts.{numberOf, rowReadIn, RowsAnswer};
 
-// The n rows that begin at place `at`.
+// The n rows that begin at place `at`, and their sum. Each row is gone over once: it is read, tested and added.
 pub(crate) fn read(bytes: &[u8], at: usize, n: usize, cycle: u32) -> RowsRead
     requires { ⌜ n ≤ 32 ⌝ }
-    ensures { λ r. ⌜ RowsAnswer (now (bytes .entry)) cycle at n (r .number) (r .rows) ⌝ }
+    ensures { λ r. ⌜ RowsAnswer (now (bytes .entry)) cycle at n (r .number) (r .rows) × (r .number ≡ 0 → r .sum ≡ load cycle (take n (r .rows))) ⌝ }
 {
     let zero = zero();
     let mut rows = [zero; 32];
     let mut cursor = Cursor { at };
+    let mut sum: u64 = 0;
     let mut least: u32 = 0;
     let mut i: usize = 0;
     while i < n {
@@ -28,14 +30,20 @@ pub(crate) fn read(bytes: &[u8], at: usize, n: usize, cycle: u32) -> RowsRead
             return RowsRead {
                 number: number(got),
                 rows,
+                sum,
             };
         };
         rows[i] = row;
+        sum += quanta_of(row, cycle);
         least = above(row);
         cursor = past;
         i += 1;
     }
-    RowsRead { number: 0, rows }
+    RowsRead {
+        number: 0,
+        rows,
+        sum,
+    }
 }
 
 // The row at the cursor with the place past it, or its first fault.
@@ -86,23 +94,25 @@ fn row_at(bytes: &[u8], at: usize) -> Row
     }
 }
 
-// The first fault 16 to 20 of the first n rows, or 0.
-pub(crate) fn fault(rows: [Row; 32], n: usize, cycle: u32) -> u8
+// The first fault 16 to 20 of the first n rows, or 0 and their sum. Each row is gone over once: it is tested and added.
+pub(crate) fn judge(rows: [Row; 32], n: usize, cycle: u32) -> RowsJudged
     requires { ⌜ n ≤ 32 ⌝ }
-    ensures { λ r. ⌜ r ≡ firstMet (rising (rowTests cycle) tankAbove 0 (take n rows)) ⌝ }
+    ensures { λ r. ⌜ (r .number ≡ firstMet (rising (rowTests cycle) tankAbove 0 (take n rows))) × (r .number ≡ 0 → r .sum ≡ load cycle (take n rows)) ⌝ }
 {
+    let mut sum: u64 = 0;
     let mut least: u32 = 0;
     let mut i: usize = 0;
     while i < n {
         let row = rows[i];
         let number = fault_of(cycle, least, row);
         if number != 0 {
-            return number;
+            return RowsJudged { number, sum };
         }
+        sum += quanta_of(row, cycle);
         least = above(row);
         i += 1;
     }
-    0
+    RowsJudged { number: 0, sum }
 }
 
 // The least tank that may stand after a row.
@@ -132,21 +142,6 @@ fn fault_of(cycle: u32, least: u32, row: Row) -> u8
         return 20;
     }
     0
-}
-
-// The quanta that the first n rows take in a cycle.
-pub(crate) fn sum(rows: [Row; 32], n: usize, cycle: u32) -> u64
-    requires { ⌜ n ≤ 32 ⌝ }
-    ensures { λ r. ⌜ r ≡ load cycle (take n rows) ⌝ }
-{
-    let mut sum: u64 = 0;
-    let mut i: usize = 0;
-    while i < n {
-        let row = rows[i];
-        sum += quanta_of(row, cycle);
-        i += 1;
-    }
-    sum
 }
 
 // The quanta that a row takes in a cycle; 0 for a row of period 0.

@@ -194,6 +194,7 @@ fn group_deadline(e: u64, p: u64, o: Slot, i: Subtask) -> Slot
     if 2 * e <= p {
         return Slot::at(0);
     }
+    let mut start = window_start(e, p, o, i);
     let mut j = i;
     loop {
         let end = window_end(e, p, o, j);
@@ -202,11 +203,12 @@ fn group_deadline(e: u64, p: u64, o: Slot, i: Subtask) -> Slot
             break deadline;
         }
         if i.number() < j.number() {
-            let start = window_start(e, p, o, j);
             if deadline.since(start) == 3 {
                 break deadline.before();
             }
         }
+        // "The next start is d - b", and b is 1 here: no division for it.
+        start = deadline.before();
         j = j.next();
     }
 }

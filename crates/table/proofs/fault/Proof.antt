@@ -19,8 +19,8 @@ cores-passed c = sym (c .before .cores-are-outside .ensures) ∙ c .if2 .left
 boards-passed : (c : tie.Else3) → firstMet (boardsTests (c .before .before .before .before .before .before .before .args .table)) ≡ 0
 boards-passed c = sym (c .before .fault .ensures) ∙ c .if3 .left
 
-rows-passed : (c : tie.Else5) → firstMet (rowsTests (c .before .before .before .before .before .before .before .before .before .before .before .args .table)) ≡ 0
-rows-passed c = sym (c .before .fault2 .ensures) ∙ c .if5 .left
+rows-passed : (c : tie.Else5) → firstMet (rowsTests (c .before .before .before .before .before .before .before .before .before .before .before .before .args .table)) ≡ 0
+rows-passed c = sym (c .before .before .judge .ensures .0) ∙ c .if5 .left
 
 cycle-is-outside-requires : tie.Need-cycle-is-outside-requires
 cycle-is-outside-requires c κs = search needs
@@ -54,37 +54,40 @@ returns-4 c =
 cast-n : tie.Need-cast-n
 cast-n c = search needs
 
-fault-requires-2 : tie.Need-fault-requires-2
-fault-requires-2 c κs = c .before .if4 .left
+judge-requires : tie.Need-judge-requires
+judge-requires c κs = search needs
 
 returns-5 : tie.Need-returns-5
 returns-5 c =
-    let count = c .before .before .before in
+    let judged = c .before .before in
+    let count = judged .before .before in
     let boards = count .before in
     let cores = boards .before .before .before in
-    rows-are-fault _ (cycle-passed (cores .before .before)) (cores-passed cores) (boards-passed boards) (count .if4 .left) (c .before .fault2 .ensures) (c .if5 .taken)
+    rows-are-fault _ (cycle-passed (cores .before .before)) (cores-passed cores) (boards-passed boards) (count .if4 .left) (judged .judge .ensures .0) (c .if5 .taken)
 
 is-overfull-requires : tie.Need-is-overfull-requires
-is-overfull-requires c κs = c .before .before .before .if4 .left
+is-overfull-requires c κs = search needs
 
 returns-6 : tie.Need-returns-6
 returns-6 c =
     let sum = c .before in
     let rows = sum .before in
-    let count = rows .before .before .before in
+    let judged = rows .before .before in
+    let count = judged .before .before in
     let boards = count .before in
     let cores = boards .before .before .before in
-    sum-is-fault _ (cycle-passed (cores .before .before)) (cores-passed cores) (boards-passed boards) (count .if4 .left) (rows-passed rows)
+    sum-is-fault _ (cycle-passed (cores .before .before)) (cores-passed cores) (boards-passed boards) (count .if4 .left) (rows-passed rows) (judged .judge .ensures .1 (rows .if5 .left))
     (sym (sum .is-overfull .ensures) ∙ c .if6 .taken)
 
 returns-7 : tie.Need-returns-7
 returns-7 c =
     let sum = c .before in
     let rows = sum .before in
-    let count = rows .before .before .before in
+    let judged = rows .before .before in
+    let count = judged .before .before in
     let boards = count .before in
     let cores = boards .before .before .before in
-    no-fault _ (cycle-passed (cores .before .before)) (cores-passed cores) (boards-passed boards) (count .if4 .left) (rows-passed rows)
+    no-fault _ (cycle-passed (cores .before .before)) (cores-passed cores) (boards-passed boards) (count .if4 .left) (rows-passed rows) (judged .judge .ensures .1 (rows .if5 .left))
     (sym (sum .is-overfull .ensures) ∙ c .if6 .left)
 
 pub fault-spec : {M : Type 1} → statement M
@@ -100,7 +103,7 @@ fault-spec =
     returns-3
     returns-4
     cast-n
-    fault-requires-2
+    judge-requires
     returns-5
     is-overfull-requires
     returns-6

@@ -1,8 +1,5 @@
-use mathlib.Core.Path.{ap}
-use Prim.Native.Nat.{_*_}
 use native.Mathlib.Nat.{mul-le-mul}
 use native.Mathlib.Omega.{arith}
-use lib.Dec.{ltb}
 use borrow.Author.Needs.{needs}
 use Rattle.table.proofs.is_overfull.Statement.{statement}
 use Rattle.table.proofs.is_overfull.Tie as tie
@@ -10,11 +7,8 @@ use Rattle.table.proofs.is_overfull.Tie as tie
 mul-quanta : tie.Need-mul-quanta
 mul-quanta c = omega (arith, mul-le-mul {n₁ = c .args .cores} {m₁ = c .args .cycle} {n₂ = 255} {m₂ = 4_294_967_295} (omega arith) (omega arith))
 
-sum-requires : tie.Need-sum-requires
-sum-requires c κs = search needs
-
 returns : tie.Need-returns
-returns c = ap (ltb (c .before .args .cores * c .before .args .cycle)) (c .sum .ensures)
+returns c = search needs
 
 pub is-overfull-spec : {M : Type 1} → statement M
-is-overfull-spec = tie.close (tie.spec mul-quanta sum-requires returns)
+is-overfull-spec = tie.close (tie.spec mul-quanta returns)

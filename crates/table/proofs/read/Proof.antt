@@ -95,7 +95,7 @@ returns-5 c =
     let second = third .before in
     let boards = second .before .before in
     let first = boards .before .before .before in
-    c .refused5 .ensures ∙ rows-refused _ (head first) (boards .before .before .word .ensures) (boards .before .byte .ensures) (boards .read .ensures) (second .if2 .left) (third .if3 .left) (count .byte2 .ensures) (fourth .if4 .left) (rows .read2 .ensures) (c .before .if5 .taken)
+    c .refused5 .ensures ∙ rows-refused _ (head first) (boards .before .before .word .ensures) (boards .before .byte .ensures) (boards .read .ensures) (second .if2 .left) (third .if3 .left) (count .byte2 .ensures) (fourth .if4 .left) (rows .read2 .ensures .0) (c .before .if5 .taken)
 
 add-if6 : tie.Need-add-if6
 add-if6 c = omega (arith, c .before .before .before .before .before .before .before .before .before .byte .ok)
@@ -119,10 +119,10 @@ returns-6 c =
     let second = third .before in
     let boards = second .before .before in
     let first = boards .before .before .before in
-    c .refused6 .ensures ∙ after-refused _ (head first) (boards .before .before .word .ensures) (boards .before .byte .ensures) (boards .read .ensures) (second .if2 .left) (third .if3 .left) (count .byte2 .ensures) (fourth .if4 .left) (rows .read2 .ensures) (fifth .if5 .left) (c .before .if6 .taken)
+    c .refused6 .ensures ∙ after-refused _ (head first) (boards .before .before .word .ensures) (boards .before .byte .ensures) (boards .read .ensures) (second .if2 .left) (third .if3 .left) (count .byte2 .ensures) (fourth .if4 .left) (rows .read2 .ensures .0) (fifth .if5 .left) (c .before .if6 .taken)
 
 is-overfull-requires : tie.Need-is-overfull-requires
-is-overfull-requires c κs = c .before .before .before .before .before .if4 .left
+is-overfull-requires c κs = search needs
 
 refused-requires-7 : tie.Need-refused-requires-7
 refused-requires-7 c κs = search needs
@@ -130,7 +130,7 @@ refused-requires-7 c κs = search needs
 returns-7 : tie.Need-returns-7
 returns-7 c =
     let sum = c .before .before in
-    let sixth = sum .before .before in
+    let sixth = sum .before in
     let fifth = sixth .before in
     let rows = fifth .before .before in
     let fourth = rows .before in
@@ -140,12 +140,13 @@ returns-7 c =
     let boards = second .before .before in
     let first = boards .before .before .before in
     c .refused7 .ensures
-    ∙ sum-refused _ (head first) (boards .before .before .word .ensures) (boards .before .byte .ensures) (boards .read .ensures) (second .if2 .left) (third .if3 .left) (count .byte2 .ensures) (fourth .if4 .left) (rows .read2 .ensures) (fifth .if5 .left) (sixth .if6 .left) (sym (sum .is-overfull .ensures) ∙ c .before .if7 .taken)
+    ∙ sum-refused _ (head first) (boards .before .before .word .ensures) (boards .before .byte .ensures) (boards .read .ensures) (second .if2 .left) (third .if3 .left) (count .byte2 .ensures) (fourth .if4 .left) (rows .read2 .ensures .0) (fifth .if5 .left) (sixth .if6 .left) (rows .read2 .ensures .1 (fifth .if5 .left)) (sym (sum .is-overfull .ensures) ∙ c .before .if7 .taken)
 
 returns-8 : tie.Need-returns-8
 returns-8 c =
-    let sum = c .before .before in
-    let sixth = sum .before .before in
+    let seventh = c .before .before in
+    let sum = seventh .before in
+    let sixth = sum .before in
     let fifth = sixth .before in
     let rows = fifth .before .before in
     let fourth = rows .before in
@@ -154,7 +155,7 @@ returns-8 c =
     let second = third .before in
     let boards = second .before .before in
     let first = boards .before .before .before in
-    is-read _ (head first) (boards .before .before .word .ensures) (boards .before .byte .ensures) (boards .read .ensures) (second .if2 .left) (third .if3 .left) (count .byte2 .ensures) (fourth .if4 .left) (rows .read2 .ensures) (fifth .if5 .left) (sixth .if6 .left) (sym (sum .is-overfull .ensures) ∙ c .before .if7 .left)
+    is-read _ (head first) (boards .before .before .word .ensures) (boards .before .byte .ensures) (boards .read .ensures) (second .if2 .left) (third .if3 .left) (count .byte2 .ensures) (fourth .if4 .left) (rows .read2 .ensures .0) (fifth .if5 .left) (sixth .if6 .left) (rows .read2 .ensures .1 (fifth .if5 .left)) (sym (sum .is-overfull .ensures) ∙ seventh .if7 .left)
 
 pub read-spec : {M : Type 1} → statement M
 read-spec =

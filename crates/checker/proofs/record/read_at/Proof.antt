@@ -1,9 +1,9 @@
-use mathlib.Core.Path.{refl, subst}
+use mathlib.Core.Path.{_≡_, refl, subst}
 use Prim.Native.Nat.{_+_, _≤_}
 use native.Mathlib.Omega.{arith}
 use lib.ListN.{length, take, drop}
 use Rattle.trace.specs.Records.{freeAt, countAt, rowsAt, pastRecord}
-use Rattle.checker.specs.Walking.{NamedAre}
+use Rattle.checker.specs.Causes.{badRows}
 use Rattle.checker.proofs.Shape.{refuses, head-is-cut, cores-are-too-many, rows-are-too-many, rows-are-cut, rows-are-bad, record-is-read}
 use borrow.Author.Needs.{needs}
 use Rattle.checker.proofs.record.read_at.Statement.{statement}
@@ -28,11 +28,11 @@ few c = omega (arith, c .if3 .left, c .before .before .before .before .byte .ens
 rows-there : (c : tie.Else4) → let a = c .before .before .before .before .before .before .before .before in pastRecord (a .args .trace .now) (a .args .at) ≤ length (a .args .trace .now)
 rows-there c = omega (arith, c .if4 .left, c .before .before .before .before .byte2 .ensures, head (c .before .before .before .before .before .before))
 
--- the rows that were read are the record's
-are-named : (c : tie.After-rows-at) → let a = c .before .before .before .before .before .before .before .before .before in NamedAre (rowsAt (a .args .trace .now) (a .args .at)) (a .args .table .count) (c .rows-at .result .bad) (c .rows-at .result .marks)
+-- the rows that were judged are the record's
+are-named : (c : tie.After-are-bad) → let a = c .before .before .before .before .before .before .before .before .before in c .are-bad .result ≡ badRows (a .args .table .count) 0 (rowsAt (a .args .trace .now) (a .args .at))
 are-named c =
     let a = c .before .before .before .before .before .before .before .before .before in
-    subst (λ n. NamedAre (take n (drop (a .args .at + 2) (a .args .trace .now))) (a .args .table .count) (c .rows-at .result .bad) (c .rows-at .result .marks)) (c .before .before .before .before .before .byte2 .ensures) (c .rows-at .ensures)
+    subst (λ n. c .are-bad .result ≡ badRows (a .args .table .count) 0 (take n (drop (a .args .at + 2) (a .args .trace .now)))) (c .before .before .before .before .before .byte2 .ensures) (c .are-bad .ensures)
 
 returns : tie.Need-returns
 returns c =
@@ -81,8 +81,8 @@ returns-4 c =
     let a = c .before .before .before .before .before .before .before .before .before in
     refuses (a .args .table) (a .args .trace .now) (a .args .at) (c .refused4 .ensures) refl (rows-are-cut (a .args .table) (a .args .trace .now) (a .args .at) (head (c .before .before .before .before .before .before .before)) (cores (c .before .before .before)) (few (c .before .before)) (omega (arith, c .before .if4 .taken, c .before .before .before .before .before .byte2 .ensures, head (c .before .before .before .before .before .before .before))))
 
-rows-at-requires : tie.Need-rows-at-requires
-rows-at-requires c κs = search needs
+are-bad-requires : tie.Need-are-bad-requires
+are-bad-requires c κs = search needs
 
 refused-requires-5 : tie.Need-refused-requires-5
 refused-requires-5 c κs = search needs
@@ -92,13 +92,10 @@ returns-5 c =
     let a = c .before .before .before .before .before .before .before .before .before .before .before in
     refuses (a .args .table) (a .args .trace .now) (a .args .at) (c .refused5 .ensures) refl (rows-are-bad (a .args .table) (a .args .trace .now) (a .args .at) (head (c .before .before .before .before .before .before .before .before .before)) (cores (c .before .before .before .before .before)) (few (c .before .before .before .before)) (rows-there (c .before .before .before)) (a .pre .0) (are-named (c .before .before)) (c .before .if5 .taken))
 
-add-t11 : tie.Need-add-t11
-add-t11 c = search needs
-
 returns-6 : tie.Need-returns-6
 returns-6 c =
-    let a = c .before .before .before .before .before .before .before .before .before .before .before in
-    record-is-read (a .args .table) (a .args .trace .now) (a .args .at) (head (c .before .before .before .before .before .before .before .before .before)) (cores (c .before .before .before .before .before)) (few (c .before .before .before .before)) (rows-there (c .before .before .before)) (a .pre .0) (are-named (c .before .before)) (c .before .if5 .left) refl (omega (arith, c .before .before .before .before .before .before .before .byte2 .ensures))
+    let a = c .before .before .before .before .before .before .before .before .before .before in
+    record-is-read (a .args .table) (a .args .trace .now) (a .args .at) (head (c .before .before .before .before .before .before .before .before)) (cores (c .before .before .before .before)) (few (c .before .before .before)) (rows-there (c .before .before)) (a .pre .0) (are-named (c .before)) (c .if5 .left) refl (c .before .before .before .before .before .before .byte2 .ensures)
 
 pub read-at-spec : {M : Type 1} → statement M
 read-at-spec =
@@ -119,8 +116,7 @@ read-at-spec =
     sub-if4
     refused-requires-4
     returns-4
-    rows-at-requires
+    are-bad-requires
     refused-requires-5
     returns-5
-    add-t11
     returns-6)

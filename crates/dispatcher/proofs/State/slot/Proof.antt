@@ -6,6 +6,7 @@ use native.Mathlib.Omega.{arith}
 use lib.ListN.{take, length-map}
 use Rattle.facts.proofs.Lent.{lent-from, comes-back}
 use Rattle.counts.specs.Limits.{timeLimit}
+use Rattle.table.proofs.Taken.{sizes-are-within}
 use Rattle.trace.specs.declared.Stored.the-variants as stored
 use Rattle.trace.specs.Records.{names}
 use Rattle.dispatcher.specs.declared.State.{State}
@@ -91,7 +92,9 @@ returns-5 c =
     refused-gives (a .args .self) (a .args .k) (a .args .buffer .now) (a .args .place) (past-end (a .args .self) (a .args .k) (a .args .buffer .now) (a .args .place) (whole (c .before .before .before .before .before .before .before .before)) (c .before .before .before .before .before .before .before .if2 .left) (early (c .before .before .before .before .before)) (c .before .before .if4 .left) (c .before .if5 .taken)) answer.NoRoom refl (c .refused5 .ensures) refl
 
 picks-requires : tie.Need-picks-requires
-picks-requires c κs = usable (c .before .before .before .before)
+picks-requires c κs =
+    let within = sizes-are-within _ (is-whole _ (whole (c .before .before .before .before .before .before .before)) .table) in
+    (usable (c .before .before .before .before), omega (arith, within .1 .1, c .before .if4 .left))
 
 sub-write : tie.Need-sub-write
 sub-write c = search needs

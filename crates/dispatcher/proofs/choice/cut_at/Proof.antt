@@ -1,63 +1,81 @@
-use mathlib.Core.Path.{_≡_}
+use mathlib.Core.Path.{refl}
+use Prim.Native.Nat.{_-_, _<_}
 use native.Mathlib.Omega.{arith}
-use Rattle.dispatcher.specs.Classes.{keyIn}
-use Rattle.dispatcher.proofs.Cuts.{Taken, none-taken, ends-empty, ends-in-class, takes-class, ends-full}
+use lib.ListN.{getD}
+use borrow.Author.Needs.{needs}
+use mir.Syntax.{w64}
+use mir.Val.{Fits}
+use Rattle.counts.specs.Limits.{most}
+use Rattle.dispatcher.proofs.Cuts.{no-picks, all-picked, ends-behind-class, ends-in-class}
 use Rattle.dispatcher.proofs.choice.cut_at.Statement.{statement}
 use Rattle.dispatcher.proofs.choice.cut_at.Tie as tie
 
-abbrev Inv-loop : tie.InvT-loop
-Inv-loop n k keys past₀ left₀ past left = Taken (keyIn keys) n k past left
+returns : tie.Need-returns
+returns c = rw (c .if1 .taken) (no-picks _ _)
 
-abbrev μ-loop : tie.MeasureT-loop
-μ-loop n k keys past₀ left₀ past left = left
+add-smallest : tie.Need-add-smallest
+add-smallest c = search needs
 
-loop-holds : tie.Need-loop-holds Inv-loop μ-loop
-loop-holds c = none-taken _ _ _
+smallest-requires : tie.Need-smallest-requires
+smallest-requires c κs = search needs
 
-class-from-requires : tie.Need-class-from-requires Inv-loop μ-loop
-class-from-requires c κs = (c .before .before .before .pre, c .before .before .loop .inv .range)
+sub-last : tie.Need-sub-last
+sub-last c = search needs
 
-returns : tie.Need-returns Inv-loop μ-loop
-returns c = ends-empty _ _ _ (c .before .before .before .before .before .loop .inv) (c .before .before .class-from .ensures) (c .if1 .taken)
+mul-class : tie.Need-mul-class
+mul-class c = search needs
 
-returns-2 : tie.Need-returns-2 Inv-loop μ-loop
+array-read-class : tie.Need-array-read-class
+array-read-class c = search needs
+
+returns-2 : tie.Need-returns-2
 returns-2 c =
-    let next = c .before .before .before .before .class-from .ensures in
-    ends-in-class _ _ _ (c .before .before .before .before .before .before .before .loop .inv) next (omega (arith, next .range, c .before .before .if1 .left)) (c .if2 .taken)
+    all-picked _ _ (c .before .smallest .ensures) (omega (arith, c .before .before .if1 .left)) refl (c .if2 .taken)
 
-add-past : tie.Need-add-past Inv-loop μ-loop
-add-past c =
-    let next = c .before .before .before .before .before .class-from .ensures in
-    omega (arith, next .range, c .before .before .before .if1 .left)
+mul-behind : tie.Need-mul-behind
+mul-behind c = search needs
 
-loop-less : tie.Need-loop-less Inv-loop μ-loop
-loop-less c =
-    let next = c .before .before .before .before .before .before .class-from .ensures in
-    let some = next .some (omega (arith, next .range, c .before .before .before .before .if1 .left)) in
-    omega (arith, some, c .before .before .before .before .before .before .before .before .loop-test .taken)
+array-read-behind : tie.Need-array-read-behind
+array-read-behind c = search needs
 
-loop-again : tie.Need-loop-again Inv-loop μ-loop
-loop-again c =
-    let next = c .before .before .before .before .before .before .class-from .ensures in
-    takes-class _ _ _ (c .before .before .before .before .before .before .before .before .before .loop .inv) next (omega (arith, next .range, c .before .before .before .before .if1 .left)) (c .before .before .if2 .left)
+-- past the second test the class is one of rows that are ready
+low : (c : tie.Else2) → getD (c .before .smallest .result) (c .before .before .before .args .k - 1) 0 < most
+low c =
+    let range : Fits w64 (getD (c .before .smallest .result) (c .before .before .before .args .k - 1) 0) = search needs in
+    omega (arith, range, c .if2 .left)
 
-returns-3 : tie.Need-returns-3 Inv-loop μ-loop
+add-past : tie.Need-add-past
+add-past c = omega (arith, low (c .before))
+
+returns-3 : tie.Need-returns-3
 returns-3 c =
-    let a = c .before in
-    let e : a .loop .left ≡ 0 = omega (arith, c .loop-test .left) in
-    ends-full _ _ _ (rw (← e) (a .loop .inv))
+    ends-behind-class _ _ (c .before .before .smallest .ensures) (omega (arith, c .before .before .before .if1 .left)) refl (low (c .before)) (c .if3 .taken)
+
+below-requires : tie.Need-below-requires
+below-requires c κs = search needs
+
+sub-left : tie.Need-sub-left
+sub-left c = search needs
+
+returns-4 : tie.Need-returns-4
+returns-4 c =
+    ends-in-class _ _ (c .before .before .before .before .smallest .ensures) (omega (arith, c .before .before .before .before .before .if1 .left)) refl (low (c .before .before .before)) (c .below .ensures .0)
 
 pub cut-at-spec : {M : Type 1} → statement M
 cut-at-spec =
     tie.close
     (tie.spec
-    Inv-loop
-    μ-loop
-    loop-holds
-    class-from-requires
     returns
+    add-smallest
+    smallest-requires
+    sub-last
+    mul-class
+    array-read-class
     returns-2
+    mul-behind
+    array-read-behind
     add-past
-    loop-less
-    loop-again
-    returns-3)
+    returns-3
+    below-requires
+    sub-left
+    returns-4)

@@ -12,10 +12,10 @@ use Rattle.dispatcher.proofs.choice.groups.Statement.{statement}
 use Rattle.dispatcher.proofs.choice.groups.Tie as tie
 
 abbrev Inv-loop : tie.InvT-loop
-Inv-loop class state keys groups₀ table n i₀ groups i = Filled (λ j. groupOf (rowAt (rowsIn state) j) (quantaAt (quantaIn state) j) (keyIn keys j) class) 0 0 32 i groups
+Inv-loop keys class state groups₀ table n i₀ groups i = Filled (λ j. groupOf (rowAt (rowsIn state) j) (quantaAt (quantaIn state) j) (keyIn keys j) class) 0 0 32 i groups
 
 abbrev μ-loop : tie.MeasureT-loop
-μ-loop class state keys groups₀ table n i₀ groups i = n - i
+μ-loop keys class state groups₀ table n i₀ groups i = n - i
 
 cast-n : tie.Need-cast-n Inv-loop μ-loop
 cast-n c = search needs
@@ -38,15 +38,15 @@ element-copy-out-given c = search needs
 mul-key : tie.Need-mul-key Inv-loop μ-loop
 mul-key c = search needs
 
-array-read-key : tie.Need-array-read-key Inv-loop μ-loop
-array-read-key c = search needs
+element-copy-out-key : tie.Need-element-copy-out-key Inv-loop μ-loop
+element-copy-out-key c = search needs
 
 -- the row in question is one of the state's
 row-is : (c : tie.In-loop Inv-loop μ-loop) → c .before .loop .i < length (rowsIn (c .before .before .before .args .t1))
 row-is c = omega (arith, c .loop-test .taken, c .before .before .before .pre .place .all)
 
 group-requires : tie.Need-group-requires Inv-loop μ-loop
-group-requires c κs = usable-there _ (c .before .before .before .before .before .before .pre) _ (row-is (c .before .before .before)) _ _
+group-requires c κs = usable-there _ (c .before .before .before .before .before .before .before .pre) _ (row-is (c .before .before .before .before)) _ _
 
 mul-groups : tie.Need-mul-groups Inv-loop μ-loop
 mul-groups c = search needs
@@ -62,8 +62,8 @@ loop-less c = search needs
 
 loop-again : tie.Need-loop-again Inv-loop μ-loop
 loop-again c =
-    let a = c .before .before .before .before .before in
-    one-more-grouped _ (c .before .before .before .before .before .before .before .pre) _ _ (row-is (c .before .before .before .before)) (c .before .before .before .before .before .before .before .args .t2) (c .before .before .before .before .before .before .before .args .class) (a .loop .inv) (c .group .ensures)
+    let a = c .before .before .before .before .before .before .before .before in
+    one-more-grouped _ (a .pre) _ _ (row-is (c .before .before .before .before .before)) (a .args .keys .now) (a .args .class) (c .before .before .before .before .before .before .loop .inv) (c .group .ensures)
 
 returns : tie.Need-returns Inv-loop μ-loop
 returns c =
@@ -83,7 +83,7 @@ groups-spec =
     mul-given
     element-copy-out-given
     mul-key
-    array-read-key
+    element-copy-out-key
     group-requires
     mul-groups
     array-write-groups

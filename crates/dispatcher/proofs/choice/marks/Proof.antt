@@ -9,10 +9,10 @@ use Rattle.dispatcher.proofs.choice.marks.Statement.{statement}
 use Rattle.dispatcher.proofs.choice.marks.Tie as tie
 
 abbrev Inv-loop : tie.InvT-loop
-Inv-loop n cut keys groups marks₀ i₀ marks i = Filled (inCut (keyIn keys) (groupIn groups) n (cut .class) (cut .left)) false false 32 i marks × (i ≤ n)
+Inv-loop keys groups n cut marks₀ i₀ marks i = Filled (inCut (keyIn keys) (groupIn groups) n (cut .class) (cut .left)) false false 32 i marks × (i ≤ n)
 
 abbrev μ-loop : tie.MeasureT-loop
-μ-loop n cut keys groups marks₀ i₀ marks i = n - i
+μ-loop keys groups n cut marks₀ i₀ marks i = n - i
 
 loop-holds : tie.Need-loop-holds Inv-loop μ-loop
 loop-holds c = (filling-begins _ _ _ _, omega arith)
@@ -31,8 +31,8 @@ loop-less c = search needs
 
 loop-again : tie.Need-loop-again Inv-loop μ-loop
 loop-again c =
-    let l = c .before .before .before .loop-test .taken in
-    let a = c .before .before .before .before in
+    let l = c .before .loop-test .taken in
+    let a = c .before .before in
     (fills-one-more _ _ _ _ (a .loop .inv .0) (omega (arith, l, a .before .pre)) (c .is-picked .ensures), omega (arith, l))
 
 returns : tie.Need-returns Inv-loop μ-loop

@@ -1,29 +1,80 @@
-use mathlib.Core.Path.{_≡_, refl}
-use native.Mathlib.Omega.{arith}
-use borrow.Author.Tests.{lt-ltb, le-ltb}
+use mathlib.Core.Logic.{⊎-elim}
+use Prim.Native.Nat.{_-_}
 use borrow.Author.Needs.{needs}
+use Rattle.dispatcher.proofs.Cuts.{Carried, dropped, carrying-begins, gives-way, stays, carried-past}
 use Rattle.dispatcher.proofs.choice.with_key.Statement.{statement}
 use Rattle.dispatcher.proofs.choice.with_key.Tie as tie
 
-returns : tie.Need-returns
+abbrev Inv-loop : tie.InvT-loop
+Inv-loop best₀ k key last carried₀ j₀ best carried j = Carried k best₀ key best carried j
+
+abbrev μ-loop : tie.MeasureT-loop
+μ-loop best₀ k key last carried₀ j₀ best carried j = k - j
+
+sub-last : tie.Need-sub-last Inv-loop μ-loop
+sub-last c = search needs
+
+mul-if1 : tie.Need-mul-if1 Inv-loop μ-loop
+mul-if1 c = search needs
+
+element-copy-out-if1 : tie.Need-element-copy-out-if1 Inv-loop μ-loop
+element-copy-out-if1 c = search needs
+
+returns : tie.Need-returns Inv-loop μ-loop
 returns c =
-    rw (lt-ltb _ _ (c .if1 .taken)) (refl, refl)
+    let pre = c .before .before .pre in
+    dropped (pre .0) (pre .2) (c .if1 .taken)
 
-returns-2 : tie.Need-returns-2
-returns-2 c =
-    rw (le-ltb _ _ (c .before .before .if1 .left), lt-ltb _ _ (c .if2 .taken)) (refl, refl)
+loop-holds : tie.Need-loop-holds Inv-loop μ-loop
+loop-holds c = carrying-begins
 
-returns-3 : tie.Need-returns-3
-returns-3 c =
-    rw (le-ltb _ _ (c .before .before .before .before .if1 .left), le-ltb _ _ (c .before .before .if2 .left), lt-ltb _ _ (c .if3 .taken)) (refl, refl)
+mul-kept : tie.Need-mul-kept Inv-loop μ-loop
+mul-kept c = search needs
 
-add-t5 : tie.Need-add-t5
-add-t5 c = search needs
+element-copy-out-kept : tie.Need-element-copy-out-kept Inv-loop μ-loop
+element-copy-out-kept c = search needs
 
-returns-4 : tie.Need-returns-4
-returns-4 c =
-    let same : c .before .before .before .before .before .before .args .key ≡ c .before .before .before .before .before .before .args .class .key = omega (arith, c .before .before .before .if2 .left, c .before .if3 .left) in
-    rw (le-ltb _ _ (c .before .before .before .before .before .if1 .left), le-ltb _ _ (c .before .before .before .if2 .left), le-ltb _ _ (c .before .if3 .left)) (same, refl)
+mul-best : tie.Need-mul-best Inv-loop μ-loop
+mul-best c = search needs
+
+element-write-best : tie.Need-element-write-best Inv-loop μ-loop
+element-write-best c = search needs
+
+add-j : tie.Need-add-j Inv-loop μ-loop
+add-j c = search needs
+
+loop-less : tie.Need-loop-less Inv-loop μ-loop
+loop-less c = search needs
+
+loop-again : tie.Need-loop-again Inv-loop μ-loop
+loop-again c =
+    let a = c .before .before .before in
+    let pre = c .before .before .before .before .before .before .pre in
+    let l = c .before .before .loop-test .taken in
+    ⊎-elim
+    (λ w. rw (w .1, w .2) (gives-way (pre .2) (a .loop .inv) l (w .0 .taken)))
+    (λ w. rw (w .1, w .2) (stays (pre .2) (a .loop .inv) l (w .0 .left)))
+    (c .if2 .came)
+
+returns-2 : tie.Need-returns-2 Inv-loop μ-loop
+returns-2 c = carried-past (c .before .loop .inv) (c .loop-test .left)
 
 pub with-key-spec : {M : Type 1} → statement M
-with-key-spec = tie.close (tie.spec returns returns-2 returns-3 add-t5 returns-4)
+with-key-spec =
+    tie.close
+    (tie.spec
+    Inv-loop
+    μ-loop
+    sub-last
+    mul-if1
+    element-copy-out-if1
+    returns
+    loop-holds
+    mul-kept
+    element-copy-out-kept
+    mul-best
+    element-write-best
+    add-j
+    loop-less
+    loop-again
+    returns-2)

@@ -1,21 +1,20 @@
 use mathlib.Core.Path.{_≡_, _∙_}
-use mathlib.Core.Bool.{true≢false}
 use Prim.Native.Nat.{_-_, _<_}
 use native.Mathlib.Omega.{arith}
 use borrow.Author.Needs.{needs}
 use lib.ListN.{length, getD, take, drop}
-use Rattle.checker.proofs.Named.{NamedSoFar, naming-begins, bad-not-below, bad-not-rising, marks-one-more, all-named, how-many-rows, row-at}
-use Rattle.checker.proofs.record.rows_at.Statement.{statement}
-use Rattle.checker.proofs.record.rows_at.Tie as tie
+use Rattle.checker.proofs.Named.{NoneBadYet, badness-begins, bad-not-below, bad-not-rising, rises-on, none-bad, how-many-rows, row-at}
+use Rattle.checker.proofs.record.are_bad.Statement.{statement}
+use Rattle.checker.proofs.record.are_bad.Tie as tie
 
 abbrev Inv-loop : tie.InvT-loop
-Inv-loop trace first c n marks₀ least₀ j₀ marks least j = NamedSoFar (take c (drop first trace)) n marks least j
+Inv-loop trace first c n least₀ j₀ least j = NoneBadYet (take c (drop first trace)) n least j
 
 abbrev μ-loop : tie.MeasureT-loop
-μ-loop trace first c n marks₀ least₀ j₀ marks least j = c - j
+μ-loop trace first c n least₀ j₀ least j = c - j
 
 loop-holds : tie.Need-loop-holds Inv-loop μ-loop
-loop-holds c = naming-begins _ _
+loop-holds c = badness-begins _ _
 
 add-byte : tie.Need-add-byte Inv-loop μ-loop
 add-byte c =
@@ -33,18 +32,10 @@ is-row : (c : tie.After-byte Inv-loop μ-loop) → c .byte .result ≡ getD (tak
 is-row c = c .byte .ensures ∙ row-at (c .before .before .before .before .args .trace .now) (c .before .before .before .before .args .first) (c .before .before .before .before .args .c) (c .before .before .loop .j) (c .before .loop-test .taken)
 
 returns : tie.Need-returns Inv-loop μ-loop
-returns c =
-    record { judged = bad-not-below _ _ (c .before .before .before .loop .inv) (inside (c .before .before)) (is-row (c .before)) (c .if1 .taken); marked = λ good. absurd (true≢false good) }
+returns c = bad-not-below _ _ (c .before .before .before .loop .inv) (inside (c .before .before)) (is-row (c .before)) (c .if1 .taken)
 
 returns-2 : tie.Need-returns-2 Inv-loop μ-loop
-returns-2 c =
-    record { judged = bad-not-rising _ _ (c .before .before .before .before .loop .inv) (inside (c .before .before .before)) (is-row (c .before .before)) (c .before .if1 .left) (c .if2 .taken); marked = λ good. absurd (true≢false good) }
-
-cast-marks : tie.Need-cast-marks Inv-loop μ-loop
-cast-marks c = search needs
-
-array-write-marks : tie.Need-array-write-marks Inv-loop μ-loop
-array-write-marks c = search needs
+returns-2 c = bad-not-rising _ _ (c .before .before .before .before .loop .inv) (inside (c .before .before .before)) (is-row (c .before .before)) (c .before .if1 .left) (c .if2 .taken)
 
 add-least : tie.Need-add-least Inv-loop μ-loop
 add-least c = search needs
@@ -56,13 +47,13 @@ loop-less : tie.Need-loop-less Inv-loop μ-loop
 loop-less c = search needs
 
 loop-again : tie.Need-loop-again Inv-loop μ-loop
-loop-again c = marks-one-more _ _ (c .before .before .before .before .loop .inv) (inside (c .before .before .before)) (is-row (c .before .before)) (c .before .if1 .left) (c .before .before .before .before .before .before .pre .1) (c .if2 .left)
+loop-again c = rises-on _ _ (c .before .before .before .before .loop .inv) (inside (c .before .before .before)) (is-row (c .before .before)) (c .before .if1 .left) (c .if2 .left)
 
 returns-3 : tie.Need-returns-3 Inv-loop μ-loop
-returns-3 c = all-named _ _ (c .before .loop .inv) (omega (arith, c .loop-test .left, how-many-rows (c .before .before .before .args .trace .now) (c .before .before .before .args .first) (c .before .before .before .args .c) (c .before .before .before .pre .0)))
+returns-3 c = none-bad _ _ (c .before .loop .inv) (omega (arith, c .loop-test .left, how-many-rows (c .before .before .before .args .trace .now) (c .before .before .before .args .first) (c .before .before .before .args .c) (c .before .before .before .pre .0)))
 
-pub rows-at-spec : {M : Type 1} → statement M
-rows-at-spec =
+pub are-bad-spec : {M : Type 1} → statement M
+are-bad-spec =
     tie.close
     (tie.spec
     Inv-loop
@@ -72,8 +63,6 @@ rows-at-spec =
     byte-requires
     returns
     returns-2
-    cast-marks
-    array-write-marks
     add-least
     add-j
     loop-less
