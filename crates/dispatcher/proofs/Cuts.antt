@@ -1,5 +1,5 @@
 -- The k smallest keys, and where the picks end by them. Assumes nothing.
-use Prim.Native.Nat.{ℕ, _+_, _-_, _≤_, _<_, min, max}
+use Prim.Native.Nat.{ℕ, zero, suc, _+_, _-_, _≤_, _<_, min, max}
 use mathlib.Core.Path.{_≡_, refl, ap, subst, _∙_}
 use mathlib.Core.List.{List}
 use mathlib.Core.Bool.{false, cond, _||_}
@@ -10,7 +10,7 @@ use lib.ListN.{length, replicate, set, getD-replicate, List·getD-eq-default}
 use lib.Seq.{getD-set-same, getD-set-other}
 use borrow.Author.Tests.{lt-ltb, le-ltb, eq-eqb, ne-eqb, ltb-true}
 use Rattle.facts.specs.Counting.{howMany}
-use Rattle.facts.proofs.Counting.{none-counted, uncounted-if-failed, same-count, how-many-never, counts-apart, counted-one-more, no-more-than-all, all-counted}
+use Rattle.facts.proofs.Counting.{none-counted, counted-if-passed, uncounted-if-failed, same-count, how-many-never, counts-apart, counted-one-more, no-more-than-all, all-counted}
 use Rattle.counts.specs.Limits.{most}
 use Rattle.dispatcher.specs.Classes.{keyIn, Rises, Smallest, OneKeyMore, IsCut}
 
@@ -142,18 +142,18 @@ carried-past {k} {old} {key} {best} {carried} {j} so h = all (subst (Carried k o
 
 module _ (key : ℕ → ℕ) where
   -- Of no keys, the smallest are the largest number throughout,
-  pub smallest-of-none : {k : ℕ} → k ≤ 9 → Smallest key 0 k (replicate 9 most)
-  smallest-of-none {k} few =
+  pub smallest-of-none : (k : ℕ) → Smallest key 0 k (replicate k most)
+  smallest-of-none k =
       record {
         rises = λ i j h l. omega (arith, each i (omega arith), each j (omega arith));
         counts = λ v h.
-            let none = same-count (λ j. ltb (keyIn (replicate 9 most) j) v) (λ j. false) k
+            let none = same-count (λ j. ltb (keyIn (replicate k most) j) v) (λ j. false) k
             (λ i l. ap (λ x. ltb x v) (each i (omega arith)) ∙ le-ltb most v h) in
             omega (arith, none, how-many-never k, none-counted (λ i. ltb (key i) v));
       }
     where
-      each : (i : ℕ) → i < 9 → keyIn (replicate 9 most) i ≡ most
-      each i l = getD-replicate 9 i most 0 l
+      each : (i : ℕ) → i < k → keyIn (replicate k most) i ≡ most
+      each i l = getD-replicate k i most 0 l
 
   -- and each key is one more.
   pub smallest-of-more : {i k : ℕ} {best after : List ℕ} → Smallest key i k best → OneKeyMore k best (key i) after → Smallest key (i + 1) k after
@@ -164,6 +164,24 @@ module _ (key : ℕ → ℕ) where
       }
 
   module _ (n : ℕ) where
+    -- the first of the smallest are the smallest, one less
+    one-less : {k : ℕ} {best : List ℕ} → Smallest key n (k + 1) best → Smallest key n k best
+    one-less {k} {best} so = record { rises = λ i j h l. so .rises i j h (omega arith); counts = λ v h. at v h (decLt (keyIn best k) v) }
+      where
+        at : (v : ℕ) → v ≤ most → Dec (keyIn best k < v) → lower best v k ≡ min k (howMany (λ i. ltb (key i) v) n)
+        at v h (yes l) =
+            let all = all-lower best v k (keyIn best k) (λ i m. so .rises i k (omega arith) (omega arith)) l in
+            let one-more = counted-if-passed (λ j. ltb (keyIn best j) v) k (lt-ltb (keyIn best k) v l) in
+            omega (arith, all, one-more, so .counts v h)
+        at v h (no l) =
+            let skips = uncounted-if-failed (λ j. ltb (keyIn best j) v) k (le-ltb (keyIn best k) v (omega arith)) in
+            omega (arith, skips, no-more-than-all (λ j. ltb (keyIn best j) v) k, so .counts v h)
+
+    -- or any number less
+    pub first-of-smallest : {best : List ℕ} (k d : ℕ) → Smallest key n (k + d) best → Smallest key n k best
+    first-of-smallest {best} k zero so = subst (λ m. Smallest key n m best) (omega arith) so
+    first-of-smallest {best} k (suc d) so = first-of-smallest k d (one-less (subst (λ m. Smallest key n m best) (omega arith) so))
+
     -- No picks end before all keys.
     pub no-picks : IsCut key n 0 0 0
     no-picks =

@@ -106,7 +106,7 @@ fn cut_at(keys: &[u64; 32], n: usize, k: u8) -> Cut
         return Cut { class: 0, left: 0 };
     }
     let places = k as usize;
-    let best = smallest(keys, n, places + 1);
+    let best = smallest(keys, n);
     let last = places - 1;
     let class = best[last];
     if class == NOT_READY {
@@ -127,34 +127,33 @@ fn cut_at(keys: &[u64; 32], n: usize, k: u8) -> Cut
     Cut { class, left }
 }
 
-// The k smallest keys of n rows, in order: the largest number where there are fewer rows.
-fn smallest(keys: &[u64; 32], n: usize, k: usize) -> [u64; 9]
-    requires { ⌜ (n ≤ 32) × (0 < k) × (k ≤ 9) ⌝ }
-    ensures { λ r. ⌜ Smallest (keyIn (now (keys .entry))) n k r ⌝ }
+// The nine smallest keys of n rows, in order: the largest number where there are fewer rows. Of 8 picks one more tells whether a class is cut.
+fn smallest(keys: &[u64; 32], n: usize) -> [u64; 9]
+    requires { ⌜ n ≤ 32 ⌝ }
+    ensures { λ r. ⌜ Smallest (keyIn (now (keys .entry))) n 9 r ⌝ }
 {
     let mut best = [NOT_READY; 9];
     let mut i: usize = 0;
     while i < n {
         let key = keys[i];
-        with_key(&mut best, k, key);
+        with_key(&mut best, key);
         i += 1;
     }
     best
 }
 
-// The k smallest with one key more: each place keeps the smaller, and the larger is carried on; what is carried past the last is
+// The smallest with one key more: each place keeps the smaller, and the larger is carried on; what is carried past the last is
 // dropped. A key that is no smaller than the last is dropped at once.
-fn with_key(best: &mut [u64; 9], k: usize, key: u64)
-    requires { ⌜ (0 < k) × (k ≤ 9) × Rises k (now best) ⌝ }
-    ensures { λ _. ⌜ OneKeyMore k (now (best .entry)) key (now (best .exit)) ⌝ }
+fn with_key(best: &mut [u64; 9], key: u64)
+    requires { ⌜ Rises 9 (now best) ⌝ }
+    ensures { λ _. ⌜ OneKeyMore 9 (now (best .entry)) key (now (best .exit)) ⌝ }
 {
-    let last = k - 1;
-    if best[last] <= key {
+    if best[8] <= key {
         return;
     }
     let mut carried = key;
     let mut j: usize = 0;
-    while j < k {
+    while j < 9 {
         let kept = best[j];
         if carried < kept {
             best[j] = carried;
@@ -164,7 +163,7 @@ fn with_key(best: &mut [u64; 9], k: usize, key: u64)
     }
 }
 
-// How many of the k smallest lie below the class.
+// How many of the first k keys lie below the class.
 fn below(best: &[u64; 9], k: usize, class: u64) -> u8
     requires { ⌜ k ≤ 9 ⌝ }
     ensures { λ r. ⌜ (r ≡ howMany (λ j. ltb (keyIn (now (best .entry)) j) class) k) × (r ≤ k) ⌝ }

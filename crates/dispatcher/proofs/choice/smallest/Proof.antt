@@ -8,13 +8,13 @@ use Rattle.dispatcher.proofs.choice.smallest.Statement.{statement}
 use Rattle.dispatcher.proofs.choice.smallest.Tie as tie
 
 abbrev Inv-loop : tie.InvT-loop
-Inv-loop keys n k best₀ i₀ best i = Smallest (keyIn keys) i k best × (i ≤ n)
+Inv-loop keys n best₀ i₀ best i = Smallest (keyIn keys) i 9 best × (i ≤ n)
 
 abbrev μ-loop : tie.MeasureT-loop
-μ-loop keys n k best₀ i₀ best i = n - i
+μ-loop keys n best₀ i₀ best i = n - i
 
 loop-holds : tie.Need-loop-holds Inv-loop μ-loop
-loop-holds c = (smallest-of-none _ (c .pre .2), omega arith)
+loop-holds c = (smallest-of-none _ 9, omega arith)
 
 mul-key : tie.Need-mul-key Inv-loop μ-loop
 mul-key c = search needs
@@ -23,9 +23,7 @@ element-copy-out-key : tie.Need-element-copy-out-key Inv-loop μ-loop
 element-copy-out-key c = search needs
 
 with-key-requires : tie.Need-with-key-requires Inv-loop μ-loop
-with-key-requires c κs =
-    let pre = c .before .before .before .before .pre in
-    (pre .1, pre .2, c .before .before .before .loop .inv .0 .rises)
+with-key-requires c κs = c .before .before .before .loop .inv .0 .rises
 
 add-i : tie.Need-add-i Inv-loop μ-loop
 add-i c = search needs

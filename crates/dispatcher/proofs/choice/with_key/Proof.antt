@@ -1,29 +1,22 @@
 use mathlib.Core.Logic.{⊎-elim}
 use Prim.Native.Nat.{_-_}
+use native.Mathlib.Omega.{arith}
 use borrow.Author.Needs.{needs}
 use Rattle.dispatcher.proofs.Cuts.{Carried, dropped, carrying-begins, gives-way, stays, carried-past}
 use Rattle.dispatcher.proofs.choice.with_key.Statement.{statement}
 use Rattle.dispatcher.proofs.choice.with_key.Tie as tie
 
 abbrev Inv-loop : tie.InvT-loop
-Inv-loop best₀ k key last carried₀ j₀ best carried j = Carried k best₀ key best carried j
+Inv-loop best₀ key carried₀ j₀ best carried j = Carried 9 best₀ key best carried j
 
 abbrev μ-loop : tie.MeasureT-loop
-μ-loop best₀ k key last carried₀ j₀ best carried j = k - j
-
-sub-last : tie.Need-sub-last Inv-loop μ-loop
-sub-last c = search needs
-
-mul-if1 : tie.Need-mul-if1 Inv-loop μ-loop
-mul-if1 c = search needs
+μ-loop best₀ key carried₀ j₀ best carried j = 9 - j
 
 element-copy-out-if1 : tie.Need-element-copy-out-if1 Inv-loop μ-loop
 element-copy-out-if1 c = search needs
 
 returns : tie.Need-returns Inv-loop μ-loop
-returns c =
-    let pre = c .before .before .pre in
-    dropped (pre .0) (pre .2) (c .if1 .taken)
+returns c = dropped (omega arith) (c .before .before .pre) (c .if1 .taken)
 
 loop-holds : tie.Need-loop-holds Inv-loop μ-loop
 loop-holds c = carrying-begins
@@ -52,8 +45,8 @@ loop-again c =
     let pre = c .before .before .before .before .before .before .pre in
     let l = c .before .before .loop-test .taken in
     ⊎-elim
-    (λ w. rw (w .1, w .2) (gives-way (pre .2) (a .loop .inv) l (w .0 .taken)))
-    (λ w. rw (w .1, w .2) (stays (pre .2) (a .loop .inv) l (w .0 .left)))
+    (λ w. rw (w .1, w .2) (gives-way pre (a .loop .inv) l (w .0 .taken)))
+    (λ w. rw (w .1, w .2) (stays pre (a .loop .inv) l (w .0 .left)))
     (c .if2 .came)
 
 returns-2 : tie.Need-returns-2 Inv-loop μ-loop
@@ -65,8 +58,6 @@ with-key-spec =
     (tie.spec
     Inv-loop
     μ-loop
-    sub-last
-    mul-if1
     element-copy-out-if1
     returns
     loop-holds
