@@ -4,6 +4,7 @@ pub mod Passes
 pub mod Late
 pub mod Named
 pub mod Asked
+pub mod Dues
 pub mod Shape
 pub mod Judged
 pub mod Traced

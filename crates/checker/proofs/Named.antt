@@ -194,20 +194,21 @@ module _ (rows : List ℕ) (n : ℕ) (rise : badRows n 0 rows ≡ false) where
     unfolding names
     giving-begins = record { within = omega arith; gave = record { places = refl; each = λ i. refl } }
 
+    -- has not come to the row that is next,
+    pub not-given-yet : {after : List Quanta} {j row : ℕ} → GaveSoFar rows before after j → j < length rows → row ≡ getD rows j 0 → quantaOf after row ≡ quantaOf before row
+    not-given-yet {j = j} {row = row} so l same = so .gave .each row ∙ rw (same, not-named-yet n 0 rows rise j l) refl
+
     -- goes on row by row,
     pub gives-one-more : {after : List Quanta} {j row : ℕ} → GaveSoFar rows before after j → j < length rows → row ≡ getD rows j 0 → row < length after → (d v : Quanta) →
         v .0 ≡ kept (getD after row d .0 + 1) → GaveSoFar rows before (set after row v) (j + 1)
     gives-one-more {after} {j} {row} so l same there d v e =
         record { within = omega arith; gave = record { places = length-set after row v ∙ so .gave .places; each = λ i. at i (ℕ-discrete i row) } }
       where
-        own : quantaOf after row ≡ quantaOf before row
-        own = so .gave .each row ∙ rw (same, not-named-yet n 0 rows rise j l) refl
-
         at : (i : ℕ) → Dec (i ≡ row) → quantaOf (set after row v) i ≡ cond (names (take (j + 1) rows) i) (kept (quantaOf before i + 1)) (quantaOf before i)
         at i (yes i-is) =
             rw (i-is, ap (names (take (j + 1) rows)) same ∙ own-named j l)
             (ap (λ q. q .0) (getD-set-same after row v (record { 0 = 0 }) there)
-            ∙ (e ∙ (ap (λ q. kept (q .0 + 1)) (getD-any after row d (record { 0 = 0 }) there) ∙ ap (λ q. kept (q + 1)) own)))
+            ∙ (e ∙ (ap (λ q. kept (q .0 + 1)) (getD-any after row d (record { 0 = 0 }) there) ∙ ap (λ q. kept (q + 1)) (not-given-yet so l same))))
         at i (no other) =
             rw (other-named j i l (λ i-is. other (i-is ∙ sym same))) (ap (λ q. q .0) (getD-set-other after row i v (record { 0 = 0 }) other) ∙ so .gave .each i)
 

@@ -13,12 +13,15 @@ use Rattle.facts.proofs.Findings.{first-is-said, none-says-otherwise, after-non
 use Rattle.facts.proofs.Counting.{none-counted}
 use Rattle.facts.proofs.Filling.{one-left-more}
 use Rattle.table.specs.declared.Table.{Table}
+use Rattle.table.specs.Value.{rowsOf}
+use Rattle.pd2.specs.Choice.{rowAt}
 use Rattle.trace.specs.Said.{Said, bare}
 use Rattle.trace.specs.Records.{placeOf, namedIn, firstPlace, slotsIn}
 use Rattle.checker.specs.declared.Walk.{Walk}
 use Rattle.checker.specs.Causes.{slotLimit}
 use Rattle.checker.specs.Check.{recordFindings, recordsFindings, lastFindings, traceSaid}
-use Rattle.checker.specs.Walking.{Reached, Walked}
+use Rattle.checker.specs.Walking.{DueAre, Reached, Walked}
+use Rattle.checker.specs.Passes.{due}
 
 no-quanta : Quanta
 no-quanta = record { 0 = 0 }
@@ -33,8 +36,8 @@ nothing i = go (decLt i 32)
 
 module _ (table : Table) (s : List ℕ) where
   -- The check has come to slot t of the trace's slots: what is left says what the whole says.
-  pub record Come (slots t : ℕ) (walk : Walk) : Type 0 where
-    pub reached : Reached table s t walk
+  pub record Come (slots t : ℕ) (walk : Walk) (dues : List ℕ) : Type 0 where
+    pub reached : Reached table s t walk dues
     pub within : t ≤ slots
     pub count : slots ≡ slotsIn s
     pub few : slots ≤ slotLimit
@@ -52,9 +55,10 @@ module _ (table : Table) (s : List ℕ) where
     is-too-long h = sym (first-is-said (bare 0) (FirstFound.later (le-ltb (length s) 4 there) (FirstFound.here (lt-ltb slotLimit (slotsIn s) h))))
 
     -- else the check begins.
-    pub check-begins : {slots : ℕ} → slots ≡ slotsIn s → slots ≤ slotLimit → (walk : Walk) → walk .at ≡ 4 → walk .quanta ≡ replicate 32 (record { 0 = 0 }) → Come slots 0 walk
+    pub check-begins : {slots : ℕ} → slots ≡ slotsIn s → slots ≤ slotLimit → (walk : Walk) → walk .at ≡ 4 → walk .quanta ≡ replicate 32 (record { 0 = 0 }) →
+        {dues : List ℕ} → DueAre table (λ _. 0) dues → Come slots 0 walk dues
     unfolding traceSaid placeOf
-    check-begins {slots} e few walk place quanta =
+    check-begins {slots} e few walk place quanta dues =
         record {
           reached =
               record {
@@ -63,6 +67,10 @@ module _ (table : Table) (s : List ℕ) where
                 long = ap length quanta;
                 quanta = λ i l. ap (λ q. quantaOf q i) quanta ∙ (nothing i ∙ sym (none-counted (namedIn s firstPlace i)));
                 few = λ i. omega (arith, none-counted (namedIn s firstPlace i));
+                due = record {
+                  long = dues .long;
+                  each = λ i l. dues .each i l ∙ ap (λ q. due (rowAt (rowsOf table) i) (q + 1)) (sym (none-counted (namedIn s firstPlace i)));
+                };
               };
           within = omega arith;
           count = e;
@@ -73,7 +81,7 @@ module _ (table : Table) (s : List ℕ) where
               ∙ ap (λ m. firstFound (bare 0) (recordsFindings table s 0 m ++ lastFindings s)) {x = slotsIn s} {y = slots - 0} (omega arith);
         }
 
-  module _ {slots t : ℕ} {walk : Walk} (so : Come slots t walk) (more : t < slots) where
+  module _ {slots t : ℕ} {walk : Walk} {dues : List ℕ} (so : Come slots t walk dues) (more : t < slots) where
     left : traceSaid table s ≡ firstFound (bare 0) ((recordFindings table s t ++ recordsFindings table s (t + 1) (slots - (t + 1))) ++ lastFindings s)
     unfolding recordsFindings
     left = so .rest ∙ ap (λ m. firstFound (bare 0) (recordsFindings table s t m ++ lastFindings s)) (one-left-more more)
@@ -83,7 +91,7 @@ module _ (table : Table) (s : List ℕ) where
     record-says f = sym (left ∙ first-is-said (bare 0) (first-in-front (lastFindings s) (first-in-front (recordsFindings table s (t + 1) (slots - (t + 1))) f)))
 
     -- and else the check goes on.
-    pub check-goes-on : {next : Walk} → Walked table s t next → Come slots (t + 1) next
+    pub check-goes-on : {next : Walk} {dues′ : List ℕ} → Walked table s t next dues′ → Come slots (t + 1) next dues′
     check-goes-on walked =
         record {
           reached = walked .reached;
@@ -96,7 +104,7 @@ module _ (table : Table) (s : List ℕ) where
               ∙ after-none (bare 0) (recordsFindings table s (t + 1) (slots - (t + 1)) ++ lastFindings s) (walked .none));
         }
 
-  module _ {slots t : ℕ} {walk : Walk} (so : Come slots t walk) (end : slots ≤ t) where
+  module _ {slots t : ℕ} {walk : Walk} {dues : List ℕ} (so : Come slots t walk dues) (end : slots ≤ t) where
     last : traceSaid table s ≡ firstFound (bare 0) (lastFindings s)
     unfolding recordsFindings
     last = so .rest ∙ ap (λ m. firstFound (bare 0) (recordsFindings table s t m ++ lastFindings s)) {x = slots - t} {y = 0} (omega arith)

@@ -4,14 +4,18 @@ use mathlib.Core.Path.{_≡_}
 use mathlib.Core.List.{List}
 use mathlib.Core.Bool.{Bool, true, false, cond, not, _&&_}
 use lib.Dec.{eqb}
-use lib.ListN.{length}
+use lib.ListN.{length, getD, take, drop}
+use Rattle.facts.specs.First.{Lowest}
 use Rattle.facts.specs.Findings.{FirstFound, NoneFound}
 use Rattle.counts.specs.declared.Quanta.{Quanta}
 use Rattle.counts.specs.Limits.{kept}
+use Rattle.windows.specs.Fits.{reach}
+use Rattle.table.specs.declared.Row.{Row}
 use Rattle.table.specs.declared.Table.{Table}
 use Rattle.table.specs.Limits.{rowLimit}
 use Rattle.table.specs.Value.{faultOf, rowsOf}
 use Rattle.pd2.specs.Ready.{ready}
+use Rattle.pd2.specs.Share.{CanBe}
 use Rattle.pd2.specs.Choice.{rowAt}
 use Rattle.pd2.specs.Rows.{quantaOf}
 use Rattle.trace.specs.Records.{countAt, pastRecord, names, placeIn, timesNamed}
@@ -20,6 +24,7 @@ use Rattle.checker.specs.declared.Walk.{Walk}
 use Rattle.checker.specs.Answer.{saidOf}
 use Rattle.checker.specs.Causes.{slotLimit, badRows, badRow}
 use Rattle.checker.specs.Check.{shapeAt, recordFindings}
+use Rattle.checker.specs.Passes.{due}
 
 -- A table without fault, whose rows stand in their array.
 pub record CanCheck (table : Table) : Type 0 where
@@ -34,37 +39,42 @@ pub record Askable (table : Table) (quanta : List Quanta) (t : ℕ) : Type 0 whe
   pub few : (i : ℕ) → i < length (rowsOf table) → quantaOf quanta i ≤ t
   pub time : t ≤ slotLimit
 
+-- A row can be asked when its next quantum is due.
+pub record CanBeDue (row : Row) (q : ℕ) : Type 0 where
+  pub can : CanBe row
+  pub few : q ≤ reach
+
+-- At each row's place stands when its next quantum is due.
+pub record DueAre (table : Table) (quanta : ℕ → ℕ) (dues : List ℕ) : Type 0 where
+  pub long : length dues ≡ rowLimit
+  pub each : (i : ℕ) → i < length (rowsOf table) → getD dues i 0 ≡ due (rowAt (rowsOf table) i) (quanta i + 1)
+
 -- The check has come to slot t: the place is that of its record, and the quanta are the records before it that name each row.
-pub record Reached (table : Table) (s : List ℕ) (t : ℕ) (walk : Walk) : Type 0 where
+pub record Reached (table : Table) (s : List ℕ) (t : ℕ) (walk : Walk) (dues : List ℕ) : Type 0 where
   pub place : walk .at ≡ placeIn s t
   pub inside : walk .at ≤ length s
   pub long : length (walk .quanta) ≡ rowLimit
   pub quanta : (i : ℕ) → i < length (rowsOf table) → quantaOf (walk .quanta) i ≡ timesNamed s i t
   pub few : (i : ℕ) → timesNamed s i t ≤ t
+  pub due : DueAre table (λ i. timesNamed s i t) dues
 
 -- The record of slot t can be judged.
-pub record CanJudge (table : Table) (s : List ℕ) (t : ℕ) (walk : Walk) : Type 0 where
+pub record CanJudge (table : Table) (s : List ℕ) (t : ℕ) (walk : Walk) (dues : List ℕ) : Type 0 where
   pub can : CanCheck table
-  pub reached : Reached table s t walk
+  pub reached : Reached table s t walk dues
   pub time : t < slotLimit
 
 -- What a record leads to: nothing is found in it and the walk goes behind it, or the first that is found ends the check.
-pub record Walked (table : Table) (s : List ℕ) (t : ℕ) (walk : Walk) : Type 0 where
+pub record Walked (table : Table) (s : List ℕ) (t : ℕ) (walk : Walk) (dues : List ℕ) : Type 0 where
   pub none : NoneFound (recordFindings table s t)
-  pub reached : Reached table s (t + 1) walk
+  pub reached : Reached table s (t + 1) walk dues
 
 abbrev pub isPassed : Answer → Bool
 isPassed answer = eqb (saidOf answer .number) 0
 
-pub record Leads (table : Table) (s : List ℕ) (t : ℕ) (answer : Answer) (walk : Walk) : Type 0 where
-  pub walked : isPassed answer ≡ true → Walked table s t walk
+pub record Leads (table : Table) (s : List ℕ) (t : ℕ) (answer : Answer) (walk : Walk) (dues : List ℕ) : Type 0 where
+  pub walked : isPassed answer ≡ true → Walked table s t walk dues
   pub ended : isPassed answer ≡ false → FirstFound (recordFindings table s t) (saidOf answer)
-
--- Row numbers that can be looked up: they rise, and each is below some count of rows.
-pub record NamesFit (rows : List ℕ) : Type 0 where
-  pub below : ℕ
-  pub few : below ≤ rowLimit
-  pub rise : badRows below 0 rows ≡ false
 
 -- What reading the record at a place leads to: where its rows begin and how many there are, if it is sound; or the first fault in it.
 pub record Read (table : Table) (s : List ℕ) (at first count : ℕ) : Type 0 where
@@ -86,3 +96,16 @@ isEarly table quanta rows t i = names rows i && not (ready (rowAt (rowsOf table)
 pub record GaveNamed (rows : List ℕ) (before after : List Quanta) : Type 0 where
   pub places : length after ≡ length before
   pub each : (i : ℕ) → quantaOf after i ≡ cond (names rows i) (kept (quantaOf before i + 1)) (quantaOf before i)
+
+-- The c rows from a place on can be given quanta: they lie inside the trace, they rise, and the rows can be asked.
+pub record CanGive (table : Table) (s : List ℕ) (first c : ℕ) (quanta : List Quanta) (t : ℕ) (dues : List ℕ) : Type 0 where
+  pub inside : first + c ≤ length s
+  pub rise : badRows (length (rowsOf table)) 0 (take c (drop first s)) ≡ false
+  pub ask : Askable table quanta t
+  pub due : DueAre table (quantaOf quanta) dues
+
+-- What giving leads to: the lowest row that is early; and if there is none, each named row has one quantum more, and is due as its next one is.
+pub record Gave (table : Table) (rows : List ℕ) (before : List Quanta) (t early : ℕ) (after : List Quanta) (dues : List ℕ) : Type 0 where
+  pub lowest : Lowest (isEarly table before rows t) (length (rowsOf table)) early
+  pub gave : length (rowsOf table) ≤ early → GaveNamed rows before after
+  pub due : length (rowsOf table) ≤ early → DueAre table (quantaOf after) dues

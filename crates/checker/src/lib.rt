@@ -1,4 +1,5 @@
 // The trace check: from the bytes of a table and of a trace to what 01 says of them. One pass over the trace, with constant memory.
+mod giving;
 mod record;
 
 use counts::Quanta;
@@ -47,6 +48,12 @@ const SLOT_LIMIT: u32 = 1_000_000_000;
 // How far the check has come: the place of the next record, and the quanta given so far.
 struct Walk {
     at: usize,
+    quanta: [Quanta; 32],
+}
+
+// What giving leads to: the lowest row that was not ready, or n where all were; and the quanta then.
+struct Given {
+    early: usize,
     quanta: [Quanta; 32],
 }
 
@@ -142,10 +149,11 @@ fn check_trace(table: Table, trace: &[u8]) -> Answer
     }
     let none = Quanta::of(0);
     let quanta = [none; 32];
+    let mut dues = giving::first_dues(table);
     let mut walk = Walk { at: 4, quanta };
     let mut slot: u32 = 0;
     while slot < slots {
-        let step = record::judge(table, trace, walk, Slot::at(slot as u64));
+        let step = record::judge(table, trace, walk, &mut dues, Slot::at(slot as u64));
         let answer = step.answer;
         if !is_passed(answer) {
             return answer;

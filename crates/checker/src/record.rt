@@ -2,20 +2,17 @@
 use crate::Answer;
 use crate::Step;
 use crate::Walk;
+use crate::giving;
 use crate::is_passed;
-use counts::Quanta;
 use counts::Slot;
 use table::Table;
 ghost use mathlib.Core.Path.{_≡_};
 ghost use Prim.Native.Nat.{_+_, _≤_, _<_};
-ghost use mathlib.Core.Bool.{false};
 ghost use lib.ListN.{length, take, drop};
-ghost use Rattle.facts.specs.First.{Lowest};
-ghost use Rattle.table.specs.Value.{rowsOf};
 ghost use Rattle.trace.specs.Said.{named};
 ghost use Rattle.checker.specs.Answer.{saidOf};
 ghost use Rattle.checker.specs.Causes.{badRows};
-ghost use Rattle.checker.specs.Walking.{CanCheck, Askable, CanJudge, Leads, ReadLeads, NamesFit, GaveNamed, isEarly};
+ghost use Rattle.checker.specs.Walking.{CanCheck, CanJudge, Leads, ReadLeads};
 
 // What the bytes of a record hold: `Passed`, where its rows begin and how many there are; or the answer that ends the check.
 struct RecordRead {
@@ -25,9 +22,15 @@ struct RecordRead {
 }
 
 // Judges the record of a slot and goes behind it.
-pub(crate) fn judge(table: Table, trace: &[u8], walk: Walk, slot: Slot) -> Step
-    requires { ⌜ CanJudge table (now trace) (slot .0) walk ⌝ }
-    ensures { λ r. ⌜ Leads table (now (trace .entry)) (slot .0) (r .answer) (r .walk) ⌝ }
+pub(crate) fn judge(
+    table: Table,
+    trace: &[u8],
+    walk: Walk,
+    dues: &mut [u64; 32],
+    slot: Slot,
+) -> Step
+    requires { ⌜ CanJudge table (now trace) (slot .0) walk (now dues) ⌝ }
+    ensures { λ r. ⌜ Leads table (now (trace .entry)) (slot .0) (r .answer) (r .walk) (now (dues .exit)) ⌝ }
 {
     let read = read_at(table, trace, walk.at);
     let answer = read.answer;
@@ -36,22 +39,18 @@ pub(crate) fn judge(table: Table, trace: &[u8], walk: Walk, slot: Slot) -> Step
     }
     let quanta = walk.quanta;
     let n = table.count as usize;
-    let early = lowest_early(trace, read.first, read.count, table, quanta, slot);
-    if early < n {
-        return ended(early_in(early, slot), walk);
+    let given = giving::give(trace, read.first, read.count, table, quanta, dues, slot);
+    if given.early < n {
+        return ended(early_in(given.early, slot), walk);
     }
-    let given = give(trace, read.first, read.count, quanta);
     let time = slot.later(1);
-    let rows = table.rows;
-    let late = pd2::lowest_late(rows, given, n, time);
+    let late = giving::lowest_late(dues, n, time);
     if late < n {
         return ended(late_at(late, time), walk);
     }
     let past = read.first + read.count;
-    let next = Walk {
-        at: past,
-        quanta: given,
-    };
+    let quanta = given.quanta;
+    let next = Walk { at: past, quanta };
     ended(Answer::Passed, next)
 }
 
@@ -142,46 +141,4 @@ fn are_bad(trace: &[u8], first: usize, c: usize, n: u8) -> bool
         j += 1;
     }
     false
-}
-
-// The lowest of the c rows from a place on that was not ready in the slot, or n where all were. They rise, so the first is the lowest.
-fn lowest_early(
-    trace: &[u8],
-    first: usize,
-    c: usize,
-    table: Table,
-    quanta: [Quanta; 32],
-    slot: Slot,
-) -> usize
-    requires { ⌜ (first + c ≤ length (now trace)) × Askable table quanta (slot .0) × (badRows (length (rowsOf table)) 0 (take c (drop first (now trace))) ≡ false) ⌝ }
-    ensures { λ r. ⌜ Lowest (isEarly table quanta (take c (drop first (now (trace .entry)))) (slot .0)) (length (rowsOf table)) r ⌝ }
-{
-    let n = table.count as usize;
-    let mut j: usize = 0;
-    while j < c {
-        let i = fields::byte(trace, first + j) as usize;
-        let row = table.rows[i];
-        let given = quanta[i];
-        let verdict = pd2::ready(row, given, slot);
-        if !verdict.is_yes() {
-            return i;
-        }
-        j += 1;
-    }
-    n
-}
-
-// One quantum more for each of the c rows from a place on.
-fn give(trace: &[u8], first: usize, c: usize, mut quanta: [Quanta; 32]) -> [Quanta; 32]
-    requires { ⌜ (first + c ≤ length (now trace)) × NamesFit (take c (drop first (now trace))) ⌝ }
-    ensures { λ r. ⌜ GaveNamed (take c (drop first (now (trace .entry)))) quanta r ⌝ }
-{
-    let mut j: usize = 0;
-    while j < c {
-        let i = fields::byte(trace, first + j) as usize;
-        let given = quanta[i];
-        quanta[i] = given.one_more();
-        j += 1;
-    }
-    quanta
 }

@@ -242,13 +242,6 @@ each-fails a n h i l = go (a i) refl
     go true e = absurd (true≢false (sym (some-if a n i l e) ∙ h))
     go false e = e
 
-pub one-passes : (a : ℕ → Bool) (n : ℕ) → some a n ≡ true → (i : ℕ) × (i < n) × (a i ≡ true)
-one-passes a n h = go (some-or-none a n)
-  where
-    go : ((i : ℕ) × (i < n) × (a i ≡ true)) ⊎ ((i : ℕ) → i < n → a i ≡ false) → (i : ℕ) × (i < n) × (a i ≡ true)
-    go (inl one) = one
-    go (inr none) = absurd (true≢false (sym h ∙ none-if a n none))
-
 -- Tests that agree below the bound list the same.
 pub same-list : (a b : ℕ → Bool) (n : ℕ) → ((i : ℕ) → i < n → a i ≡ b i) → those a n ≡ those b n
 unfolding those

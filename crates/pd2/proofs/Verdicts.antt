@@ -22,10 +22,6 @@ use Rattle.pd2.proofs.Share.{upper-after-quantum-means-ready, late-mean
 
 -- for callers
 
--- A verdict on a question that is answered says whether it holds.
-pub verdict-is-said : {a : Bool} (b : Bool) → a ≡ true → verdict a b ≡ verdict true b
-verdict-is-said b e = rw e
-
 -- A row that can be, with quanta and a time within reach, gets an answer: yes exactly if it holds.
 pub yes-if-it-holds : (row : Row) (q t : ℕ) → CanBe row → q ≤ reach → t ≤ reach → (holds : Bool) → isYes (verdict (answered row q t) holds) ≡ holds
 yes-if-it-holds row q t can near soon holds =

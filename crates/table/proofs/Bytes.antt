@@ -2,6 +2,7 @@
 use mathlib.Core.Path.{_≡_, refl, sym, ap, _∙_}
 use mathlib.Core.List.{List}
 use Prim.Native.Nat.{ℕ, zero, suc, _+_, _≤_, _<_}
+use native.Mathlib.Decide.{decLt}
 use native.Mathlib.Omega.{arith}
 use borrow.Author.Tests.{lt-ltb, le-ltb}
 use lib.ListN.{length}
@@ -74,6 +75,15 @@ module _ (s : List ℕ) (cycle least i : ℕ) where
       (firstMet (rowTestsIn s cycle least i) ≡ 0) × (row ≡ rowAt s i) × (past ≡ record { at = i + 9 })
   unfolding rowReadIn
   row-was-read e g = was-row (firstMet (rowTestsIn s cycle least i)) (sym g ∙ e)
+
+  -- so all its bytes are there
+  pub row-was-there : firstMet (rowTestsIn s cycle least i) ≡ 0 → i + 9 ≤ length s
+  unfolding firstMet
+  row-was-there h = go (decLt (length s) (i + 9))
+    where
+      go : Dec (length s < i + 9) → i + 9 ≤ length s
+      go (yes l) = let ten : _≡_ {A = ℕ} 10 0 = rw (lt-ltb (length s) (i + 9) l) at h in absurd (omega arith)
+      go (no l) = omega arith
 
   pub row-was-faulty : {got : read.RowRead} {j : ℕ} → got ≡ rowReadIn s cycle least i → got ≡ read.the-variants.Fault j →
       (j ≡ firstMet (rowTestsIn s cycle least i)) × (firstMet (rowTestsIn s cycle least i) ≡ 0 → ⊥)

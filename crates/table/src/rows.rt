@@ -15,7 +15,7 @@ ghost use Rattle.table.specs.Parts.{numberOf, rowReadIn, RowsAnswer};
 
 // The n rows that begin at place `at`, and their sum. Each row is gone over once: it is read, tested and added.
 pub(crate) fn read(bytes: &[u8], at: usize, n: usize, cycle: u32) -> RowsRead
-    requires { ⌜ n ≤ 32 ⌝ }
+    requires { ⌜ (at ≤ length (now bytes)) × (n ≤ 32) ⌝ }
     ensures { λ r. ⌜ RowsAnswer (now (bytes .entry)) cycle at n (r .number) (r .rows) × (r .number ≡ 0 → r .sum ≡ load cycle (take n (r .rows))) ⌝ }
 {
     let zero = zero();
@@ -48,12 +48,10 @@ pub(crate) fn read(bytes: &[u8], at: usize, n: usize, cycle: u32) -> RowsRead
 
 // The row at the cursor with the place past it, or its first fault.
 fn read_one(bytes: &[u8], cursor: Cursor, cycle: u32, least: u32) -> RowRead
+    requires { ⌜ cursor .at ≤ length (now bytes) ⌝ }
     ensures { λ r. ⌜ r ≡ rowReadIn (now (bytes .entry)) cycle least (cursor .at) ⌝ }
 {
     let at = cursor.at;
-    if bytes.len() < at {
-        return RowRead::Fault(10);
-    }
     if bytes.len() - at < 9 {
         return RowRead::Fault(10);
     }

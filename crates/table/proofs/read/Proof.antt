@@ -81,7 +81,7 @@ add-read : tie.Need-add-read
 add-read c = omega (arith, c .before .before .before .before .before .before .byte .ok)
 
 read-requires-2 : tie.Need-read-requires-2
-read-requires-2 c κs = c .if4 .left
+read-requires-2 c κs = (omega (arith, c .before .before .if3 .left), c .if4 .left)
 
 refused-requires-5 : tie.Need-refused-requires-5
 refused-requires-5 c κs = search needs

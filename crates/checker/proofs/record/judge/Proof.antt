@@ -1,4 +1,4 @@
-use mathlib.Core.Path.{_≡_, sym, ap, subst, _∙_}
+use mathlib.Core.Path.{_≡_, refl, sym, ap, subst, _∙_}
 use mathlib.Core.Bool.{true≢false}
 use Prim.Native.Nat.{_+_, _<_}
 use native.Mathlib.Omega.{arith}
@@ -8,8 +8,8 @@ use lib.ListN.{length}
 use Rattle.facts.specs.Findings.{FirstFound}
 use Rattle.trace.specs.Said.{named}
 use Rattle.checker.specs.Check.{recordFindings}
-use Rattle.checker.specs.Walking.{Walked, Read, isPassed}
-use Rattle.checker.proofs.Judged.{ends, shape-ends, rows-can-be-asked, rows-inside, rows-rise, rows-fit, early-ends, late-ends, goes-on}
+use Rattle.checker.specs.Walking.{Read, isPassed}
+use Rattle.checker.proofs.Judged.{same-walked, ends, shape-ends, rows-inside, can-give, early-ends, late-ends, goes-on}
 use borrow.Author.Needs.{needs}
 use Rattle.checker.proofs.record.judge.Statement.{statement}
 use Rattle.checker.proofs.record.judge.Tie as tie
@@ -28,23 +28,22 @@ is-read : (c : tie.Else1) → let a = c .before .before .before .before in Read 
 is-read c = c .before .before .read-at .ensures .read (sym (c .before .is-passed .ensures) ∙ not-false _ (c .if1 .left))
 
 -- the slot's end
-later-is : (c : tie.After-later) → c .later .result .0 ≡ c .before .before .before .before .before .before .before .before .before .before .args .slot .0 + 1
-later-is c = omega (arith, c .later .ensures, c .before .before .before .before .before .before .before .before .before .before .pre .time)
+later-is : (c : tie.After-later) → c .later .result .0 ≡ c .before .before .before .before .before .before .before .before .before .before .before .args .slot .0 + 1
+later-is c = omega (arith, c .later .ensures, c .before .before .before .before .before .before .before .before .before .before .before .pre .time)
 
 returns : tie.Need-returns
 returns c =
     let a = c .before .before .before .before .before in
     let off = sym (c .before .before .is-passed .ensures) ∙ not-true _ (c .before .if1 .taken) in
-    ends (a .args .table) (a .args .trace .now) (a .args .slot .0) (c .ended .ensures .0) off (shape-ends (a .args .table) (a .args .trace .now) (a .args .slot .0) (a .args .walk) (a .pre) (c .before .before .before .read-at .ensures .refused off))
+    ends (a .args .table) (a .args .trace .now) (a .args .slot .0) (c .ended .ensures .0) off (shape-ends (a .args .table) (a .args .trace .now) (a .args .slot .0) (a .args .walk) _ (a .pre) (c .before .before .before .read-at .ensures .refused off))
 
 cast-n : tie.Need-cast-n
 cast-n c = search needs
 
-lowest-early-requires : tie.Need-lowest-early-requires
-lowest-early-requires c κs =
-    let a = c .before .before .before .before .before .before in
-    let read = is-read (c .before .before) in
-    (rows-inside (a .args .table) (a .args .trace .now) (a .args .slot .0) (a .args .walk) (a .pre) read, rows-can-be-asked (a .args .table) (a .args .trace .now) (a .args .slot .0) (a .args .walk) (a .pre), rows-rise (a .args .table) (a .args .trace .now) (a .args .slot .0) (a .args .walk) (a .pre) read)
+give-requires : tie.Need-give-requires
+give-requires c κs =
+    let a = c .before .before .before .before .before .before .before in
+    can-give (a .args .table) (a .args .trace .now) (a .args .slot .0) (a .args .walk) _ (a .pre) (is-read (c .before .before .before))
 
 early-in-requires : tie.Need-early-in-requires
 early-in-requires c κs = search needs
@@ -54,15 +53,9 @@ ended-requires-2 c κs = search needs
 
 returns-2 : tie.Need-returns-2
 returns-2 c =
-    let a = c .before .before .before .before .before .before .before .before .before .before in
+    let a = c .before .before .before .before .before .before .before .before .before .before .before .before in
     ends (a .args .table) (a .args .trace .now) (a .args .slot .0) (c .ended2 .ensures .0) (ap (λ x. eqb (x .number) 0) (c .before .early-in .ensures))
-    (subst (FirstFound (recordFindings (a .args .table) (a .args .trace .now) (a .args .slot .0))) (sym (c .before .early-in .ensures)) (early-ends (a .args .table) (a .args .trace .now) (a .args .slot .0) (a .args .walk) (a .pre) (is-read (c .before .before .before .before .before .before)) (c .before .before .before .lowest-early .ensures) (omega (arith, c .before .before .if2 .taken, a .pre .can .all))))
-
-give-requires : tie.Need-give-requires
-give-requires c κs =
-    let a = c .before .before .before .before .before .before .before .before in
-    let read = is-read (c .before .before .before .before) in
-    (rows-inside (a .args .table) (a .args .trace .now) (a .args .slot .0) (a .args .walk) (a .pre) read, rows-fit (a .args .table) (a .args .trace .now) (a .args .slot .0) (a .args .walk) (a .pre) read)
+    (subst (FirstFound (recordFindings (a .args .table) (a .args .trace .now) (a .args .slot .0))) (sym (c .before .early-in .ensures)) (early-ends (a .args .table) (a .args .trace .now) (a .args .slot .0) (a .args .walk) _ (a .pre) (is-read (c .before .before .before .before .before .before .before .before)) (c .before .before .before .before .give .ensures) (omega (arith, c .before .before .if2 .taken, a .pre .can .all))))
 
 later-requires : tie.Need-later-requires
 later-requires c κs = search needs
@@ -78,26 +71,26 @@ ended-requires-3 c κs = search needs
 
 returns-3 : tie.Need-returns-3
 returns-3 c =
-    let a = c .before .before .before .before .before .before .before .before .before .before .before .before .before .before .before in
+    let a = c .before .before .before .before .before .before .before .before .before .before .before .before .before .before .before .before in
     let end = later-is (c .before .before .before .before .before) in
     ends (a .args .table) (a .args .trace .now) (a .args .slot .0) (c .ended3 .ensures .0) (ap (λ x. eqb (x .number) 0) (c .before .late-at .ensures))
     (subst (FirstFound (recordFindings (a .args .table) (a .args .trace .now) (a .args .slot .0))) (sym (c .before .late-at .ensures ∙ ap (named 45 (c .before .before .before .lowest-late .result)) end))
-    (late-ends (a .args .table) (a .args .trace .now) (a .args .slot .0) (a .args .walk) (a .pre) (is-read (c .before .before .before .before .before .before .before .before .before .before .before)) (c .before .before .before .before .before .before .before .before .lowest-early .ensures) (omega (arith, c .before .before .before .before .before .before .before .if2 .left, a .pre .can .all)) (c .before .before .before .before .before .before .give .ensures) end (c .before .before .before .lowest-late .ensures) (omega (arith, c .before .before .if3 .taken, a .pre .can .all))))
+    (late-ends (a .args .table) (a .args .trace .now) (a .args .slot .0) (a .args .walk) _ (a .pre) (is-read (c .before .before .before .before .before .before .before .before .before .before .before .before)) (c .before .before .before .before .before .before .before .before .give .ensures) (omega (arith, c .before .before .before .before .before .before .if2 .left, a .pre .can .all)) end (c .before .before .before .lowest-late .ensures) (omega (arith, c .before .before .if3 .taken, a .pre .can .all))))
 
 add-past : tie.Need-add-past
 add-past c =
-    let a = c .before .before .before .before .before .before .before .before .before .before .before .before .before .before in
+    let a = c .before .before .before .before .before .before .before .before .before .before .before .before .before .before .before in
     let short : length (a .args .trace .now) < 18_446_744_073_709_551_616 = search needs in
-    omega (arith, short, rows-inside (a .args .table) (a .args .trace .now) (a .args .slot .0) (a .args .walk) (a .pre) (is-read (c .before .before .before .before .before .before .before .before .before .before)))
+    omega (arith, short, rows-inside (a .args .table) (a .args .trace .now) (a .args .slot .0) (a .args .walk) _ (a .pre) (is-read (c .before .before .before .before .before .before .before .before .before .before .before)))
 
 ended-requires-4 : tie.Need-ended-requires-4
 ended-requires-4 c κs = search needs
 
 returns-4 : tie.Need-returns-4
 returns-4 c =
-    let a = c .before .before .before .before .before .before .before .before .before .before .before .before .before .before .before in
-    let walked = goes-on (a .args .table) (a .args .trace .now) (a .args .slot .0) (a .args .walk) (a .pre) (is-read (c .before .before .before .before .before .before .before .before .before .before .before)) (c .before .before .before .before .before .before .before .before .lowest-early .ensures) (omega (arith, c .before .before .before .before .before .before .before .if2 .left, a .pre .can .all)) (c .before .before .before .before .before .before .give .ensures) (later-is (c .before .before .before .before .before)) (c .before .before .before .lowest-late .ensures) (omega (arith, c .before .before .if3 .left, a .pre .can .all)) in
-    record { walked = λ _. subst (Walked (a .args .table) (a .args .trace .now) (a .args .slot .0)) (sym (c .ended4 .ensures .1)) walked; ended = λ h. absurd (true≢false (ap isPassed (sym (c .ended4 .ensures .0)) ∙ h)) }
+    let a = c .before .before .before .before .before .before .before .before .before .before .before .before .before .before .before .before .before in
+    let walked = goes-on (a .args .table) (a .args .trace .now) (a .args .slot .0) (a .args .walk) _ (a .pre) (is-read (c .before .before .before .before .before .before .before .before .before .before .before .before .before)) (c .before .before .before .before .before .before .before .before .before .give .ensures) (omega (arith, c .before .before .before .before .before .before .before .if2 .left, a .pre .can .all)) (later-is (c .before .before .before .before .before .before)) (c .before .before .before .before .lowest-late .ensures) (omega (arith, c .before .before .before .if3 .left, a .pre .can .all)) in
+    record { walked = λ _. same-walked (a .args .table) (a .args .trace .now) refl (sym (c .ended4 .ensures .1)) walked; ended = λ h. absurd (true≢false (ap isPassed (sym (c .ended4 .ensures .0)) ∙ h)) }
 
 pub judge-spec : {M : Type 1} → statement M
 judge-spec =
@@ -108,11 +101,10 @@ judge-spec =
     ended-requires
     returns
     cast-n
-    lowest-early-requires
+    give-requires
     early-in-requires
     ended-requires-2
     returns-2
-    give-requires
     later-requires
     lowest-late-requires
     late-at-requires

@@ -1,8 +1,8 @@
 use mathlib.Core.Path.{_≡_, sym, ap, _∙_}
-use Prim.Native.Nat.{_+_, _-_, _*_}
+use Prim.Native.Nat.{_+_, _-_, _*_, _≤_}
 use native.Mathlib.Omega.{arith}
 use borrow.Author.Needs.{needs}
-use lib.ListN.{replicate, length-replicate}
+use lib.ListN.{length, replicate, length-replicate}
 use Rattle.facts.specs.Places.{ReadSoFar}
 use Rattle.facts.proofs.Places.{reading-begins, reading-ends, reading-stops, reading-goes-on}
 use Rattle.table.specs.declared.Row.{Row}
@@ -12,7 +12,7 @@ use Rattle.table.specs.Causes.{tankAbove, zeroRow}
 use Rattle.table.specs.Bytes.{rowAt, rowTestsIn}
 use Rattle.table.specs.Parts.{numberOf}
 use Rattle.table.proofs.Sum.{Added, added-none, added-put, added-all}
-use Rattle.table.proofs.Bytes.{row-was-read, row-was-faulty}
+use Rattle.table.proofs.Bytes.{row-was-read, row-was-there, row-was-faulty}
 use Rattle.table.proofs.rows.read.Statement.{statement}
 use Rattle.table.proofs.rows.read.Tie as tie
 
@@ -22,6 +22,7 @@ Inv-loop bytes at n cycle rows₀ cursor₀ sum₀ least₀ i₀ rows cursor sum
     ReadSoFar (rowTestsIn bytes cycle) (λ k. tankAbove (rowAt bytes k)) (rowAt bytes) zeroRow rowLimit at 9 n rows least i
     × (cursor .at ≡ at + 9 * i)
     × Added rows n cycle sum i
+    × (cursor .at ≤ length bytes)
 
 abbrev μ-loop : tie.MeasureT-loop
 μ-loop bytes at n cycle rows₀ cursor₀ sum₀ least₀ i₀ rows cursor sum least i = n - i
@@ -33,7 +34,8 @@ loop-holds : tie.Need-loop-holds Inv-loop μ-loop
 loop-holds c = (
   reading-begins _ _ _ _ _ _ _ _ (ap (λ (z : Row). replicate 32 z) (c .zero .ensures)),
   omega arith,
-  added-none _ _ _ (omega (arith, c .before .before .pre, length-replicate 32 zeroRow)),
+  added-none _ _ _ (omega (arith, c .before .before .pre .1, length-replicate 32 zeroRow)),
+  c .before .before .pre .0,
 )
 
 read-one-requires : tie.Need-read-one-requires Inv-loop μ-loop
@@ -88,9 +90,10 @@ loop-again c =
     let taken = got .before .loop-test .taken in
     let was = row-was-read _ _ _ _ (got .read-one .ensures) (c .before .before .before .got .given .1) in
     let past = ap (λ (x : Cursor). x .at) (was .2) in (
-      reading-goes-on _ _ _ _ _ _ _ _ (at .loop .inv .0) taken (at .loop .inv .1) (omega (arith, taken, at .before .before .before .pre)) (was .0) (was .1) (c .above .ensures ∙ ap tankAbove (was .1)),
+      reading-goes-on _ _ _ _ _ _ _ _ (at .loop .inv .0) taken (at .loop .inv .1) (omega (arith, taken, at .before .before .before .pre .1)) (was .0) (was .1) (c .above .ensures ∙ ap tankAbove (was .1)),
       omega (arith, past, at .loop .inv .1),
       added-put (at .loop .inv .2) taken (quanta .1) _ (quanta .0),
+      omega (arith, past, row-was-there (at .before .before .before .args .bytes .now) (at .before .before .before .args .cycle) (at .loop .least) (at .loop .cursor .at) (was .0)),
     )
 
 returns-2 : tie.Need-returns-2 Inv-loop μ-loop

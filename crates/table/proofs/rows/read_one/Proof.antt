@@ -7,17 +7,12 @@ use borrow.Author.Needs.{needs}
 use Rattle.table.proofs.rows.read_one.Statement.{statement}
 use Rattle.table.proofs.rows.read_one.Tie as tie
 
+sub-if1 : tie.Need-sub-if1
+sub-if1 c = search needs
+
 returns : tie.Need-returns
 returns c =
     let x = c .before .before .args in
-    row-cut (x .bytes .now) (x .cycle) (x .least) (x .cursor .at) (omega arith)
-
-sub-if2 : tie.Need-sub-if2
-sub-if2 c = search needs
-
-returns-2 : tie.Need-returns-2
-returns-2 c =
-    let x = c .before .before .before .args in
     row-cut (x .bytes .now) (x .cycle) (x .least) (x .cursor .at) (omega arith)
 
 row-at-requires : tie.Need-row-at-requires
@@ -26,32 +21,31 @@ row-at-requires c κs = search needs
 fault-of-requires : tie.Need-fault-of-requires
 fault-of-requires c κs = search needs
 
-returns-3 : tie.Need-returns-3
-returns-3 c =
-    let x = c .before .before .before .before .before .before .args in
+returns-2 : tie.Need-returns-2
+returns-2 c =
+    let x = c .before .before .before .before .before .args in
     let row = c .before .before .row-at .ensures in
     row-faulty (x .bytes .now) (x .cycle) (x .least) (x .cursor .at) (omega arith)
-    (c .before .fault-of .ensures ∙ ap (λ r. firstMet (rowTests (x .cycle) (x .least) r)) row) (c .if3 .taken)
+    (c .before .fault-of .ensures ∙ ap (λ r. firstMet (rowTests (x .cycle) (x .least) r)) row) (c .if2 .taken)
 
 add-t8 : tie.Need-add-t8
 add-t8 c = search needs
 
-returns-4 : tie.Need-returns-4
-returns-4 c =
-    let x = c .before .before .before .before .before .before .args in
+returns-3 : tie.Need-returns-3
+returns-3 c =
+    let x = c .before .before .before .before .before .args in
     let row = c .before .before .row-at .ensures in
     row-read (x .bytes .now) (x .cycle) (x .least) (x .cursor .at) (omega arith)
-    (ap (λ r. firstMet (rowTests (x .cycle) (x .least) r)) (sym row) ∙ sym (c .before .fault-of .ensures) ∙ c .if3 .left) row
+    (ap (λ r. firstMet (rowTests (x .cycle) (x .least) r)) (sym row) ∙ sym (c .before .fault-of .ensures) ∙ c .if2 .left) row
 
 pub read-one-spec : {M : Type 1} → statement M
 read-one-spec =
     tie.close
     (tie.spec
+    sub-if1
     returns
-    sub-if2
-    returns-2
     row-at-requires
     fault-of-requires
-    returns-3
+    returns-2
     add-t8
-    returns-4)
+    returns-3)

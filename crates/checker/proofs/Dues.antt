@@ -1,0 +1,67 @@
+-- When each row's next quantum is due. Assumes nothing.
+use Prim.Native.Nat.{ℕ, _+_, _≤_, _<_}
+use mathlib.Core.Path.{_≡_, sym, ap, _∙_}
+use mathlib.Core.List.{List}
+use mathlib.Core.Bool.{Bool, true, false}
+use native.Mathlib.Decide.{ℕ-discrete}
+use native.Mathlib.Omega.{arith}
+use lib.ListN.{length, getD, set, length-set}
+use lib.Seq.{getD-set-same, getD-set-other}
+use Rattle.facts.proofs.Filling.{Filled}
+use Rattle.counts.specs.declared.Quanta.{Quanta}
+use Rattle.windows.specs.declared.Due.{Due}
+use Rattle.windows.specs.declared.Due.the-variants as due-is
+use Rattle.windows.specs.declared.Due.the-variants.{By}
+use Rattle.windows.specs.Windows.{bit}
+use Rattle.windows.specs.Next.{nextDue}
+use Rattle.windows.proofs.Next.{due-in-reach}
+use Rattle.table.specs.declared.Row.{Row}
+use Rattle.table.specs.declared.Table.{Table}
+use Rattle.table.specs.Limits.{rowLimit}
+use Rattle.table.specs.Value.{rowsOf}
+use Rattle.pd2.specs.Ready.{origin}
+use Rattle.pd2.specs.Choice.{rowAt}
+use Rattle.pd2.specs.Rows.{quantaOf}
+use Rattle.pd2.proofs.Share.{row-can-be}
+use Rattle.checker.specs.Passes.{due}
+use Rattle.checker.specs.Walking.{CanCheck, CanBeDue, DueAre}
+use Rattle.checker.proofs.Asked.{row-there}
+
+-- What an answer holds.
+abbrev pub dueTime : Due → ℕ
+dueTime (By deadline bit) = deadline .0
+dueTime due-is.Unanswered = 0
+
+abbrev pub isDue : Due → Bool
+isDue (By deadline bit) = true
+isDue due-is.Unanswered = false
+
+-- A row that can be asked is answered.
+pub due-is-said : (row : Row) (q : ℕ) → CanBeDue row q → row .phase < 65_536 → {o : ℕ} → o ≡ origin row → {r : Due} → r ≡ nextDue (row .cost) (row .period) o q →
+    r ≡ By (record { 0 = due row (q + 1) }) (bit (row .cost) (row .period) (q + 1))
+due-is-said row q can small same e =
+    rw (e, same)
+    (due-in-reach (record { cost = can .can .cost; weight = can .can .weight; origin = omega arith; quanta = can .few }))
+
+-- A row of the table can be asked.
+pub can-be-due : (table : Table) → CanCheck table → (i : ℕ) → i < length (rowsOf table) → (d : Row) {q : ℕ} → q ≤ 70_368_744_177_664 → CanBeDue (getD (table .rows) i d) q
+can-be-due table can i l d few = record { can = rw (row-there table i d l) (row-can-be table (can .sound) i l); few = few }
+
+-- An array that is filled with what is due, row after row,
+pub dues-are-filled : (table : Table) (dues : List ℕ) {i : ℕ} → Filled (λ j. due (rowAt (rowsOf table) j) 1) 0 0 rowLimit i dues → length (rowsOf table) ≤ i → DueAre table (λ _. 0) dues
+dues-are-filled table dues so h = record { long = so .long; each = λ j l. so .first j (omega arith) }
+
+-- and one in which a row is due later, since it was given a quantum.
+pub one-due-later : (table : Table) (after : List Quanta) (dues : List ℕ) → DueAre table (quantaOf after) dues → length after ≡ rowLimit → (row : ℕ) → row < rowLimit → (v : Quanta) {x : ℕ} →
+    x ≡ due (rowAt (rowsOf table) row) (v .0 + 1) → DueAre table (quantaOf (set after row v)) (set dues row x)
+one-due-later table after dues so long row fits v {x} e =
+    record { long = length-set dues row x ∙ so .long; each = λ i l. at i l (ℕ-discrete i row) }
+  where
+    at : (i : ℕ) → i < length (rowsOf table) → Dec (i ≡ row) → getD (set dues row x) i 0 ≡ due (rowAt (rowsOf table) i) (quantaOf (set after row v) i + 1)
+    at i l (yes same) =
+        rw same
+        (getD-set-same dues row x 0 (omega (arith, so .long))
+        ∙ (e ∙ ap (λ q. due (rowAt (rowsOf table) row) (q .0 + 1)) (sym (getD-set-same after row v (record { 0 = 0 }) (omega (arith, long))))))
+    at i l (no other) =
+        getD-set-other dues row i x 0 other
+        ∙ (so .each i l ∙ ap (λ q. due (rowAt (rowsOf table) i) (q .0 + 1)) (sym (getD-set-other after row i v (record { 0 = 0 }) other)))

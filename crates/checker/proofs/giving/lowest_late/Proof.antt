@@ -1,0 +1,61 @@
+use Prim.Native.Nat.{_-_}
+use borrow.Author.Needs.{needs}
+use borrow.Author.Tests.{le-leb, lt-leb}
+use lib.Dec.{leb}
+use lib.ListN.{getD}
+use Rattle.facts.proofs.Counting.{NoneYet, looking-begins, looks-on, found-lowest, found-none}
+use Rattle.checker.proofs.giving.lowest_late.Statement.{statement}
+use Rattle.checker.proofs.giving.lowest_late.Tie as tie
+
+abbrev Inv-loop : tie.InvT-loop
+Inv-loop dues n now i₀ i = NoneYet (λ j. leb (getD dues j 0) now) n i
+
+abbrev μ-loop : tie.MeasureT-loop
+μ-loop dues n now i₀ i = n - i
+
+time-requires : tie.Need-time-requires Inv-loop μ-loop
+time-requires c κs = search needs
+
+loop-holds : tie.Need-loop-holds Inv-loop μ-loop
+loop-holds c = looking-begins _ _
+
+mul-due : tie.Need-mul-due Inv-loop μ-loop
+mul-due c = search needs
+
+element-copy-out-due : tie.Need-element-copy-out-due Inv-loop μ-loop
+element-copy-out-due c = search needs
+
+returns : tie.Need-returns Inv-loop μ-loop
+returns c =
+    let a = c .before .before .before in
+    rw (← a .before .time .ensures) (found-lowest _ _ (a .loop .inv) (c .before .before .loop-test .taken) (le-leb _ _ (c .if1 .taken)))
+
+add-i : tie.Need-add-i Inv-loop μ-loop
+add-i c = search needs
+
+loop-less : tie.Need-loop-less Inv-loop μ-loop
+loop-less c = search needs
+
+loop-again : tie.Need-loop-again Inv-loop μ-loop
+loop-again c = looks-on _ _ (c .before .before .before .loop .inv) (c .before .before .loop-test .taken) (lt-leb _ _ (c .if1 .left))
+
+returns-2 : tie.Need-returns-2 Inv-loop μ-loop
+returns-2 c =
+    let a = c .before in
+    rw (← a .before .time .ensures) (found-none _ _ (a .loop .inv) (c .loop-test .left))
+
+pub lowest-late-spec : {M : Type 1} → statement M
+lowest-late-spec =
+    tie.close
+    (tie.spec
+    Inv-loop
+    μ-loop
+    time-requires
+    loop-holds
+    mul-due
+    element-copy-out-due
+    returns
+    add-i
+    loop-less
+    loop-again
+    returns-2)

@@ -1,0 +1,90 @@
+// The rows of the table in a check: they are given quanta, and the time when the next of each is due stands in an array, `dues`.
+use crate::Given;
+use counts::Quanta;
+use counts::Slot;
+use table::Row;
+use table::Table;
+use windows::Due;
+ghost use mathlib.Core.Path.{_≡_};
+ghost use Prim.Native.Nat.{_+_, _≤_};
+ghost use lib.Dec.{leb};
+ghost use lib.ListN.{getD, take, drop};
+ghost use Rattle.facts.specs.First.{Lowest};
+ghost use Rattle.checker.specs.Passes.{due};
+ghost use Rattle.checker.specs.Walking.{CanCheck, CanBeDue, DueAre, CanGive, Gave};
+
+// When the first quantum of each row is due.
+pub(crate) fn first_dues(table: Table) -> [u64; 32]
+    requires { ⌜ CanCheck table ⌝ }
+    ensures { λ r. ⌜ DueAre table (λ _. 0) r ⌝ }
+{
+    let mut dues = [0u64; 32];
+    let n = table.count as usize;
+    let mut i: usize = 0;
+    while i < n {
+        let row = table.rows[i];
+        dues[i] = next_due(row, Quanta::of(0));
+        i += 1;
+    }
+    dues
+}
+
+// When a row's next quantum is due.
+fn next_due(row: Row, given: Quanta) -> u64
+    requires { ⌜ CanBeDue row (given .0) ⌝ }
+    ensures { λ r. ⌜ r ≡ due row (given .0 + 1) ⌝ }
+{
+    let due = windows::next_due(row.cost, row.period, pd2::origin(row), given);
+    match due {
+        Due::By { deadline, bit: _ } => deadline.time(),
+        Due::Unanswered => 0,
+    }
+}
+
+// One quantum more for each of the c rows from a place on, up to the first that was not ready. They rise, so the first is the lowest.
+pub(crate) fn give(
+    trace: &[u8],
+    first: usize,
+    c: usize,
+    table: Table,
+    mut quanta: [Quanta; 32],
+    dues: &mut [u64; 32],
+    slot: Slot,
+) -> Given
+    requires { ⌜ CanGive table (now trace) first c quanta (slot .0) (now dues) ⌝ }
+    ensures { λ r. ⌜ Gave table (take c (drop first (now (trace .entry)))) quanta (slot .0) (r .early) (r .quanta) (now (dues .exit)) ⌝ }
+{
+    let n = table.count as usize;
+    let mut j: usize = 0;
+    while j < c {
+        let i = fields::byte(trace, first + j) as usize;
+        let row = table.rows[i];
+        let given = quanta[i];
+        let verdict = pd2::ready(row, given, slot);
+        if !verdict.is_yes() {
+            return Given { early: i, quanta };
+        }
+        let more = given.one_more();
+        quanta[i] = more;
+        dues[i] = next_due(row, more);
+        j += 1;
+    }
+    Given { early: n, quanta }
+}
+
+// The lowest of n rows that is late at this time, its next quantum due, or n where none is.
+pub(crate) fn lowest_late(dues: &[u64; 32], n: usize, time: Slot) -> usize
+    requires { ⌜ n ≤ 32 ⌝ }
+    ensures { λ r. ⌜ Lowest (λ i. leb (getD (now (dues .entry)) i 0) (time .0)) n r ⌝ }
+{
+    let now = time.time();
+    let mut i: usize = 0;
+    while i < n {
+        let due = dues[i];
+        if due <= now {
+            return i;
+        }
+        i += 1;
+    }
+    n
+}
