@@ -1,4 +1,4 @@
--- What the functions of this crate promise one another.
+-- Between functions: what those of this crate promise one another. No part of what 01 says.
 use Prim.Native.Nat.{ℕ, _+_, _≤_, _<_}
 use mathlib.Core.Path.{_≡_}
 use mathlib.Core.List.{List}

@@ -7,20 +7,28 @@ use native.Mathlib.Decide.{decLt}
 use native.Mathlib.Omega.{arith}
 use borrow.Author.Tests.{lt-ltb, le-ltb, le-leb, lt-leb}
 use lib.Dec.{ltb, leb}
-use lib.ListN.{length}
+use lib.ListN.{length, replicate}
+use Rattle.facts.specs.Rounding.{ceilDiv}
+use Rattle.facts.specs.First.{atFirst}
+use Rattle.facts.specs.Counting.{howMany, those}
 use Rattle.facts.specs.Faults.{firstMet, rising}
 use Rattle.facts.specs.Places.{places, padded}
 use Rattle.counts.specs.Limits.{timeLimit}
+use Rattle.windows.specs.Windows.{start, deadline, bit, windowLength, jobStart}
+use Rattle.windows.specs.Group.{heavy, stops, stopTime, groupDeadline}
 use Rattle.table.specs.declared.Table.{Table}
 use Rattle.table.specs.Limits.{rowLimit}
 use Rattle.table.specs.Causes.{load}
 use Rattle.table.specs.Value.{faultOf, rowsOf}
 use Rattle.table.specs.Bytes.{tableNumber, tableIn}
+use Rattle.table.specs.Example.{example}
 use Rattle.table.proofs.Taken.{taken-value-has-no-fault, sum-is-within, sizes-are-within}
-use Rattle.pd2.specs.Ready.{late}
+use Rattle.pd2.specs.Ready.{ready, late}
+use Rattle.pd2.specs.Share.{lower, upper}
 use Rattle.pd2.specs.Order.{before}
 use Rattle.pd2.specs.Picks.{picked}
-use Rattle.pd2.specs.Choice.{rowAt, quantaAt, readyIn, firstBy}
+use Rattle.pd2.specs.Choice.{rowAt, quantaAt, readyIn, firstBy, given}
+use Rattle.trace.specs.Record.{withFront, withRecord}
 use Rattle.trace.specs.Records.{names}
 use Rattle.trace.specs.Said.{bare}
 use Rattle.trace.proofs.Records.{listed-are-named}
@@ -28,9 +36,9 @@ use Rattle.optimal.specs.Box.{Box}
 use Rattle.optimal.proofs.Box.{sum-is-load, table-is-box}
 use Rattle.optimal.proofs.NeverLate.{pd2-never-late}
 use Rattle.dispatcher.specs.declared.State.{State}
-use Rattle.dispatcher.specs.State.{quantaIn, timeOf}
+use Rattle.dispatcher.specs.State.{quantaIn, timeOf, freshOf}
 use Rattle.dispatcher.specs.Broken.{broken}
-use Rattle.dispatcher.specs.Slot.{picksIn, slotOf}
+use Rattle.dispatcher.specs.Slot.{picksIn, refusal, slotOf}
 use Rattle.dispatcher.proofs.Whole.{is-whole}
 use Rattle.dispatcher.proofs.Kept.{Goes, goes-back, not-refused-is-done, refusal-changes-nothing, done-makes-the-step, places-stay, quanta-after, done-keeps-whole, fresh-is-whole}
 use Rattle.dispatcher.proofs.Places.{picks-are-few, bare-unless-late}
@@ -166,6 +174,14 @@ module _ (table : Table) (c : ℕ) (sound : faultOf table ≡ 0) (few : load (ta
           let late = not-late s k buffer place so more in
           bare-unless-late s k buffer place late ∙ ap bare (done-with-0 done late)
 
+-- the second slot of 01's example with one core free answers 1
+late-with-one : NeverLateWith (tableIn example) 1 → ⊥
+unfolding ceilDiv howMany those firstMet rising places padded start deadline bit windowLength jobStart heavy stops stopTime atFirst groupDeadline load faultOf tableNumber ready late lower upper before picked given withFront withRecord names broken refusal slotOf
+late-with-one never =
+    let room : List ℕ = replicate 10 0 in
+    let fresh = freshOf (tableIn example) in
+    never .never-1 (slotOf fresh 1 room 0 .state) (WithCores.slot fresh 1 room 0 WithCores.start (omega arith)) 1 room 0 (omega arith) refl
+
 pub never-late : NeverLate
 unfolding tableNumber firstMet rising places padded load
 never-late =
@@ -174,4 +190,5 @@ never-late =
       some-cores = never-late-with;
       example-taken = refl;
       example-full = refl;
+      example-late-with-one = late-with-one;
     }

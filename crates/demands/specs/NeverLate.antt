@@ -41,3 +41,5 @@ pub record NeverLate : Type 0 where
   -- 01's example is such a table, and takes all of its two cores.
   pub example-taken : tableNumber example ≡ 0
   pub example-full : load (tableIn example .cycle) (rowsOf (tableIn example)) ≡ tableIn example .cores * tableIn example .cycle
+  -- The sum is what counts: with one core free, one less than its rows need, it is late.
+  pub example-late-with-one : NeverLateWith (tableIn example) 1 → ⊥

@@ -1,4 +1,4 @@
--- How the choice goes about it: rows of the same deadline and bit form a class. What its functions promise one another; that it picks as
+-- Between functions: how the choice goes about it. Rows of the same deadline and bit form a class. No part of what 01 says; that it picks as
 -- PD2 does is proved.
 use Prim.Native.Nat.{ℕ, _+_, _-_, _*_, _%_, _≤_, _<_, min}
 use mathlib.Core.Path.{_≡_}

@@ -1,4 +1,4 @@
--- What the functions of this crate ask of a state, and of its rows, once it is known not to be broken.
+-- Between functions: what those of this crate ask of a state and of its rows. No part of what 01 says.
 use Prim.Native.Nat.{ℕ, _≤_, _<_}
 use mathlib.Core.Path.{_≡_}
 use mathlib.Core.List.{List}

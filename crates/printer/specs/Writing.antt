@@ -1,4 +1,4 @@
--- What the functions that write promise one another. They write from a place on, and leave out what lies past the buffer's end, but
+-- Between functions: what those that write promise one another. No part of what 01 says. They write from a place on, and leave out what lies past the buffer's end, but
 -- count it: so the same functions measure a text, in a buffer without room, and write it.
 use Prim.Native.Nat.{ℕ, _+_, _≤_, _<_}
 use mathlib.Core.Path.{_≡_}

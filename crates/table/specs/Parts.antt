@@ -1,4 +1,4 @@
--- What the parts of the reader answer.
+-- Between functions: what the parts of the reader answer. No part of what 01 says.
 use Prim.Native.Nat.{ℕ, zero, suc, _+_}
 use mathlib.Core.List.{List}
 use Rattle.facts.specs.Faults.{firstMet}

@@ -1,4 +1,4 @@
--- The search for the record of a slot: what its functions answer.
+-- Between functions: what those that search for the record of a slot answer. No part of what 01 says.
 use Prim.Native.Nat.{ℕ, _+_}
 use mathlib.Core.List.{List}
 use mathlib.Core.Bool.{Bool, cond}

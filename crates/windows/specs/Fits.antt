@@ -1,4 +1,4 @@
--- Which numbers the code computes with: then no sum and no product on the way passes 64 bits.
+-- Between functions: which numbers the code computes with; no part of what 01 says. Then no sum and no product on the way passes 64 bits.
 use Prim.Native.Nat.{ℕ, _+_, _<_, _≤_}
 
 -- 2 to the 46: origins and quanta up to here are answered
