@@ -20,12 +20,12 @@ use Rattle.pd2.specs.Ready.{late}
 use Rattle.pd2.specs.Choice.{rowAt}
 use Rattle.pd2.specs.Rows.{quantaOf}
 use Rattle.trace.specs.Said.{Said, named}
-use Rattle.trace.specs.Records.{pastRecord, placeOf, names, firstPlace, placeIn, rowsIn, timesNamed}
+use Rattle.trace.specs.Records.{pastRecord, placeOf, names, firstPlace, placeIn, rowsOfSlot, timesNamed}
 use Rattle.trace.proofs.Records.{counted-if-named, uncounted-if-not-named}
 use Rattle.checker.specs.declared.Answer.{Answer}
 use Rattle.checker.specs.declared.Walk.{Walk}
 use Rattle.checker.specs.Answer.{saidOf}
-use Rattle.checker.specs.Causes.{tooEarly, lateAt, lowest, anyRow}
+use Rattle.checker.specs.Causes.{tooEarly, tooLate, lowest, anyRow}
 use Rattle.checker.specs.Check.{shapeAt, timeFindings, recordFindings}
 use Rattle.checker.specs.Walking.{Askable, DueAre, CanJudge, Walked, Leads, Read, CanGive, Gave, isEarly, isPassed}
 use Rattle.checker.specs.Passes.{due}
@@ -71,7 +71,7 @@ module _ (table : Table) (s : List ℕ) (t : ℕ) (walk : Walk) (dues : List ℕ
     abbrev named-rows : List ℕ
     named-rows = take count (drop first s)
 
-    rows-are : named-rows ≡ rowsIn s t
+    rows-are : named-rows ≡ rowsOfSlot s t
     rows-are = rw (read .begins, read .all, can .reached .place) refl
 
     -- They lie inside the trace,
@@ -109,9 +109,9 @@ module _ (table : Table) (s : List ℕ) (t : ℕ) (walk : Walk) (dues : List ℕ
 
         -- the quanta after the slot,
         quanta-after : (j : ℕ) → j < length (rowsOf table) → quantaOf after j ≡ timesNamed s j (t + 1)
-        quanta-after j l = gave .gave none .each j ∙ go (names (rowsIn s t) j) refl
+        quanta-after j l = gave .gave none .each j ∙ go (names (rowsOfSlot s t) j) refl
           where
-            go : (b : Bool) → names (rowsIn s t) j ≡ b →
+            go : (b : Bool) → names (rowsOfSlot s t) j ≡ b →
                 cond (names named-rows j) (kept (quantaOf (walk .quanta) j + 1)) (quantaOf (walk .quanta) j) ≡ timesNamed s j (t + 1)
             go true e =
                 rw (rows-are, e, can .reached .quanta j l)
@@ -119,9 +119,9 @@ module _ (table : Table) (s : List ℕ) (t : ℕ) (walk : Walk) (dues : List ℕ
             go false e = rw (rows-are, e, can .reached .quanta j l) (sym (uncounted-if-not-named s firstPlace j t e))
 
         few-after : (j : ℕ) → timesNamed s j (t + 1) ≤ t + 1
-        few-after j = go (names (rowsIn s t) j) refl
+        few-after j = go (names (rowsOfSlot s t) j) refl
           where
-            go : (b : Bool) → names (rowsIn s t) j ≡ b → timesNamed s j (t + 1) ≤ t + 1
+            go : (b : Bool) → names (rowsOfSlot s t) j ≡ b → timesNamed s j (t + 1) ≤ t + 1
             go true e = omega (arith, counted-if-named s firstPlace j t e, can .reached .few j)
             go false e = omega (arith, uncounted-if-not-named s firstPlace j t e, can .reached .few j)
 
@@ -134,19 +134,19 @@ module _ (table : Table) (s : List ℕ) (t : ℕ) (walk : Walk) (dues : List ℕ
             }
 
         -- the lowest late row, as it was found in the array
-        late-is : {time k : ℕ} → time ≡ t + 1 → Lowest (λ i. leb (getD dues′ i 0) time) (table .count) k → Lowest (lateAt table s (t + 1)) (length (rowsOf table)) k
+        late-is : {time k : ℕ} → time ≡ t + 1 → Lowest (λ i. leb (getD dues′ i 0) time) (table .count) k → Lowest (tooLate table s (t + 1)) (length (rowsOf table)) k
         unfolding late
         late-is {time} {k} e low =
-            same-lowest (λ i. leb (getD dues′ i 0) (t + 1)) (lateAt table s (t + 1)) (length (rowsOf table)) k (λ j l. rw (due-after .each j l) refl)
+            same-lowest (λ i. leb (getD dues′ i 0) (t + 1)) (tooLate table s (t + 1)) (length (rowsOf table)) k (λ j l. rw (due-after .each j l) refl)
             (subst (λ n. Lowest (λ i. leb (getD dues′ i 0) (t + 1)) n k) (sym (can .can .all)) (subst (λ time. Lowest (λ i. leb (getD dues′ i 0) time) (table .count) k) e low))
 
         -- a late row ends it,
         pub late-ends : {time k : ℕ} → time ≡ t + 1 → Lowest (λ i. leb (getD dues′ i 0) time) (table .count) k → k < length (rowsOf table) →
             FirstFound (recordFindings table s t) (named 45 k (t + 1))
         late-ends {k = k} e low l =
-            let is = is-lowest table (lateAt table s (t + 1)) k (late-is e low) l in
+            let is = is-lowest table (tooLate table s (t + 1)) k (late-is e low) l in
             first-behind sound
-            (FirstFound.later no-early (subst (λ row. FirstFound ((anyRow table (lateAt table s (t + 1)) says named 45 (lowest table (lateAt table s (t + 1))) (t + 1)) ∷ []) (named 45 row (t + 1))) (is .1) (FirstFound.here (is .0))))
+            (FirstFound.later no-early (subst (λ row. FirstFound ((anyRow table (tooLate table s (t + 1)) says named 45 (lowest table (tooLate table s (t + 1))) (t + 1)) ∷ []) (named 45 row (t + 1))) (is .1) (FirstFound.here (is .0))))
 
         -- and else the walk goes on.
         pub goes-on : {time k : ℕ} → time ≡ t + 1 → Lowest (λ i. leb (getD dues′ i 0) time) (table .count) k → length (rowsOf table) ≤ k →
@@ -156,7 +156,7 @@ module _ (table : Table) (s : List ℕ) (t : ℕ) (walk : Walk) (dues : List ℕ
             record {
               none =
                   none-joined sound
-                  (NoneFound.later no-early (NoneFound.later (none-is table (lateAt table s (t + 1)) k (late-is e low) h) NoneFound.end));
+                  (NoneFound.later no-early (NoneFound.later (none-is table (tooLate table s (t + 1)) k (late-is e low) h) NoneFound.end));
               reached =
                   record {
                     place = rw (read .begins, read .all) (ap (pastRecord s) (can .reached .place) ∙ ap (placeIn s) (sym (add-one t)));

@@ -13,9 +13,9 @@ use Rattle.table.specs.declared.Table.{Table}
 use Rattle.table.specs.Value.{rowsOf}
 use Rattle.pd2.specs.Ready.{ready}
 use Rattle.pd2.specs.Choice.{rowAt}
-use Rattle.trace.specs.Records.{names, slotsIn, placeIn, rowsIn, timesNamed}
+use Rattle.trace.specs.Records.{names, slotsIn, placeIn, rowsOfSlot, timesNamed}
 use Rattle.trace.specs.Said.{Said, bare, named}
-use Rattle.checker.specs.Causes.{tooEarly, lateAt, lowest}
+use Rattle.checker.specs.Causes.{tooEarly, tooLate, lowest}
 use Rattle.checker.specs.Check.{shapeAt, timeFindings, recordFindings, recordsFindings, lastFindings, traceSaid}
 use Rattle.checker.specs.WellFormed.{WellFormed}
 use Rattle.checker.proofs.Sound.{InTime, none-in-shape, not-early, none-in-time}
@@ -30,19 +30,19 @@ module _ (table : Table) (s : List ℕ) where
       first-in-front (recordsFindings table s (t + 1) 0) (subst (λ j. FirstFound (recordFindings table s j) x) same first)
   first-in-last last t (suc m) e none first = first-behind (none t (omega arith)) (first-in-last last (t + 1) m (omega arith) none first)
 
-  module _ (m row : ℕ) (low : Lowest (lateAt table s (m + 1)) (length (rowsOf table)) row) (is-row : row < length (rowsOf table)) where
+  module _ (m row : ℕ) (low : Lowest (tooLate table s (m + 1)) (length (rowsOf table)) row) (is-row : row < length (rowsOf table)) where
     -- If the rows of a slot were ready, and at its end a row is the lowest late one, that is found in it,
-    late-is-found : ((i : ℕ) → i < length (rowsOf table) → names (rowsIn s m) i ≡ true → ready (rowAt (rowsOf table) i) (timesNamed s i m) m ≡ true) →
+    late-is-found : ((i : ℕ) → i < length (rowsOf table) → names (rowsOfSlot s m) i ≡ true → ready (rowAt (rowsOf table) i) (timesNamed s i m) m ≡ true) →
         FirstFound (timeFindings table s m) (named 45 row (m + 1))
     late-is-found readied =
         let none = none-if (tooEarly table s m) (length (rowsOf table)) (λ i l. not-early table s m i .1 (readied i l)) in
-        let found = some-if (lateAt table s (m + 1)) (length (rowsOf table)) row is-row (low .passes is-row) in
-        let first : lowest table (lateAt table s (m + 1)) ≡ row = ap (λ l. getD l 0 0) (lowest-is-first (lateAt table s (m + 1)) (length (rowsOf table)) row low is-row .1) in
+        let found = some-if (tooLate table s (m + 1)) (length (rowsOf table)) row is-row (low .passes is-row) in
+        let first : lowest table (tooLate table s (m + 1)) ≡ row = ap (λ l. getD l 0 0) (lowest-is-first (tooLate table s (m + 1)) (length (rowsOf table)) row low is-row .1) in
         subst (λ i. FirstFound (timeFindings table s m) (named 45 i (m + 1))) first (FirstFound.later none (FirstFound.here found))
 
     -- and if the trace is well formed, the slot its last and all before it in time, that is said.
     pub late-is-said : WellFormed table s → slotsIn s ≡ suc m → ((t : ℕ) → t < m → InTime table s t) →
-        ((i : ℕ) → i < length (rowsOf table) → names (rowsIn s m) i ≡ true → ready (rowAt (rowsOf table) i) (timesNamed s i m) m ≡ true) →
+        ((i : ℕ) → i < length (rowsOf table) → names (rowsOfSlot s m) i ≡ true → ready (rowAt (rowsOf table) i) (timesNamed s i m) m ≡ true) →
         traceSaid table s ≡ named 45 row (m + 1)
     unfolding traceSaid
     late-is-said well slots in-time readied = first-is-said (bare 0) (FirstFound.later (well .count) (FirstFound.later (well .limit) (first-in-front (lastFindings s) found)))

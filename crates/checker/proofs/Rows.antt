@@ -20,7 +20,7 @@ use Rattle.pd2.specs.Ready.{origin, early, readyPlain, readyEarly, ready, late}
 use Rattle.pd2.specs.Share.{lower, upper, within, CanBe}
 use Rattle.pd2.specs.Choice.{rowAt}
 use Rattle.pd2.proofs.Share.{row-can-be, nothing-is-within, upper-kept-when-idle, upper-after-quantum-means-ready, late-means-below}
-use Rattle.trace.specs.Records.{namedIn, firstPlace, names, slotsIn, rowsIn, timesNamed}
+use Rattle.trace.specs.Records.{namedIn, firstPlace, names, slotsIn, rowsOfSlot, timesNamed}
 use Rattle.trace.proofs.Records.{counted-if-named, uncounted-if-not-named}
 use Rattle.checker.specs.Passes.{firstAllowed, due, Holds, InWindows}
 use Rattle.checker.proofs.Sound.{InTime}
@@ -65,9 +65,9 @@ module _ (table : Table) (s : List ℕ) (sound : faultOf table ≡ 0) (i : ℕ) 
   share-kept : (t : ℕ) → InTime table s t → inShare t → inShare (t + 1)
   share-kept t in-time now =
       let low = sym (late-means-below row can (quanta (t + 1)) (t + 1)) ∙ in-time .none-late i l in
-      hold-both (not-false (lower row (quanta (t + 1)) (t + 1)) low) (go (names (rowsIn s t) i) refl)
+      hold-both (not-false (lower row (quanta (t + 1)) (t + 1)) low) (go (names (rowsOfSlot s t) i) refl)
     where
-      go : (named : Bool) → names (rowsIn s t) i ≡ named → upper row (quanta (t + 1)) (t + 1) ≡ true
+      go : (named : Bool) → names (rowsOfSlot s t) i ≡ named → upper row (quanta (t + 1)) (t + 1) ≡ true
       go true e = rw (counted-if-named s firstPlace i t e) (upper-after-quantum-means-ready row can (quanta t) t ∙ in-time .readied i l e)
       go false e = rw (uncounted-if-not-named s firstPlace i t e) (upper-kept-when-idle row can (quanta t) t (both (lower row (quanta t) t) _ now .1))
 
@@ -77,7 +77,7 @@ module _ (table : Table) (s : List ℕ) (sound : faultOf table ≡ 0) (i : ℕ) 
   within-after (suc t) each = rw (← add-one t) (share-kept t (each t (omega arith)) (within-after t (λ j k. each j (omega arith))))
 
   -- and the other way round: if it is within its share after slot t that names it, it was ready,
-  pub within-was-ready : (t : ℕ) → inShare (t + 1) → names (rowsIn s t) i ≡ true → ready row (quanta t) t ≡ true
+  pub within-was-ready : (t : ℕ) → inShare (t + 1) → names (rowsOfSlot s t) i ≡ true → ready row (quanta t) t ≡ true
   within-was-ready t after e =
       let high = both (lower row (quanta (t + 1)) (t + 1)) _ after .1 in
       sym (upper-after-quantum-means-ready row can (quanta t) t) ∙ rw (counted-if-named s firstPlace i t e) at high
@@ -107,7 +107,7 @@ module _ (table : Table) (s : List ℕ) (sound : faultOf table ≡ 0) (i : ℕ) 
       omega (arith, due-in-order (row .cost) (row .period) (origin row) (can .cost) (can .weight) j (quanta (due row j) + 1) (due-ahead (due row j) each))
 
   -- and the other way round: with each quantum inside its allowed slots it was ready where it is named,
-  pub allowed-was-ready : InWindows table s → (t : ℕ) → t < slotsIn s → names (rowsIn s t) i ≡ true → ready row (quanta t) t ≡ true
+  pub allowed-was-ready : InWindows table s → (t : ℕ) → t < slotsIn s → names (rowsOfSlot s t) i ≡ true → ready row (quanta t) t ≡ true
   allowed-was-ready windows t k e =
       ready-from-first-allowed row (quanta t) t
       ∙ le-leb (firstAllowed row (quanta t + 1)) t (windows .allowed i t (quanta t + 1) l k (e, refl) .0)

@@ -18,16 +18,16 @@ use Rattle.table.specs.declared.Table.{Table}
 use Rattle.table.specs.Value.{rowsOf}
 use Rattle.pd2.specs.Ready.{ready, late}
 use Rattle.pd2.specs.Choice.{rowAt}
-use Rattle.trace.specs.Records.{names, slotsIn, placeIn, rowsIn, timesNamed}
+use Rattle.trace.specs.Records.{names, slotsIn, placeIn, rowsOfSlot, timesNamed}
 use Rattle.trace.specs.Said.{Said, bare}
-use Rattle.checker.specs.Causes.{badRows, tooEarly, lateAt, extra}
+use Rattle.checker.specs.Causes.{badRows, tooEarly, tooLate, extra}
 use Rattle.checker.specs.Check.{shapeAt, timeFindings, recordFindings, recordsFindings, lastFindings, traceFindings, traceSaid}
 use Rattle.checker.specs.WellFormed.{SoundRecord, WellFormed}
 use Rattle.checker.specs.Passes.{Passes}
 
 -- Slot t is in time: each row that it names was ready, and at its end no row is late.
 pub record InTime (table : Table) (s : List ℕ) (t : ℕ) : Type 0 where
-  pub readied : (row : ℕ) → row < length (rowsOf table) → names (rowsIn s t) row ≡ true → ready (rowAt (rowsOf table) row) (timesNamed s row t) t ≡ true
+  pub readied : (row : ℕ) → row < length (rowsOf table) → names (rowsOfSlot s t) row ≡ true → ready (rowAt (rowsOf table) row) (timesNamed s row t) t ≡ true
   pub none-late : (row : ℕ) → row < length (rowsOf table) → late (rowAt (rowsOf table) row) (timesNamed s row (t + 1)) (t + 1) ≡ false
 
 -- Rising rows below n are not bad,
@@ -103,8 +103,8 @@ module _ (table : Table) (s : List ℕ) where
           record { head = a; cores = b; count = c; rows = d; numbers = e }
 
   -- A row is not early exactly if it was ready where it is named.
-  pub not-early : (t row : ℕ) → (tooEarly table s t row ≡ false) ↔ (names (rowsIn s t) row ≡ true → ready (rowAt (rowsOf table) row) (timesNamed s row t) t ≡ true)
-  not-early t row = (λ h e. not-false _ (rw e at h), go (names (rowsIn s t) row))
+  pub not-early : (t row : ℕ) → (tooEarly table s t row ≡ false) ↔ (names (rowsOfSlot s t) row ≡ true → ready (rowAt (rowsOf table) row) (timesNamed s row t) t ≡ true)
+  not-early t row = (λ h e. not-false _ (rw e at h), go (names (rowsOfSlot s t) row))
     where
       go : (named : Bool) →
           (named ≡ true → ready (rowAt (rowsOf table) row) (timesNamed s row t) t ≡ true) →
@@ -120,13 +120,13 @@ module _ (table : Table) (s : List ℕ) where
       to (NoneFound.later a (NoneFound.later b NoneFound.end)) =
           record {
             readied = λ row l. not-early t row .0 (each-fails (tooEarly table s t) (length (rowsOf table)) a row l);
-            none-late = each-fails (lateAt table s (t + 1)) (length (rowsOf table)) b;
+            none-late = each-fails (tooLate table s (t + 1)) (length (rowsOf table)) b;
           }
 
       from : InTime table s t → NoneFound (timeFindings table s t)
       from in-time =
           NoneFound.later (none-if (tooEarly table s t) (length (rowsOf table)) (λ row l. not-early t row .1 (in-time .readied row l)))
-          (NoneFound.later (none-if (lateAt table s (t + 1)) (length (rowsOf table)) (in-time .none-late)) NoneFound.end)
+          (NoneFound.later (none-if (tooLate table s (t + 1)) (length (rowsOf table)) (in-time .none-late)) NoneFound.end)
 
   -- If nothing is found in the records of m slots from slot t on, nothing is in each,
   none-in-each : (t m : ℕ) → NoneFound (recordsFindings table s t m) → (j : ℕ) → t ≤ j → j < t + m → NoneFound (recordFindings table s j)

@@ -10,7 +10,7 @@ use Rattle.table.specs.declared.Table.{Table}
 use Rattle.table.specs.Value.{rowsOf}
 use Rattle.pd2.specs.Ready.{ready, late}
 use Rattle.pd2.specs.Choice.{rowAt}
-use Rattle.trace.specs.Records.{freeAt, countAt, rowsAt, pastRecord, names, slotsIn, placeIn, rowsIn, timesNamed}
+use Rattle.trace.specs.Records.{freeAt, countAt, rowsAt, pastRecord, names, slotsIn, placeIn, rowsOfSlot, timesNamed}
 
 -- "Slot count (4, at most 1,000,000,000)"
 abbrev pub slotLimit : ℕ
@@ -49,11 +49,11 @@ badRow table s place = badRows (length (rowsOf table)) 0 (rowsAt s place)
 
 -- 44, "quantum before its row was ready (row, slot)": row i is named in slot t and was not ready
 abbrev pub tooEarly : Table → List ℕ → ℕ → ℕ → Bool
-tooEarly table s t i = names (rowsIn s t) i && not (ready (rowAt (rowsOf table) i) (timesNamed s i t) t)
+tooEarly table s t i = names (rowsOfSlot s t) i && not (ready (rowAt (rowsOf table) i) (timesNamed s i t) t)
 
 -- 45, "row late (row, time)": row i is late at time t
-abbrev pub lateAt : Table → List ℕ → ℕ → ℕ → Bool
-lateAt table s t i = late (rowAt (rowsOf table) i) (timesNamed s i t) t
+abbrev pub tooLate : Table → List ℕ → ℕ → ℕ → Bool
+tooLate table s t i = late (rowAt (rowsOf table) i) (timesNamed s i t) t
 
 -- the lowest row that is so, if any is
 abbrev pub lowest : Table → (ℕ → Bool) → ℕ

@@ -7,7 +7,7 @@ use Rattle.table.specs.declared.Table.{Table}
 use Rattle.table.specs.Bytes.{tableNumber, tableIn}
 use Rattle.trace.specs.Records.{slotsIn, placeIn}
 use Rattle.trace.specs.Said.{Said, bare, named}
-use Rattle.checker.specs.Causes.{countCut, tooLong, headCut, tooManyCores, tooManyRows, rowsCut, badRow, tooEarly, lateAt, lowest, anyRow, extra}
+use Rattle.checker.specs.Causes.{countCut, tooLong, headCut, tooManyCores, tooManyRows, rowsCut, badRow, tooEarly, tooLate, lowest, anyRow, extra}
 
 -- "and for each record 40 (its first two bytes), 41, 42, 40 (its rows), 43 ..": what is looked for in the shape of the record at a place
 abbrev pub shapeAt : Table → List ℕ → ℕ → List (Finding Said)
@@ -23,7 +23,7 @@ shapeAt table s place =
 abbrev pub timeFindings : Table → List ℕ → ℕ → List (Finding Said)
 timeFindings table s t =
     (anyRow table (tooEarly table s t) says named 44 (lowest table (tooEarly table s t)) t)
-    ∷ (anyRow table (lateAt table s (t + 1)) says named 45 (lowest table (lateAt table s (t + 1))) (t + 1))
+    ∷ (anyRow table (tooLate table s (t + 1)) says named 45 (lowest table (tooLate table s (t + 1))) (t + 1))
     ∷ []
 
 -- both, for the record of slot t

@@ -14,7 +14,7 @@ use Rattle.table.specs.Bytes.{tableNumber, tableIn}
 use Rattle.pd2.specs.Ready.{origin, early}
 use Rattle.pd2.specs.Share.{within}
 use Rattle.pd2.specs.Choice.{rowAt}
-use Rattle.trace.specs.Records.{names, slotsIn, rowsIn, timesNamed}
+use Rattle.trace.specs.Records.{names, slotsIn, rowsOfSlot, timesNamed}
 use Rattle.trace.specs.Said.{Said, bare}
 use Rattle.checker.specs.Check.{traceFindings, traceSaid, checkOf}
 use Rattle.checker.specs.WellFormed.{WellFormed}
@@ -54,7 +54,7 @@ due row i = deadline (row .cost) (row .period) (origin row) i
 
 -- Slot t holds subtask i of the row: its record names the row, and i - 1 records before it do.
 abbrev pub Holds : List ℕ → ℕ → ℕ → ℕ → Type 0
-Holds s row t i = (names (rowsIn s t) row ≡ true) × (timesNamed s row t + 1 ≡ i)
+Holds s row t i = (names (rowsOfSlot s t) row ≡ true) × (timesNamed s row t + 1 ≡ i)
 
 -- "each quantum falls inside its allowed slots, none overdue"
 pub record InWindows (table : Table) (s : List ℕ) : Type 0 where

@@ -14,7 +14,7 @@ use Rattle.pd2.specs.Ready.{ready, late}
 use Rattle.pd2.specs.Share.{upper, within}
 use Rattle.pd2.specs.Choice.{rowAt}
 use Rattle.pd2.proofs.Share.{row-can-be, upper-after-quantum-means-ready}
-use Rattle.trace.specs.Records.{firstPlace, names, rowsIn, timesNamed, count}
+use Rattle.trace.specs.Records.{firstPlace, names, rowsOfSlot, timesNamed, count}
 use Rattle.trace.specs.Said.{named}
 use Rattle.trace.proofs.Records.{counted-if-named}
 use Rattle.dispatcher.specs.State.{timeOf}
@@ -23,7 +23,7 @@ use Rattle.dispatcher.specs.RunKept.{quantaNow}
 use Rattle.dispatcher.proofs.Whole.{is-whole}
 use Rattle.dispatcher.proofs.RunKept.{going, one-on, first-late-is-owed, first-late-is-lowest, quanta-are-records}
 use Rattle.dispatcher.proofs.Written.{Written, written-going, written-last, shares-written, shares-before, ends-late}
-use Rattle.checker.specs.Causes.{slotLimit, lateAt}
+use Rattle.checker.specs.Causes.{slotLimit, tooLate}
 use Rattle.checker.specs.Check.{traceSaid}
 use Rattle.checker.proofs.Sound.{InTime}
 use Rattle.checker.proofs.Rows.{within-was-ready, within-not-late}
@@ -120,7 +120,7 @@ module _ (table : Table) (free : ℕ → ℕ) (buffer : List ℕ) (sound : fault
         ∙ sym (count-is table (m + 1) (last .bytes) (last .place) late-written (late-clock .1) i (m + 1) (omega arith)))
 
     -- the rows named in the last slot were ready, since the upper limits still hold after it,
-    last-readied : (i : ℕ) → i < length (rowsOf table) → names (rowsIn late-trace m) i ≡ true → ready (rowAt (rowsOf table) i) (timesNamed late-trace i m) m ≡ true
+    last-readied : (i : ℕ) → i < length (rowsOf table) → names (rowsOfSlot late-trace m) i ≡ true → ready (rowAt (rowsOf table) i) (timesNamed late-trace i m) m ≡ true
     last-readied i l named-there =
         let row = rowAt (rowsOf table) i in
         let one-more = quanta-counted i ∙ counted-if-named late-trace firstPlace i m named-there in
@@ -129,9 +129,9 @@ module _ (table : Table) (free : ℕ → ℕ) (buffer : List ℕ) (sound : fault
         ∙ subst (λ q. upper row q (m + 1) ≡ true) one-more high
 
     -- and the row that the run named is the lowest late one
-    lowest-counted : Lowest (lateAt table late-trace (m + 1)) (length (rowsOf table)) (last .said .row)
+    lowest-counted : Lowest (tooLate table late-trace (m + 1)) (length (rowsOf table)) (last .said .row)
     lowest-counted =
-        same-lowest (λ i. late (rowAt (rowsOf table) i) (quantaNow last i) (m + 1)) (lateAt table late-trace (m + 1)) (length (rowsOf table)) (last .said .row)
+        same-lowest (λ i. late (rowAt (rowsOf table) i) (quantaNow last i) (m + 1)) (tooLate table late-trace (m + 1)) (length (rowsOf table)) (last .said .row)
         (λ i l. ap (λ q. late (rowAt (rowsOf table) i) q (m + 1)) (quanta-counted i))
         (first-late-is-lowest table free buffer firstPlace sound m e is-late)
 

@@ -20,8 +20,8 @@ use Rattle.checker.specs.Check.{checkOf}
 use Rattle.demands.specs.RunPasses.{traceOf}
 
 -- rows e/p with phase 0; the tank is the row's number
-abbrev pub plain : ℕ → ℕ → ℕ → Row
-plain tank e p = record { tank = tank; cost = e; period = p; phase = 0; kind = 0 }
+abbrev pub plainRow : ℕ → ℕ → ℕ → Row
+plainRow tank e p = record { tank = tank; cost = e; period = p; phase = 0; kind = 0 }
 
 abbrev pub earlyRelease : ℕ → ℕ → ℕ → Row
 earlyRelease tank e p = record { tank = tank; cost = e; period = p; phase = 0; kind = 1 }
@@ -96,7 +96,7 @@ allHold (line ∷ lines) = holds line && allHold lines
 
 -- "Plain rows 2/3, 2/3, 3/4, three cores"
 abbrev pub threeCores : Table
-threeCores = box 12 3 (plain 0 2 3 ∷ plain 1 2 3 ∷ plain 2 3 4 ∷ [])
+threeCores = box 12 3 (plainRow 0 2 3 ∷ plainRow 1 2 3 ∷ plainRow 2 3 4 ∷ [])
 
 abbrev pub bench : List Line
 bench =
@@ -112,7 +112,7 @@ bench =
     -- "P 2/3 with f = 4, i = 1: 4 to 6, b 1, D 7."
     ∷ window 2 3 4 1 4 6 (is 1) (is 7)
     -- "P Plain rows 1/2, 1/2, 2/3, two cores: slot 0 picks rows 0 and 2."
-    ∷ picks (box 6 2 (plain 0 1 2 ∷ plain 1 1 2 ∷ plain 2 2 3 ∷ [])) 2 (0 ∷ 2 ∷ [])
+    ∷ picks (box 6 2 (plainRow 0 1 2 ∷ plainRow 1 1 2 ∷ plainRow 2 2 3 ∷ [])) 2 (0 ∷ 2 ∷ [])
     -- "P Plain rows 2/3, 2/3, 3/4, three cores, k = 1: slot 0 picks row 2."
     ∷ picks threeCores 1 (2 ∷ [])
     -- "P The same with k = 0 twice: the second slot answers 1, row 0, time 2. With k = 0 then 3: no row late."

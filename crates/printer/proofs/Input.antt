@@ -8,13 +8,13 @@ use lib.Dec.{ltb}
 use lib.ListN.{length}
 use Rattle.facts.proofs.Tests.{neither-holds}
 use Rattle.fields.specs.Fields.{byte}
-use Rattle.printer.specs.Limits.{inputLimit, slotLimit}
-use Rattle.printer.specs.Input.{slotsIn, countIn, listPlace, freeIn, wrongLength, beyondLimit, aboveLimit, unfit}
+use Rattle.printer.specs.Limits.{inputLimit, runLimit}
+use Rattle.printer.specs.Input.{slotsAsked, countIn, listPlace, freeIn, wrongLength, beyondLimit, aboveLimit, unfit}
 
 -- An input that is taken.
 pub record Fit (s : List ℕ) : Type 0 where
   pub long : length s ≡ listPlace s + countIn s
-  pub slots : slotsIn s ≤ slotLimit
+  pub slots : slotsAsked s ≤ runLimit
 
 module _ (s : List ℕ) where
   -- The tests, one after the other: the length,
@@ -30,14 +30,14 @@ module _ (s : List ℕ) where
 
     module _ (few : length s ≤ inputLimit) where
       -- the slots,
-      pub slots-unfit : slotLimit < slotsIn s → true ≡ unfit s
+      pub slots-unfit : runLimit < slotsAsked s → true ≡ unfit s
       unfolding unfit
-      slots-unfit h = rw (eq-eqb (length s) (listPlace s + countIn s) long, le-ltb inputLimit (length s) few, lt-ltb slotLimit (slotsIn s) h)
+      slots-unfit h = rw (eq-eqb (length s) (listPlace s + countIn s) long, le-ltb inputLimit (length s) few, lt-ltb runLimit (slotsAsked s) h)
 
       -- and the count of k values.
-      pub count-unfit : slotsIn s ≤ slotLimit → ltb (slotsIn s) (countIn s) ≡ unfit s
+      pub count-unfit : slotsAsked s ≤ runLimit → ltb (slotsAsked s) (countIn s) ≡ unfit s
       unfolding unfit
-      count-unfit h = rw (eq-eqb (length s) (listPlace s + countIn s) long, le-ltb inputLimit (length s) few, le-ltb slotLimit (slotsIn s) h)
+      count-unfit h = rw (eq-eqb (length s) (listPlace s + countIn s) long, le-ltb inputLimit (length s) few, le-ltb runLimit (slotsAsked s) h)
 
   -- What is known where all have passed.
   pub is-fit : unfit s ≡ false → Fit s
@@ -47,7 +47,7 @@ module _ (s : List ℕ) where
       let lengths = neither-holds (wrongLength s) (beyondLimit s) (above .0) in
       record {
         long = eqb-true (length s) (listPlace s + countIn s) (not-false _ (lengths .0));
-        slots = ltb-false slotLimit (slotsIn s) (neither-holds (ltb slotLimit (slotsIn s)) (ltb (slotsIn s) (countIn s)) (above .1) .0);
+        slots = ltb-false runLimit (slotsAsked s) (neither-holds (ltb runLimit (slotsAsked s)) (ltb (slotsAsked s) (countIn s)) (above .1) .0);
       }
 
   -- A slot within the k list has its k,

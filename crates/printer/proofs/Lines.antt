@@ -12,7 +12,7 @@ use Rattle.table.specs.Limits.{coreLimit}
 use Rattle.pd2.specs.Choice.{rowAt}
 use Rattle.printer.specs.Limits.{lineLimit}
 use Rattle.printer.specs.Lines.{space, newline, decimal, spaced, line, slotLine}
-use Rattle.printer.specs.Writing.{Wrote, WroteFew, namedIn, tanksOf}
+use Rattle.printer.specs.Writing.{Wrote, WroteFew, rowsInEntry, tanksOf}
 use Rattle.printer.proofs.Writing.{wrote-nothing, wrote-on, wrote-as}
 
 -- one part more
@@ -82,11 +82,11 @@ wrote-slot-line slot k tanks first second third last l h =
 -- For the loop over a record's rows: the tanks of its first j rows are written.
 module _ (rows : List Row) (entry : List ℕ) where
   abbrev first : ℕ → List (List ℕ)
-  first j = map decimal (tanksOf rows (take j (namedIn entry)))
+  first j = map decimal (tanksOf rows (take j (rowsInEntry entry)))
 
   pub record TanksSoFar (b : List ℕ) (at : ℕ) (c : List ℕ) (past j : ℕ) : Type 0 where
-    pub wrote : Wrote b at (spaced (map decimal (tanksOf rows (take j (namedIn entry))))) c past
-    pub few : length (spaced (map decimal (tanksOf rows (take j (namedIn entry))))) ≤ 6 * j
+    pub wrote : Wrote b at (spaced (map decimal (tanksOf rows (take j (rowsInEntry entry))))) c past
+    pub few : length (spaced (map decimal (tanksOf rows (take j (rowsInEntry entry))))) ≤ 6 * j
     pub within : j ≤ byte entry 1
 
   pub tanks-begin : (b : List ℕ) (at : ℕ) → TanksSoFar b at b at 0
@@ -94,19 +94,19 @@ module _ (rows : List Row) (entry : List ℕ) where
   tanks-begin b at = record { wrote = wrote-nothing b at; few = omega arith; within = omega arith }
 
   module _ (enough : 2 + byte entry 1 ≤ length entry) where
-    how-many-named : length (namedIn entry) ≡ byte entry 1
+    how-many-named : length (rowsInEntry entry) ≡ byte entry 1
     how-many-named = length-take (byte entry 1) (drop 2 entry) ∙ omega (arith, length-drop 2 entry)
 
     -- the row that is named at place j
-    named-at : (j : ℕ) → j < byte entry 1 → getD (namedIn entry) j 0 ≡ byte entry (j + 2)
+    named-at : (j : ℕ) → j < byte entry 1 → getD (rowsInEntry entry) j 0 ≡ byte entry (j + 2)
     named-at j l = getD-take (byte entry 1) (drop 2 entry) j 0 l ∙ (getD-drop 2 entry j 0 ∙ ap (byte entry) {x = 2 + j} {y = j + 2} (omega arith))
 
     -- so one tank more is
     one-tank-more : {j : ℕ} → j < byte entry 1 → {row : Row} → rowAt rows (byte entry (j + 2)) ≡ row → first (j + 1) ≡ first j ++ (decimal (row .tank) ∷ [])
     one-tank-more {j} l {row} e =
         ap (λ k. first k) (add-one j)
-        ∙ (ap (λ l. map decimal (tanksOf rows l)) (take-suc (namedIn entry) j 0 (omega (arith, how-many-named)))
-        ∙ (both-mapped (take j (namedIn entry)) (getD (namedIn entry) j 0)
+        ∙ (ap (λ l. map decimal (tanksOf rows l)) (take-suc (rowsInEntry entry) j 0 (omega (arith, how-many-named)))
+        ∙ (both-mapped (take j (rowsInEntry entry)) (getD (rowsInEntry entry) j 0)
         ∙ ap (λ r. first j ++ (decimal (r .tank) ∷ [])) (ap (rowAt rows) (named-at j l) ∙ e)))
       where
         both-mapped : (l : List ℕ) (x : ℕ) → map decimal (tanksOf rows (l ++ (x ∷ []))) ≡ map decimal (tanksOf rows l) ++ (decimal (rowAt rows x .tank) ∷ [])
@@ -124,7 +124,7 @@ module _ (rows : List Row) (entry : List ℕ) where
         }
 
     pub tanks-end : {b c : List ℕ} {at past j : ℕ} → TanksSoFar b at c past j → byte entry 1 ≤ j → byte entry 1 ≤ coreLimit →
-        WroteFew 48 b at (spaced (map decimal (tanksOf rows (namedIn entry)))) c past
+        WroteFew 48 b at (spaced (map decimal (tanksOf rows (rowsInEntry entry)))) c past
     tanks-end {j = j} so h most =
-        let all = ap (λ l. spaced (map decimal (tanksOf rows l))) (take-all j (namedIn entry) (omega (arith, how-many-named))) in
+        let all = ap (λ l. spaced (map decimal (tanksOf rows l))) (take-all j (rowsInEntry entry) (omega (arith, how-many-named))) in
         record { wrote = wrote-as all (so .wrote); few = rw (sym all) (omega (arith, so .few, so .within)) }

@@ -16,11 +16,11 @@ use Rattle.dispatcher.specs.State.{rowsIn}
 use Rattle.dispatcher.specs.Slot.{picksIn, recordIn}
 use Rattle.dispatcher.proofs.Kept.{done-makes-the-step, done-keeps-whole}
 use Rattle.printer.specs.declared.Shown.{Shown}
-use Rattle.printer.specs.Limits.{recordRoom, slotLimit, lineLimit, lastLimit}
-use Rattle.printer.specs.Input.{slotsIn, freeIn}
+use Rattle.printer.specs.Limits.{recordRoom, runLimit, lineLimit, lastLimit}
+use Rattle.printer.specs.Input.{slotsAsked, freeIn}
 use Rattle.printer.specs.Lines.{slotLine, endLine, lateLine, refusedLine}
 use Rattle.printer.specs.Text.{emptyRecord, askedOf, tankOf, tanksIn, slotText, slotsText, allSlots}
-use Rattle.printer.specs.Writing.{Wrote, WroteFew, namedIn, tanksOf, Readable, Shows}
+use Rattle.printer.specs.Writing.{Wrote, WroteFew, rowsInEntry, tanksOf, Readable, Shows}
 use Rattle.printer.proofs.Writing.{wrote-on, wrote-as}
 
 -- What is the same at each element is the same of all.
@@ -51,8 +51,8 @@ module _ (s : State) (k : ℕ) where
   written-is = refl
 
   -- it names the rows that are picked
-  named-are-picks : namedIn written ≡ picksIn s k
-  named-are-picks = ap namedIn written-is ∙ take-append-seam (picksIn s k) behind
+  named-are-picks : rowsInEntry written ≡ picksIn s k
+  named-are-picks = ap rowsInEntry written-is ∙ take-append-seam (picksIn s k) behind
 
   -- for callers: what is known of a slot that was done, with the buffer as long as it was
 
@@ -79,9 +79,9 @@ module _ (s : State) (k : ℕ) where
         }
 
     -- and the tanks of its rows are those of the picked rows.
-    pub tanks-are-picked : tanksOf (s .table .rows) (namedIn bytes) ≡ tanksIn s k
+    pub tanks-are-picked : tanksOf (s .table .rows) (rowsInEntry bytes) ≡ tanksIn s k
     tanks-are-picked =
-        ap (λ l. tanksOf (s .table .rows) (namedIn l)) (e ∙ done-makes-the-step s k emptyRecord 0 done .1)
+        ap (λ l. tanksOf (s .table .rows) (rowsInEntry l)) (e ∙ done-makes-the-step s k emptyRecord 0 done .1)
         ∙ (ap (tanksOf (s .table .rows)) named-are-picks
         ∙ same-of-all (λ row. rowAt (s .table .rows) row .tank) (tankOf s) (picksIn s k) (λ j h. tank-in-array (getD (picksIn s k) j 0) (pick-is-row j h)))
 
@@ -161,14 +161,14 @@ module _ (free : ℕ → ℕ) (n : ℕ) (start : State) (b₀ : List ℕ) (at₀
           long = keeps ∙ so .long;
         }
 
-    pub slots-end-early : shown .more ≡ false → n ≤ slotLimit → WroteFew (slotLimit * lineLimit + lastLimit) b₀ at₀ (slotsText free 0 start n) c (shown .past)
+    pub slots-end-early : shown .more ≡ false → n ≤ runLimit → WroteFew (runLimit * lineLimit + lastLimit) b₀ at₀ (slotsText free 0 start n) c (shown .past)
     slots-end-early no-more few =
         let last = shows .last no-more (slotsText free (slot + 1) (askedOf s (free slot) .state) (left - 1)) in
         let all = so .rest (wrote-as (sym (one-slot slot left s h ∙ rw (sym e))) (last .wrote)) in
         record { wrote = all; few = omega (arith, all .place, last .wrote .place, last .few, so .near, so .count, few) }
 
-  pub slots-end : {b c : List ℕ} {at slot left past : ℕ} {s : State} → SlotsSoFar b at s slot left → left ≤ 0 → n ≤ slotLimit →
-      WroteFew lastLimit b at (endLine slot) c past → WroteFew (slotLimit * lineLimit + lastLimit) b₀ at₀ (slotsText free 0 start n) c past
+  pub slots-end : {b c : List ℕ} {at slot left past : ℕ} {s : State} → SlotsSoFar b at s slot left → left ≤ 0 → n ≤ runLimit →
+      WroteFew lastLimit b at (endLine slot) c past → WroteFew (runLimit * lineLimit + lastLimit) b₀ at₀ (slotsText free 0 start n) c past
   unfolding slotsText
   slots-end {left = zero} so h few last =
       let all = so .rest (last .wrote) in
@@ -176,6 +176,6 @@ module _ (free : ℕ → ℕ) (n : ℕ) (start : State) (b₀ : List ℕ) (at₀
   slots-end {left = suc left} so h few last = absurd (omega arith)
 
 -- As many slots as the input asks for are all slots.
-pub all-slots : (s : List ℕ) (start : State) {n : ℕ} → n ≡ slotsIn s → {limit : ℕ} {b c : List ℕ} {at past : ℕ} →
+pub all-slots : (s : List ℕ) (start : State) {n : ℕ} → n ≡ slotsAsked s → {limit : ℕ} {b c : List ℕ} {at past : ℕ} →
     WroteFew limit b at (slotsText (freeIn s (start .table .cores)) 0 start n) c past → WroteFew limit b at (allSlots s start) c past
 all-slots s start e w = rw (sym e) w

@@ -6,7 +6,7 @@ use mathlib.Core.Bool.{Bool, cond, not, _||_}
 use lib.Dec.{ltb, eqb}
 use lib.ListN.{length, take, drop}
 use Rattle.fields.specs.Fields.{byte, half}
-use Rattle.printer.specs.Limits.{inputLimit, slotLimit}
+use Rattle.printer.specs.Limits.{inputLimit, runLimit}
 
 -- "table length (2), table"
 abbrev pub tableLength : List ℕ → ℕ
@@ -19,8 +19,8 @@ tableBytes s = take (tableLength s) (drop 2 s)
 abbrev pub slotsPlace : List ℕ → ℕ
 slotsPlace s = 2 + tableLength s
 
-abbrev pub slotsIn : List ℕ → ℕ
-slotsIn s = half s (slotsPlace s)
+abbrev pub slotsAsked : List ℕ → ℕ
+slotsAsked s = half s (slotsPlace s)
 
 -- "count of k values (2 ..), those k bytes"
 abbrev pub countIn : List ℕ → ℕ
@@ -44,7 +44,7 @@ beyondLimit s = ltb inputLimit (length s)
 
 -- "a number above its limit here": "slots .. at most 4,096", "count of k values (2, at most the slots)"
 abbrev pub aboveLimit : List ℕ → Bool
-aboveLimit s = ltb slotLimit (slotsIn s) || ltb (slotsIn s) (countIn s)
+aboveLimit s = ltb runLimit (slotsAsked s) || ltb (slotsAsked s) (countIn s)
 
 -- "Missing or extra bytes, input beyond 65,536 bytes, or a number above its limit here, print `input` alone"
 unfoldable pub unfit : List ℕ → Bool

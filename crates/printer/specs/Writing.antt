@@ -38,8 +38,8 @@ abbrev pub slotBelow : ℕ
 slotBelow = 100_000
 
 -- the rows that a record names, and their tanks
-abbrev pub namedIn : List ℕ → List ℕ
-namedIn entry = take (byte entry 1) (drop 2 entry)
+abbrev pub rowsInEntry : List ℕ → List ℕ
+rowsInEntry entry = take (byte entry 1) (drop 2 entry)
 
 abbrev pub tanksOf : List Row → List ℕ → List ℕ
 tanksOf rows = map (λ row. rowAt rows row .tank)

@@ -5,7 +5,7 @@ ghost use mathlib.Core.List.{_∷_, map};
 ghost use Prim.Native.Nat.{_+_, _<_};
 ghost use Rattle.printer.specs.Limits.{lineLimit, lastLimit};
 ghost use Rattle.printer.specs.Lines.{space, decimal, spaced, slotLine, endLine, lateLine, refusedLine};
-ghost use Rattle.printer.specs.Writing.{WroteFew, farPlace, linePlace, slotBelow, namedIn, tanksOf, Readable};
+ghost use Rattle.printer.specs.Writing.{WroteFew, farPlace, linePlace, slotBelow, rowsInEntry, tanksOf, Readable};
 
 // `refused N`
 pub(crate) fn refused(out: &mut [u8], at: usize, number: u8) -> usize
@@ -48,7 +48,7 @@ pub(crate) fn slot(
     entry: [u8; 10],
 ) -> usize
     requires { ⌜ (at < linePlace) × ((slot < slotBelow) × Readable entry) ⌝ }
-    ensures { λ r. ⌜ WroteFew lineLimit (now (out .entry)) at (slotLine slot k (tanksOf rows (namedIn entry))) (now (out .exit)) r ⌝ }
+    ensures { λ r. ⌜ WroteFew lineLimit (now (out .entry)) at (slotLine slot k (tanksOf rows (rowsInEntry entry))) (now (out .exit)) r ⌝ }
 {
     let numbered = write::number(out, at, slot);
     let freed = write::spaced(out, numbered, k as u64);
@@ -59,7 +59,7 @@ pub(crate) fn slot(
 // The tanks of the rows that a record names, a space before each.
 fn tanks(out: &mut [u8], at: usize, rows: [Row; 32], entry: [u8; 10]) -> usize
     requires { ⌜ (at + 100 < farPlace) × Readable entry ⌝ }
-    ensures { λ r. ⌜ WroteFew 48 (now (out .entry)) at (spaced (map decimal (tanksOf rows (namedIn entry)))) (now (out .exit)) r ⌝ }
+    ensures { λ r. ⌜ WroteFew 48 (now (out .entry)) at (spaced (map decimal (tanksOf rows (rowsInEntry entry)))) (now (out .exit)) r ⌝ }
 {
     let count = entry[1] as usize;
     let mut next = at;

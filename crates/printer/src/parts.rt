@@ -2,7 +2,7 @@
 use counts::Slot;
 ghost use mathlib.Core.Path.{_≡_};
 ghost use Prim.Native.Nat.{_<_};
-ghost use Rattle.printer.specs.Input.{unfit, slotsIn, slotsPlace, freeIn};
+ghost use Rattle.printer.specs.Input.{unfit, slotsAsked, slotsPlace, freeIn};
 ghost use Rattle.printer.specs.Writing.{slotBelow};
 
 const INPUT_LIMIT: usize = 65_536;
@@ -30,7 +30,7 @@ pub(crate) fn is_unfit(input: &[u8]) -> bool
 
 // How many slots are to be run.
 pub(crate) fn slots(input: &[u8]) -> u16
-    ensures { λ r. ⌜ r ≡ slotsIn (now (input .entry)) ⌝ }
+    ensures { λ r. ⌜ r ≡ slotsAsked (now (input .entry)) ⌝ }
 {
     fields::half(input, slots_place(input))
 }

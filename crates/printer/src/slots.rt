@@ -6,15 +6,15 @@ use crate::parts;
 use counts::Slot;
 use dispatcher::State;
 ghost use Prim.Native.Nat.{_+_, _*_, _≤_, _<_};
-ghost use Rattle.printer.specs.Limits.{slotLimit, lineLimit, lastLimit};
-ghost use Rattle.printer.specs.Input.{slotsIn};
+ghost use Rattle.printer.specs.Limits.{runLimit, lineLimit, lastLimit};
+ghost use Rattle.printer.specs.Input.{slotsAsked};
 ghost use Rattle.printer.specs.Text.{allSlots};
 ghost use Rattle.printer.specs.Writing.{WroteFew, linePlace, slotBelow, Shows};
 
 // The text of all slots that are to be run, from this state on.
 pub(crate) fn all(out: &mut [u8], at: usize, input: &[u8], mut state: State) -> usize
-    requires { ⌜ (at ≤ 16) × (slotsIn (now input) ≤ slotLimit) ⌝ }
-    ensures { λ r. ⌜ WroteFew (slotLimit * lineLimit + lastLimit) (now (out .entry)) at (allSlots (now (input .entry)) state) (now (out .exit)) r ⌝ }
+    requires { ⌜ (at ≤ 16) × (slotsAsked (now input) ≤ runLimit) ⌝ }
+    ensures { λ r. ⌜ WroteFew (runLimit * lineLimit + lastLimit) (now (out .entry)) at (allSlots (now (input .entry)) state) (now (out .exit)) r ⌝ }
 {
     let table = state.table;
     let cores = table.cores;

@@ -9,7 +9,7 @@ use Rattle.counts.specs.declared.Quanta.{Quanta}
 use Rattle.table.specs.declared.Row.{Row}
 use Rattle.table.specs.declared.Table.{Table}
 use Rattle.table.specs.Causes.{zeroRow}
-use Rattle.table.specs.Bytes.{rowAt}
+use Rattle.table.specs.Bytes.{rowInBytes}
 use Rattle.dispatcher.specs.declared.State.{State}
 
 -- the number in the eight bytes from place i on
@@ -22,7 +22,7 @@ BoardsAt s i boards = (j : ℕ) → j < 8 → getD boards j 0 ≡ byte s (i + j)
 
 -- 32 rows, nine bytes each
 abbrev pub RowsAt : List ℕ → ℕ → List Row → Type 0
-RowsAt s i rows = (j : ℕ) → j < 32 → getD rows j zeroRow ≡ rowAt s (i + 9 * j)
+RowsAt s i rows = (j : ℕ) → j < 32 → getD rows j zeroRow ≡ rowInBytes s (i + 9 * j)
 
 -- 32 quanta, eight bytes each
 abbrev pub none : Quanta

@@ -7,7 +7,7 @@ use table::Table;
 ghost use mathlib.Core.Path.{_≡_};
 ghost use Prim.Native.Nat.{_+_, _≤_};
 ghost use lib.ListN.{length};
-ghost use Rattle.table.specs.Bytes.{rowAt};
+ghost use Rattle.table.specs.Bytes.{rowInBytes};
 ghost use Rattle.probe.specs.Values.{long, BoardsAt, RowsAt, QuantaAt, TableAt, StateAt};
 
 // The number in the eight bytes from place `at` on.
@@ -87,7 +87,7 @@ fn rows(s: &[u8], at: usize) -> [Row; 32]
 
 fn row(s: &[u8], at: usize) -> Row
     requires { ⌜ at + 9 ≤ length (now s) ⌝ }
-    ensures { λ r. ⌜ r ≡ rowAt (now (s .entry)) at ⌝ }
+    ensures { λ r. ⌜ r ≡ rowInBytes (now (s .entry)) at ⌝ }
 {
     let tank = fields::half(s, at);
     let cost = fields::half(s, at + 2);

@@ -16,7 +16,7 @@ use Rattle.table.specs.declared.Table.{Table}
 use Rattle.table.specs.declared.Reading.{Reading}
 use Rattle.table.specs.Limits.{cycleLimit, coreLimit, rowLimit}
 use Rattle.table.specs.Causes.{load, zeroRow, outside}
-use Rattle.table.specs.Bytes.{formatIn, cycleIn, coresIn, countIn, rowsPlace, rowPlaces, rowAt, headTests, boardsTestsIn, countTestsIn, rowsTestsIn, lastTests, tableNumber, tableIn, readingOf, reading}
+use Rattle.table.specs.Bytes.{formatIn, cycleIn, coresIn, countIn, rowsPlace, rowPlaces, rowInBytes, headTests, boardsTestsIn, countTestsIn, rowsTestsIn, lastTests, tableNumber, tableIn, readingOf, reading}
 use Rattle.table.specs.Parts.{refusedWith, BoardsAnswer, RowsAnswer}
 
 -- The first fault met is answered, with no table.
@@ -121,10 +121,10 @@ module _ (s : List ℕ) where
                 rows-are = rw (cores-is, count-is) at (r .content z₄)
 
                 module _ {sum : ℕ} (sum-is : sum ≡ load cycle (take count rows)) where
-                  sum-in : ltb (cores * cycle) sum ≡ ltb (coresIn s * cycleIn s) (load (cycleIn s) (map (rowAt s) (rowPlaces s)))
+                  sum-in : ltb (cores * cycle) sum ≡ ltb (coresIn s * cycleIn s) (load (cycleIn s) (map (rowInBytes s) (rowPlaces s)))
                   sum-in =
                       rw (sum-is, rows-are, cycle-is, count-is, cores-is)
-                      (ap (λ l. ltb (coresIn s * cycleIn s) (load (cycleIn s) l)) (first-are-read (rowAt s) zeroRow rowLimit (rowsPlace s) 9 (countIn s)))
+                      (ap (λ l. ltb (coresIn s * cycleIn s) (load (cycleIn s) l)) (first-are-read (rowInBytes s) zeroRow rowLimit (rowsPlace s) 9 (countIn s)))
 
                   pub sum-refused : ltb (cores * cycle) sum ≡ true → refusedWith 22 ≡ reading s
                   unfolding firstMet

@@ -12,7 +12,7 @@ use Rattle.table.specs.declared.Row.{Row}
 use Rattle.table.specs.declared.Cursor.{Cursor}
 use Rattle.table.specs.declared.RowRead as read
 use Rattle.table.specs.Causes.{rowTests, boardTests}
-use Rattle.table.specs.Bytes.{rowAt, boardTestsIn, rowTestsIn}
+use Rattle.table.specs.Bytes.{rowInBytes, boardTestsIn, rowTestsIn}
 use Rattle.table.specs.Parts.{rowReadOf, rowReadIn}
 
 -- A board number is a fault if it is too low,
@@ -54,25 +54,25 @@ module _ (s : List ℕ) (cycle least i : ℕ) where
   unfolding rowReadIn firstMet
   row-cut h = simp (lt-ltb _ _ h)
 
-  row-there : i + 9 ≤ length s → firstMet (rowTestsIn s cycle least i) ≡ firstMet (rowTests cycle least (rowAt s i))
+  row-there : i + 9 ≤ length s → firstMet (rowTestsIn s cycle least i) ≡ firstMet (rowTests cycle least (rowInBytes s i))
   unfolding firstMet
   row-there h = simp (le-ltb _ _ h)
 
   -- or has a fault,
-  pub row-faulty : i + 9 ≤ length s → {k : ℕ} → k ≡ firstMet (rowTests cycle least (rowAt s i)) → (k ≡ 0 → ⊥) → read.the-variants.Fault k ≡ rowReadIn s cycle least i
+  pub row-faulty : i + 9 ≤ length s → {k : ℕ} → k ≡ firstMet (rowTests cycle least (rowInBytes s i)) → (k ≡ 0 → ⊥) → read.the-variants.Fault k ≡ rowReadIn s cycle least i
   unfolding rowReadIn
   row-faulty h {k} e f =
-      row-or k (rowAt s i) (record { at = i + 9 }) f
-      ∙ ap (λ x. rowReadOf x (rowAt s i) (record { at = i + 9 })) (e ∙ sym (row-there h))
+      row-or k (rowInBytes s i) (record { at = i + 9 }) f
+      ∙ ap (λ x. rowReadOf x (rowInBytes s i) (record { at = i + 9 })) (e ∙ sym (row-there h))
 
   -- or is read.
-  pub row-read : i + 9 ≤ length s → firstMet (rowTests cycle least (rowAt s i)) ≡ 0 → {row : Row} → row ≡ rowAt s i → read.the-variants.Row row (record { at = i + 9 }) ≡ rowReadIn s cycle least i
+  pub row-read : i + 9 ≤ length s → firstMet (rowTests cycle least (rowInBytes s i)) ≡ 0 → {row : Row} → row ≡ rowInBytes s i → read.the-variants.Row row (record { at = i + 9 }) ≡ rowReadIn s cycle least i
   unfolding rowReadIn
   row-read h f e = rw (row-there h, f, e)
 
   -- A row that was read has no fault, and a fault that was found is its first.
   pub row-was-read : {got : read.RowRead} {row : Row} {past : Cursor} → got ≡ rowReadIn s cycle least i → got ≡ read.the-variants.Row row past →
-      (firstMet (rowTestsIn s cycle least i) ≡ 0) × (row ≡ rowAt s i) × (past ≡ record { at = i + 9 })
+      (firstMet (rowTestsIn s cycle least i) ≡ 0) × (row ≡ rowInBytes s i) × (past ≡ record { at = i + 9 })
   unfolding rowReadIn
   row-was-read e g = was-row (firstMet (rowTestsIn s cycle least i)) (sym g ∙ e)
 
@@ -88,4 +88,4 @@ module _ (s : List ℕ) (cycle least i : ℕ) where
   pub row-was-faulty : {got : read.RowRead} {j : ℕ} → got ≡ rowReadIn s cycle least i → got ≡ read.the-variants.Fault j →
       (j ≡ firstMet (rowTestsIn s cycle least i)) × (firstMet (rowTestsIn s cycle least i) ≡ 0 → ⊥)
   unfolding rowReadIn
-  row-was-faulty {j = j} e g = was-fault (firstMet (rowTestsIn s cycle least i)) j (rowAt s i) (record { at = i + 9 }) (sym g ∙ e)
+  row-was-faulty {j = j} e g = was-fault (firstMet (rowTestsIn s cycle least i)) j (rowInBytes s i) (record { at = i + 9 }) (sym g ∙ e)

@@ -22,7 +22,7 @@ use Rattle.table.specs.declared.Reading.{Reading}
 use Rattle.table.specs.Limits.{cycleLimit, coreLimit, rowLimit}
 use Rattle.table.specs.Causes.{rowTests, tankAbove, load, zeroRow, outside, boardTests, boardAbove}
 use Rattle.table.specs.Value.{boardsOf, rowsOf, sizeTests, boardsTests, countTests, rowsTests, sumTests, faultOf}
-use Rattle.table.specs.Bytes.{cycleIn, coresIn, countIn, rowsPlace, boardPlaces, rowPlaces, rowAt, boardTestsIn, rowTestsIn, headTests, boardsTestsIn, countTestsIn, rowsTestsIn, lastTests, tableTests, tableNumber, tableIn, noTable, readingOf, reading}
+use Rattle.table.specs.Bytes.{cycleIn, coresIn, countIn, rowsPlace, boardPlaces, rowPlaces, rowInBytes, boardTestsIn, rowTestsIn, headTests, boardsTestsIn, countTestsIn, rowsTestsIn, lastTests, tableTests, tableNumber, tableIn, noTable, readingOf, reading}
 use Rattle.table.specs.Taken.{NumbersAreFirstCauses, NumbersAre10To22, TakenWhereNoCause, TakenHasNoFault, PastIsZero, Sound, RowsAreSound, SumIsWithin, SizesAreWithin, BoardsRise, TanksRise}
 use Rattle.table.proofs.Value.{not-outside, no-fault}
 use Rattle.table.proofs.Answers.{head-passed}
@@ -48,7 +48,7 @@ all-numbered : (s : List ℕ) → numbered (tableTests s) ≡ true
 unfolding numbered
 all-numbered s =
     let boards = rising-numbered (boardTestsIn s) (λ i. boardAbove (byte s i)) (λ least i. refl) 0 (boardPlaces s) in
-    let rows = rising-numbered (rowTestsIn s (cycleIn s)) (λ i. tankAbove (rowAt s i)) (λ least i. refl) 0 (rowPlaces s) in
+    let rows = rising-numbered (rowTestsIn s (cycleIn s)) (λ i. tankAbove (rowInBytes s i)) (λ least i. refl) 0 (rowPlaces s) in
     let after-rows = both-numbered (rowsTestsIn s) (lastTests s) rows refl in
     let after-boards = both-numbered (boardsTestsIn s) (countTestsIn s then rowsTestsIn s then lastTests s) boards in
     both-numbered (headTests s) (boardsTestsIn s then countTestsIn s then rowsTestsIn s then lastTests s) refl
@@ -67,7 +67,7 @@ pub numbers-are-10-to-22 : NumbersAre10To22
 unfolding tableNumber ranged
 numbers-are-10-to-22 s =
     let boards = rising-ranged 10 22 (boardTestsIn s) (λ i. boardAbove (byte s i)) (λ least i. refl) 0 (boardPlaces s) in
-    let rows = rising-ranged 10 22 (rowTestsIn s (cycleIn s)) (λ i. tankAbove (rowAt s i)) (λ least i. refl) 0 (rowPlaces s) in
+    let rows = rising-ranged 10 22 (rowTestsIn s (cycleIn s)) (λ i. tankAbove (rowInBytes s i)) (λ least i. refl) 0 (rowPlaces s) in
     let after-rows = both-ranged 10 22 (rowsTestsIn s) (lastTests s) rows refl in
     let after-count = both-ranged 10 22 (countTestsIn s) (rowsTestsIn s then lastTests s) refl after-rows in
     let after-boards = both-ranged 10 22 (boardsTestsIn s) (countTestsIn s then rowsTestsIn s then lastTests s) boards after-count in
@@ -87,7 +87,7 @@ board-as-read : (s : List ℕ) (least i : ℕ) → firstMet (boardTestsIn s leas
 unfolding firstMet
 board-as-read s least i h = neither (cond (shorter s (i + 1)) 10 0) _ h .1
 
-row-as-read : (s : List ℕ) (cycle least i : ℕ) → firstMet (rowTestsIn s cycle least i) ≡ 0 → firstMet (rowTests cycle least (rowAt s i)) ≡ 0
+row-as-read : (s : List ℕ) (cycle least i : ℕ) → firstMet (rowTestsIn s cycle least i) ≡ 0 → firstMet (rowTests cycle least (rowInBytes s i)) ≡ 0
 unfolding firstMet
 row-as-read s cycle least i h = neither (cond (shorter s (i + 9)) 10 0) _ h .1
 
@@ -97,10 +97,10 @@ few s z =
     let x = neither (cond (shorter s (rowsPlace s)) 10 0) _ z in
     ltb-false rowLimit (countIn s) (passed _ 14 (neither (cond (ltb rowLimit (countIn s)) 15 0) _ (x .1) .0))
 
-within : (s : List ℕ) → firstMet (lastTests s) ≡ 0 → ltb (coresIn s * cycleIn s) (load (cycleIn s) (map (rowAt s) (rowPlaces s))) ≡ false
+within : (s : List ℕ) → firstMet (lastTests s) ≡ 0 → ltb (coresIn s * cycleIn s) (load (cycleIn s) (map (rowInBytes s) (rowPlaces s))) ≡ false
 unfolding firstMet
 within s z =
-    let above = ltb (coresIn s * cycleIn s) (load (cycleIn s) (map (rowAt s) (rowPlaces s))) in
+    let above = ltb (coresIn s * cycleIn s) (load (cycleIn s) (map (rowInBytes s) (rowPlaces s))) in
     let x = neither (cond (ltb (rowsPlace s + 9 * countIn s) (length s)) 21 0) _ z in
     passed above 21 (neither (cond above 22 0) _ (x .1) .0)
 
@@ -115,9 +115,9 @@ taken-value-has-no-fault s h =
     (rw (first-are-read (byte s) 0 coreLimit 6 1 (coresIn s))
     (passes-as-read (boardTestsIn s) boardTests boardAbove (byte s) (board-as-read s) 0 (boardPlaces s) (each .1)))
     (few s (each .2))
-    (rw (first-are-read (rowAt s) zeroRow rowLimit (rowsPlace s) 9 (countIn s))
-    (passes-as-read (rowTestsIn s (cycleIn s)) (rowTests (cycleIn s)) tankAbove (rowAt s) (row-as-read s (cycleIn s)) 0 (rowPlaces s) (each .3)))
-    (sym (ap (load (cycleIn s)) (first-are-read (rowAt s) zeroRow rowLimit (rowsPlace s) 9 (countIn s))))
+    (rw (first-are-read (rowInBytes s) zeroRow rowLimit (rowsPlace s) 9 (countIn s))
+    (passes-as-read (rowTestsIn s (cycleIn s)) (rowTests (cycleIn s)) tankAbove (rowInBytes s) (row-as-read s (cycleIn s)) 0 (rowPlaces s) (each .3)))
+    (sym (ap (load (cycleIn s)) (first-are-read (rowInBytes s) zeroRow rowLimit (rowsPlace s) 9 (countIn s))))
     (within s (each .4)))
 
 pub taken-has-no-fault : TakenHasNoFault
@@ -127,7 +127,7 @@ taken-has-no-fault s h =
 
 pub past-is-zero : PastIsZero
 past-is-zero s i d b = (
-  others-are-nothing (rowAt s) zeroRow rowLimit (rowsPlace s) 9 {n = countIn s} d,
+  others-are-nothing (rowInBytes s) zeroRow rowLimit (rowsPlace s) 9 {n = countIn s} d,
   others-are-nothing (byte s) 0 coreLimit 6 1 {n = coresIn s} b,
 )
 
@@ -184,7 +184,7 @@ row-is-sound t h l i d k =
 pub places-are-there : (s : List ℕ) → tableNumber s ≡ 0 → (length (tableIn s .boards) ≡ coreLimit) × (length (tableIn s .rows) ≡ rowLimit)
 places-are-there s h =
     let sizes = sizes-are-within (tableIn s) (taken-value-has-no-fault s h) in
-    (how-many-padded (byte s) 0 coreLimit 6 1 (sizes .1 .1), how-many-padded (rowAt s) zeroRow rowLimit (rowsPlace s) 9 (sizes .2))
+    (how-many-padded (byte s) 0 coreLimit 6 1 (sizes .1 .1), how-many-padded (rowInBytes s) zeroRow rowLimit (rowsPlace s) 9 (sizes .2))
 
 -- The quanta of the rows below i + 1 in a cycle are those of the rows below i and those of row i.
 pub load-one-more : (cycle : ℕ) (rows : List Row) (i : ℕ) (d : Row) → i < length rows →

@@ -31,8 +31,8 @@ abbrev pub rowsPlace : List ℕ → ℕ
 rowsPlace s = countPlace s + 1
 
 -- "tank (2 ..), e (2), p (2), f (2 ..), kind (1 ..)": the row in the nine bytes from place i on
-abbrev pub rowAt : List ℕ → ℕ → Row
-rowAt s i =
+abbrev pub rowInBytes : List ℕ → ℕ → Row
+rowInBytes s i =
     record {
       tank = half s i;
       cost = half s (i + 2);
@@ -54,13 +54,13 @@ boardTestsIn s least i = cut s (i + 1) ∷ boardTests least (byte s i)
 
 -- "a row once all its nine are": the tests of the row in the nine bytes from place i on (docs/DECISIONS.md, 22)
 abbrev pub rowTestsIn : List ℕ → ℕ → ℕ → ℕ → List Test
-rowTestsIn s cycle least i = cut s (i + 9) ∷ rowTests cycle least (rowAt s i)
+rowTestsIn s cycle least i = cut s (i + 9) ∷ rowTests cycle least (rowInBytes s i)
 
 abbrev pub boardsTestsIn : List ℕ → List Test
 boardsTestsIn s = rising (boardTestsIn s) (λ i. boardAbove (byte s i)) 0 (boardPlaces s)
 
 abbrev pub rowsTestsIn : List ℕ → List Test
-rowsTestsIn s = rising (rowTestsIn s (cycleIn s)) (λ i. tankAbove (rowAt s i)) 0 (rowPlaces s)
+rowsTestsIn s = rising (rowTestsIn s (cycleIn s)) (λ i. tankAbove (rowInBytes s i)) 0 (rowPlaces s)
 
 -- "A field is tested as soon as its bytes are there": format, cycle and core count
 abbrev pub headTests : List ℕ → List Test
@@ -81,7 +81,7 @@ countTestsIn s = cut s (rowsPlace s) ∷ countTest (countIn s) ∷ []
 abbrev pub lastTests : List ℕ → List Test
 lastTests s =
     afterTest s (rowsPlace s + 9 * countIn s)
-    ∷ sumTest (coresIn s) (cycleIn s) (map (rowAt s) (rowPlaces s))
+    ∷ sumTest (coresIn s) (cycleIn s) (map (rowInBytes s) (rowPlaces s))
     ∷ []
 
 -- "Reading goes from the front .. the first fault met is answered": all the tests, in the order in which they are made.
@@ -105,7 +105,7 @@ tableIn s =
       cores = coresIn s;
       boards = padded (byte s) 0 coreLimit 6 1 (coresIn s);
       count = countIn s;
-      rows = padded (rowAt s) zeroRow rowLimit (rowsPlace s) 9 (countIn s);
+      rows = padded (rowInBytes s) zeroRow rowLimit (rowsPlace s) 9 (countIn s);
     }
 
 -- "A table refusal yields no table": every part is 0.

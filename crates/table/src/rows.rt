@@ -10,7 +10,7 @@ ghost use lib.ListN.{length, take};
 ghost use Rattle.facts.specs.Faults.{firstMet, rising};
 ghost use Rattle.table.specs.Limits.{loadLimit};
 ghost use Rattle.table.specs.Causes.{rowTests, tankAbove, load, zeroRow};
-ghost use Rattle.table.specs.Bytes.{rowAt};
+ghost use Rattle.table.specs.Bytes.{rowInBytes};
 ghost use Rattle.table.specs.Parts.{numberOf, rowReadIn, RowsAnswer};
 
 // The n rows that begin at place `at`, and their sum. Each row is gone over once: it is read, tested and added.
@@ -76,7 +76,7 @@ fn number(got: RowRead) -> u8
 // The row in the nine bytes from place `at` on.
 fn row_at(bytes: &[u8], at: usize) -> Row
     requires { ⌜ at + 9 ≤ length (now bytes) ⌝ }
-    ensures { λ r. ⌜ r ≡ rowAt (now (bytes .entry)) at ⌝ }
+    ensures { λ r. ⌜ r ≡ rowInBytes (now (bytes .entry)) at ⌝ }
 {
     let tank = fields::half(bytes, at);
     let cost = fields::half(bytes, at + 2);

@@ -11,7 +11,7 @@ use lib.ListN.{length, take, drop, length-drop}
 use lib.Seq.{drop-cons, length-take-le}
 use Rattle.facts.proofs.Tests.{both, hold-both}
 use Rattle.trace.specs.Record.{recordOf}
-use Rattle.trace.specs.Records.{freeAt, countAt, pastRecord, slotsIn, placeOf, placeIn, rowsIn}
+use Rattle.trace.specs.Records.{freeAt, countAt, pastRecord, slotsIn, placeOf, placeIn, rowsOfSlot}
 use Rattle.trace.specs.Found.{isFound, partFound, partBegins, Found, FoundIfAllInside}
 use Rattle.trace.proofs.Records.{places-rise}
 
@@ -56,11 +56,11 @@ two-first s place h = drop-cons s place 0 (omega arith) ∙ ap (λ l. freeAt s p
     two-on = omega arith
 
 -- The part that is found is the record that stands there: cores free, rows picked and their numbers.
-pub part-is-record : (s : List ℕ) (t : ℕ) → isFound s t ≡ true → partFound s t ≡ recordOf (freeAt s (placeIn s t)) (rowsIn s t)
+pub part-is-record : (s : List ℕ) (t : ℕ) → isFound s t ≡ true → partFound s t ≡ recordOf (freeAt s (placeIn s t)) (rowsOfSlot s t)
 part-is-record s t h =
     let place = placeIn s t in
     let inside = found-if-all-inside s t .0 h .all-inside t (omega arith) in
-    let many : length (rowsIn s t) ≡ countAt s place = length-take-le (countAt s place) (drop (place + 2) s) (omega (arith, inside .whole, length-drop (place + 2) s)) in
+    let many : length (rowsOfSlot s t) ≡ countAt s place = length-take-le (countAt s place) (drop (place + 2) s) (omega (arith, inside .whole, length-drop (place + 2) s)) in
     let two : 2 + countAt s place ≡ suc (suc (countAt s place)) = omega arith in
     rw (h, many, two, two-first s place (inside .front))
 

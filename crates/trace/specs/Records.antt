@@ -50,8 +50,8 @@ firstPlace = 4
 abbrev pub placeIn : List ℕ → ℕ → ℕ
 placeIn s t = placeOf s firstPlace t
 
-abbrev pub rowsIn : List ℕ → ℕ → List ℕ
-rowsIn s t = rowsAt s (placeIn s t)
+abbrev pub rowsOfSlot : List ℕ → ℕ → List ℕ
+rowsOfSlot s t = rowsAt s (placeIn s t)
 
 -- how many of the first t records of a trace name a row
 abbrev pub timesNamed : List ℕ → ℕ → ℕ → ℕ

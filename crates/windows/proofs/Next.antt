@@ -16,14 +16,14 @@ use Rattle.windows.specs.declared.Moment.{Moment}
 use Rattle.windows.specs.declared.Moment.the-variants as moment
 use Rattle.windows.specs.Fits.{reach, Fits, CanWalk}
 use Rattle.windows.specs.Windows.{deadline, bit}
-use Rattle.windows.specs.Next.{answered, InReach, nextDue, next}
+use Rattle.windows.specs.Next.{nextAnswered, InReach, nextDue, next}
 
 -- within reach is answered, and the other way round
-in-reach-is-answered : {e p o q : ℕ} → InReach e p o q → answered e p o q ≡ true
+in-reach-is-answered : {e p o q : ℕ} → InReach e p o q → nextAnswered e p o q ≡ true
 in-reach-is-answered r =
     simp (lt-ltb _ _ (r .cost), le-leb _ _ (r .weight), le-leb _ _ (r .origin), le-leb _ _ (r .quanta))
 
-answered-is-in-reach : (e p o q : ℕ) → answered e p o q ≡ true → InReach e p o q
+answered-is-in-reach : (e p o q : ℕ) → nextAnswered e p o q ≡ true → InReach e p o q
 answered-is-in-reach e p o q y =
     let quanta = both (ltb 0 e && leb e p && leb o reach) (leb q reach) y in
     let origin = both (ltb 0 e && leb e p) (leb o reach) (quanta .0) in
@@ -48,7 +48,7 @@ unfolding nextDue
 due-in-reach r = rw (in-reach-is-answered r)
 
 -- for the functions: i is the number that the code makes of q
-module _ (e p o q i : ℕ) (number : i ≡ kept (q + 1)) (y : answered e p o q ≡ true) where
+module _ (e p o q i : ℕ) (number : i ≡ kept (q + 1)) (y : nextAnswered e p o q ≡ true) where
   in-reach : InReach e p o q
   in-reach = answered-is-in-reach e p o q y
 
@@ -83,7 +83,7 @@ module _ (e p o q i : ℕ) (number : i ≡ kept (q + 1)) (y : answered e p o q �
       (λ k. due.By (record { 0 = (h ∙ ap (deadline e p o) is-next) k }) ((g ∙ ap (bit e p) is-next) k))
 
 -- A question that is not answered is answered so.
-module _ (e p o q : ℕ) (n : answered e p o q ≡ false) where
+module _ (e p o q : ℕ) (n : nextAnswered e p o q ≡ false) where
   pub answers-not : (time : ℕ → ℕ → ℕ → ℕ → ℕ) → moment.Unanswered ≡ next time e p o q
   unfolding next
   answers-not time = rw n

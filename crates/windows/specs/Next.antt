@@ -10,8 +10,8 @@ use Rattle.windows.specs.Fits.{reach}
 use Rattle.windows.specs.Windows.{deadline, bit}
 
 -- A question about the next window is answered for each row that can be, with an origin and quanta within reach.
-abbrev pub answered : ℕ → ℕ → ℕ → ℕ → Bool
-answered e p o q = ltb 0 e && leb e p && leb o reach && leb q reach
+abbrev pub nextAnswered : ℕ → ℕ → ℕ → ℕ → Bool
+nextAnswered e p o q = ltb 0 e && leb e p && leb o reach && leb q reach
 
 -- The same as a record, for laws.
 pub record InReach (e p o q : ℕ) : Type 0 where
@@ -23,8 +23,8 @@ pub record InReach (e p o q : ℕ) : Type 0 where
 -- d and b of the next subtask
 unfoldable pub nextDue : ℕ → ℕ → ℕ → ℕ → Due
 nextDue e p o q =
-    cond (answered e p o q) (due.By (record { 0 = deadline e p o (q + 1) }) (bit e p (q + 1))) due.Unanswered
+    cond (nextAnswered e p o q) (due.By (record { 0 = deadline e p o (q + 1) }) (bit e p (q + 1))) due.Unanswered
 
 -- A time of the next subtask: its `start`, its `jobStart` or its `groupDeadline`.
 unfoldable pub next : (ℕ → ℕ → ℕ → ℕ → ℕ) → ℕ → ℕ → ℕ → ℕ → Moment
-next time e p o q = cond (answered e p o q) (moment.At (record { 0 = time e p o (q + 1) })) moment.Unanswered
+next time e p o q = cond (nextAnswered e p o q) (moment.At (record { 0 = time e p o (q + 1) })) moment.Unanswered

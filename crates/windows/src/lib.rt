@@ -8,7 +8,7 @@ ghost use Rattle.windows.specs.Fits.{Fits, CanWalk, furthest, products};
 ghost use Rattle.windows.specs.Windows.{start, deadline, bit, jobStart};
 ghost use Rattle.windows.specs.Group.{groupDeadline};
 ghost use Rattle.windows.specs.Question.{replyOf, refused, windowReply};
-ghost use Rattle.windows.specs.Next.{answered, nextDue, next};
+ghost use Rattle.windows.specs.Next.{nextAnswered, nextDue, next};
 
 // The answer to the window question.
 pub enum Answer {
@@ -129,7 +129,7 @@ pub fn next_job_start(e: u16, p: u16, origin: Slot, given: Quanta) -> Moment
 
 // Whether a question about the next window is answered.
 fn is_answered(e: u16, p: u16, origin: Slot, given: Quanta) -> bool
-    ensures { λ r. ⌜ r ≡ answered e p (origin .0) (given .0) ⌝ }
+    ensures { λ r. ⌜ r ≡ nextAnswered e p (origin .0) (given .0) ⌝ }
 {
     if e == 0 {
         return false;

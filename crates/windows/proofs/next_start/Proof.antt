@@ -3,14 +3,14 @@ use mathlib.Core.Bool.{true}
 use native.Mathlib.Omega.{arith}
 use borrow.Author.Needs.{needs}
 use borrow.Author.Tests.{not-true, not-false}
-use Rattle.windows.specs.Next.{answered}
+use Rattle.windows.specs.Next.{nextAnswered}
 use Rattle.windows.specs.Windows.{start}
 use Rattle.windows.proofs.Next.{next-fits, answers, answers-not}
 use Rattle.windows.proofs.next_start.Statement.{statement}
 use Rattle.windows.proofs.next_start.Tie as tie
 
 -- past the test the question is answered
-is-answered : (c : tie.Else1) → let x = c .before .before .args in answered (x .e) (x .p) (x .origin .0) (x .given .0) ≡ true
+is-answered : (c : tie.Else1) → let x = c .before .before .args in nextAnswered (x .e) (x .p) (x .origin .0) (x .given .0) ≡ true
 is-answered c = sym (c .before .is-answered .ensures) ∙ not-false _ (c .if1 .left)
 
 is-answered-requires : tie.Need-is-answered-requires

@@ -4,7 +4,7 @@ use native.Mathlib.Omega.{arith}
 use lib.Dec.{ltb}
 use lib.ListN.{length}
 use Rattle.fields.specs.Fields.{half}
-use Rattle.printer.specs.Input.{slotsIn, countIn, listPlace}
+use Rattle.printer.specs.Input.{slotsAsked, countIn, listPlace}
 use Rattle.printer.proofs.Input.{length-unfit, limit-unfit, slots-unfit, count-unfit}
 use borrow.Author.Needs.{needs}
 use Rattle.printer.proofs.parts.is_unfit.Statement.{statement}
@@ -69,7 +69,7 @@ returns-4 c =
     let count = a .half2 .ensures ∙ ap (λ k. half s (k + 2)) place in
     let long : length s ≡ listPlace s + countIn s = omega (arith, c .before .before .if1 .left, place, count) in
     ap (λ k. ltb k (a .half2 .result)) slots
-    ∙ (ap (ltb (slotsIn s)) count ∙ count-unfit s long (c .before .if2 .left) (omega (arith, c .if3 .left, slots)))
+    ∙ (ap (ltb (slotsAsked s)) count ∙ count-unfit s long (c .before .if2 .left) (omega (arith, c .if3 .left, slots)))
 
 pub is-unfit-spec : {M : Type 1} → statement M
 is-unfit-spec =

@@ -2,7 +2,7 @@ use mathlib.Core.Path.{_≡_, _∙_}
 use Prim.Native.Nat.{_+_, _≤_}
 use native.Mathlib.Omega.{arith}
 use borrow.Author.Tests.{not-true, not-false}
-use Rattle.printer.specs.Limits.{slotLimit}
+use Rattle.printer.specs.Limits.{runLimit}
 use Rattle.printer.specs.Input.{freeIn}
 use Rattle.printer.proofs.Text.{SlotsSoFar, slots-begin, slots-go-on, slots-end-early, slots-end, all-slots}
 use borrow.Author.Needs.{needs}
@@ -16,7 +16,7 @@ abbrev μ-loop : tie.MeasureT-loop
 μ-loop out₀ at input state₀ cores slot₀ left₀ next₀ out state slot left next = left
 
 -- no more slots than the limit are to be run
-few : (c : tie.After-slots Inv-loop μ-loop) → c .slots .result ≤ slotLimit
+few : (c : tie.After-slots Inv-loop μ-loop) → c .slots .result ≤ runLimit
 few c = omega (arith, c .slots .ensures, c .before .before .before .before .before .pre .1)
 
 at-requires : tie.Need-at-requires Inv-loop μ-loop

@@ -1,14 +1,14 @@
 use Prim.Native.Nat.{_+_, _*_, _-_, _≤_}
 use native.Mathlib.Omega.{arith}
 use Rattle.probe.proofs.Reading.{ReadUpTo, nothing-read, one-more-read}
-use Rattle.table.specs.Bytes.{rowAt}
+use Rattle.table.specs.Bytes.{rowInBytes}
 use Rattle.table.specs.Causes.{zeroRow}
 use borrow.Author.Needs.{needs}
 use Rattle.probe.proofs.read.rows.Statement.{statement}
 use Rattle.probe.proofs.read.rows.Tie as tie
 
 abbrev Inv-loop : tie.InvT-loop
-Inv-loop s at rows₀ i₀ rows i = (i ≤ 32) × ReadUpTo (λ x. x) (λ j. rowAt s (at + 9 * j)) zeroRow 32 i rows
+Inv-loop s at rows₀ i₀ rows i = (i ≤ 32) × ReadUpTo (λ x. x) (λ j. rowInBytes s (at + 9 * j)) zeroRow 32 i rows
 
 abbrev μ-loop : tie.MeasureT-loop
 μ-loop s at rows₀ i₀ rows i = 32 - i

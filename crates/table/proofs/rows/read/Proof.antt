@@ -9,7 +9,7 @@ use Rattle.table.specs.declared.Row.{Row}
 use Rattle.table.specs.declared.Cursor.{Cursor}
 use Rattle.table.specs.Limits.{rowLimit}
 use Rattle.table.specs.Causes.{tankAbove, zeroRow}
-use Rattle.table.specs.Bytes.{rowAt, rowTestsIn}
+use Rattle.table.specs.Bytes.{rowInBytes, rowTestsIn}
 use Rattle.table.specs.Parts.{numberOf}
 use Rattle.table.proofs.Sum.{Added, added-none, added-put, added-all}
 use Rattle.table.proofs.Bytes.{row-was-read, row-was-there, row-was-faulty}
@@ -19,7 +19,7 @@ use Rattle.table.proofs.rows.read.Tie as tie
 -- i rows have been read, the cursor stands past them, and they are in the sum
 abbrev Inv-loop : tie.InvT-loop
 Inv-loop bytes at n cycle rows₀ cursor₀ sum₀ least₀ i₀ rows cursor sum least i =
-    ReadSoFar (rowTestsIn bytes cycle) (λ k. tankAbove (rowAt bytes k)) (rowAt bytes) zeroRow rowLimit at 9 n rows least i
+    ReadSoFar (rowTestsIn bytes cycle) (λ k. tankAbove (rowInBytes bytes k)) (rowInBytes bytes) zeroRow rowLimit at 9 n rows least i
     × (cursor .at ≡ at + 9 * i)
     × Added rows n cycle sum i
     × (cursor .at ≤ length bytes)
