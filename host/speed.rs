@@ -17,6 +17,8 @@ mod boxes;
 mod cases;
 #[path = "tables/draft.rs"]
 mod draft;
+#[path = "c/firmware.rs"]
+mod firmware;
 #[path = "tables/hex.rs"]
 #[allow(dead_code)]
 mod hex;

@@ -15,6 +15,9 @@ mod compare;
 mod damage;
 #[path = "tables/draft.rs"]
 mod draft;
+#[path = "c/firmware.rs"]
+#[allow(dead_code)]
+mod firmware;
 #[path = "tables/hex.rs"]
 mod hex;
 #[path = "tables/random.rs"]

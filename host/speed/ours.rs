@@ -1,16 +1,9 @@
 //! The proved code, through its C calls.
 
 use crate::cases::Entry;
+use crate::firmware::{zb_table_check, zb_trace_check};
 
 extern "C" {
-    /// As in c/zbrojomir.h.
-    fn zb_table_check(table: *const u8, length: usize) -> u8;
-    fn zb_trace_check(
-        table: *const u8,
-        table_length: usize,
-        trace: *const u8,
-        trace_length: usize,
-    ) -> u8;
     /// The crate slots_run.
     fn zb_slots(
         table: *const u8,

@@ -1,11 +1,7 @@
 //! The two programs that are compared, each as a function from bytes to 01's number.
 
+use crate::firmware::zb_table_check;
 use crate::hex::hex;
-
-extern "C" {
-    /// As in c/zbrojomir.h.
-    fn zb_table_check(table: *const u8, length: usize) -> u8;
-}
 
 /// The number that the proved library answers.
 pub fn library(table: &[u8]) -> u8 {

@@ -1,17 +1,8 @@
 //! The two checkers that are compared, each as a function from the bytes of a table and of a trace to 01's number.
 
+use crate::firmware::zb_trace_check;
 use crate::hex::hex;
 use std::ptr::null;
-
-extern "C" {
-    /// As in c/zbrojomir.h.
-    fn zb_trace_check(
-        table: *const u8,
-        table_length: usize,
-        trace: *const u8,
-        trace_length: usize,
-    ) -> u8;
-}
 
 /// The number that the proved library answers.
 pub fn library(table: &[u8], trace: &[u8]) -> u8 {
