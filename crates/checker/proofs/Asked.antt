@@ -8,7 +8,6 @@ use borrow.Author.Tests.{lt-ltb, le-leb}
 use lib.ListN.{length, getD, length-take}
 use lib.Seq.{getD-take}
 use Rattle.facts.proofs.Filling.{getD-any}
-use Rattle.counts.specs.declared.Quanta.{Quanta}
 use Rattle.table.specs.declared.Row.{Row}
 use Rattle.table.specs.declared.Table.{Table}
 use Rattle.table.specs.Causes.{zeroRow}
@@ -18,8 +17,7 @@ use Rattle.pd2.specs.declared.Verdict.{Verdict}
 use Rattle.pd2.specs.Ready.{ready}
 use Rattle.pd2.specs.Verdict.{isYes, answered, verdict}
 use Rattle.pd2.specs.Choice.{rowAt}
-use Rattle.pd2.specs.Rows.{quantaOf}
-use Rattle.checker.specs.Walking.{Askable}
+use Rattle.checker.specs.Walking.{givenTo, Askable}
 
 -- An answered question is answered yes exactly if it holds.
 pub yes-when-answered : (holds : Bool) {a : Bool} → a ≡ true → isYes (verdict a holds) ≡ holds
@@ -32,20 +30,17 @@ row-there table i d l =
     getD-any (table .rows) i d zeroRow (omega (arith, length-take (table .count) (table .rows)))
     ∙ sym (getD-take (table .count) (table .rows) i zeroRow (omega (arith, length-take (table .count) (table .rows))))
 
-module _ (table : Table) (quanta : List Quanta) (t : ℕ) (ask : Askable table quanta t) (i : ℕ) (l : i < length (rowsOf table)) (d : Row) (q : Quanta) where
-  there : i < length quanta
-  there = omega (arith, ask .long, ask .can .few, ask .can .all)
-
+module _ (table : Table) (counts : List ℕ) (t : ℕ) (ask : Askable table counts t) (i : ℕ) (l : i < length (rowsOf table)) (d : Row) where
   -- Each row can be asked,
-  pub can-be-asked : answered (getD (table .rows) i d) (getD quanta i q .0) t ≡ true
+  pub can-be-asked : answered (getD (table .rows) i d) (givenTo counts i) t ≡ true
   can-be-asked =
       let sound = rows-are-sound table (ask .can .sound) i l in
-      rw (row-there table i d l, getD-any quanta i q (record { 0 = 0 }) there)
+      rw (row-there table i d l)
       (rw (lt-ltb _ _ (sound .cost), le-leb (rowAt (rowsOf table) i .cost) (rowAt (rowsOf table) i .period) (omega (arith, sound .weight)))
-      (rw (le-leb (quantaOf quanta i) 70_368_744_177_664 (omega (arith, ask .few i l, ask .time)), le-leb t 70_368_744_177_664 (omega (arith, ask .time))) refl))
+      (rw (le-leb (givenTo counts i) 70_368_744_177_664 (omega (arith, ask .few i l, ask .time)), le-leb t 70_368_744_177_664 (omega (arith, ask .time))) refl))
 
   -- and is ready as the definition has it.
-  pub ready-as-read : {yes : Bool} {v : Verdict} → yes ≡ isYes v → v ≡ verdict (answered (getD (table .rows) i d) (getD quanta i q .0) t) (ready (getD (table .rows) i d) (getD quanta i q .0) t) →
-      yes ≡ ready (rowAt (rowsOf table) i) (quantaOf quanta i) t
-  ready-as-read e f =
-      e ∙ (ap isYes f ∙ (yes-when-answered _ can-be-asked ∙ rw (row-there table i d l, getD-any quanta i q (record { 0 = 0 }) there) refl))
+  pub ready-as-read : {q : ℕ} → q ≡ givenTo counts i → {yes : Bool} {v : Verdict} → yes ≡ isYes v →
+      v ≡ verdict (answered (getD (table .rows) i d) q t) (ready (getD (table .rows) i d) q t) → yes ≡ ready (rowAt (rowsOf table) i) (givenTo counts i) t
+  ready-as-read same e f =
+      e ∙ (ap isYes (rw same at f) ∙ (yes-when-answered _ can-be-asked ∙ rw (row-there table i d l) refl))

@@ -8,7 +8,6 @@ use native.Mathlib.Omega.{arith}
 use lib.ListN.{length, getD, set, length-set}
 use lib.Seq.{getD-set-same, getD-set-other}
 use Rattle.facts.proofs.Filling.{Filled}
-use Rattle.counts.specs.declared.Quanta.{Quanta}
 use Rattle.windows.specs.declared.Due.{Due}
 use Rattle.windows.specs.declared.Due.the-variants as due-is
 use Rattle.windows.specs.declared.Due.the-variants.{By}
@@ -21,10 +20,9 @@ use Rattle.table.specs.Limits.{rowLimit}
 use Rattle.table.specs.Value.{rowsOf}
 use Rattle.pd2.specs.Ready.{origin}
 use Rattle.pd2.specs.Choice.{rowAt}
-use Rattle.pd2.specs.Rows.{quantaOf}
 use Rattle.pd2.proofs.Share.{row-can-be}
 use Rattle.checker.specs.Passes.{due}
-use Rattle.checker.specs.Walking.{CanCheck, CanBeDue, DueAre}
+use Rattle.checker.specs.Walking.{givenTo, CanCheck, CanBeDue, DueAre}
 use Rattle.checker.proofs.Asked.{row-there}
 
 -- What an answer holds.
@@ -52,16 +50,16 @@ pub dues-are-filled : (table : Table) (dues : List ℕ) {i : ℕ} → Filled (λ
 dues-are-filled table dues so h = record { long = so .long; each = λ j l. so .first j (omega arith) }
 
 -- and one in which a row is due later, since it was given a quantum.
-pub one-due-later : (table : Table) (after : List Quanta) (dues : List ℕ) → DueAre table (quantaOf after) dues → length after ≡ rowLimit → (row : ℕ) → row < rowLimit → (v : Quanta) {x : ℕ} →
-    x ≡ due (rowAt (rowsOf table) row) (v .0 + 1) → DueAre table (quantaOf (set after row v)) (set dues row x)
+pub one-due-later : (table : Table) (after dues : List ℕ) → DueAre table (givenTo after) dues → length after ≡ rowLimit → (row : ℕ) → row < rowLimit → (v : ℕ) {x : ℕ} →
+    x ≡ due (rowAt (rowsOf table) row) (v + 1) → DueAre table (givenTo (set after row v)) (set dues row x)
 one-due-later table after dues so long row fits v {x} e =
     record { long = length-set dues row x ∙ so .long; each = λ i l. at i l (ℕ-discrete i row) }
   where
-    at : (i : ℕ) → i < length (rowsOf table) → Dec (i ≡ row) → getD (set dues row x) i 0 ≡ due (rowAt (rowsOf table) i) (quantaOf (set after row v) i + 1)
+    at : (i : ℕ) → i < length (rowsOf table) → Dec (i ≡ row) → getD (set dues row x) i 0 ≡ due (rowAt (rowsOf table) i) (givenTo (set after row v) i + 1)
     at i l (yes same) =
         rw same
         (getD-set-same dues row x 0 (omega (arith, so .long))
-        ∙ (e ∙ ap (λ q. due (rowAt (rowsOf table) row) (q .0 + 1)) (sym (getD-set-same after row v (record { 0 = 0 }) (omega (arith, long))))))
+        ∙ (e ∙ ap (λ q. due (rowAt (rowsOf table) row) (q + 1)) (sym (getD-set-same after row v 0 (omega (arith, long))))))
     at i l (no other) =
         getD-set-other dues row i x 0 other
-        ∙ (so .each i l ∙ ap (λ q. due (rowAt (rowsOf table) i) (q .0 + 1)) (sym (getD-set-other after row i v (record { 0 = 0 }) other)))
+        ∙ (so .each i l ∙ ap (λ q. due (rowAt (rowsOf table) i) (q + 1)) (sym (getD-set-other after row i v 0 other)))

@@ -12,22 +12,19 @@ use Rattle.facts.specs.Findings.{_says_, FirstFound, NoneFound}
 use Rattle.facts.proofs.First.{same-lowest}
 use Rattle.facts.proofs.Findings.{none-joined, first-in-front, first-behind}
 use Rattle.facts.proofs.Counting.{some-if, none-if, lowest-is-first}
-use Rattle.counts.specs.declared.Quanta.{Quanta}
 use Rattle.counts.specs.Limits.{kept}
 use Rattle.table.specs.declared.Table.{Table}
 use Rattle.table.specs.Value.{rowsOf}
 use Rattle.pd2.specs.Ready.{late}
 use Rattle.pd2.specs.Choice.{rowAt}
-use Rattle.pd2.specs.Rows.{quantaOf}
 use Rattle.trace.specs.Said.{Said, named}
 use Rattle.trace.specs.Records.{pastRecord, placeOf, names, firstPlace, placeIn, rowsOfSlot, timesNamed}
 use Rattle.trace.proofs.Records.{counted-if-named, uncounted-if-not-named}
 use Rattle.checker.specs.declared.Answer.{Answer}
-use Rattle.checker.specs.declared.Walk.{Walk}
 use Rattle.checker.specs.Answer.{saidOf}
 use Rattle.checker.specs.Causes.{tooEarly, tooLate, lowest, anyRow}
 use Rattle.checker.specs.Check.{shapeAt, timeFindings, recordFindings}
-use Rattle.checker.specs.Walking.{Askable, DueAre, CanJudge, Walked, Leads, Read, CanGive, Gave, isEarly, isPassed}
+use Rattle.checker.specs.Walking.{givenTo, Askable, DueAre, CanJudge, Walked, Leads, Read, CanGive, Gave, isEarly, isPassed}
 use Rattle.checker.specs.Passes.{due}
 
 -- The lowest row that is so is the one that is named.
@@ -38,32 +35,31 @@ is-lowest table is i low l =
 none-is : (table : Table) (is : ℕ → Bool) (i : ℕ) → Lowest is (length (rowsOf table)) i → length (rowsOf table) ≤ i → anyRow table is ≡ false
 none-is table is i low h = none-if is (length (rowsOf table)) (λ j l. low .none-before j (omega arith))
 
--- The walk behind a record, by other names.
-pub same-walked : (table : Table) (s : List ℕ) {t t′ : ℕ} {walk walk′ : Walk} {dues : List ℕ} → t ≡ t′ → walk ≡ walk′ → Walked table s t walk dues → Walked table s t′ walk′ dues
-same-walked table s {t} {t′} {walk} {walk′} {dues} e f walked =
-    subst (λ u. Walked table s u walk′ dues) e (subst (λ w. Walked table s t w dues) f walked)
+-- The walk behind a record, by another name of the slot.
+pub same-walked : (table : Table) (s : List ℕ) {t t′ at : ℕ} {counts dues : List ℕ} → t ≡ t′ → Walked table s t at counts dues → Walked table s t′ at counts dues
+same-walked table s {at = at} {counts = counts} {dues = dues} e walked = subst (λ u. Walked table s u at counts dues) e walked
 
 -- An answer ends the check,
-pub ends : (table : Table) (s : List ℕ) (t : ℕ) {answer a : Answer} {walk : Walk} {dues : List ℕ} → answer ≡ a → isPassed a ≡ false → FirstFound (recordFindings table s t) (saidOf a) →
-    Leads table s t answer walk dues
+pub ends : (table : Table) (s : List ℕ) (t : ℕ) {answer a : Answer} {at : ℕ} {counts dues : List ℕ} → answer ≡ a → isPassed a ≡ false → FirstFound (recordFindings table s t) (saidOf a) →
+    Leads table s t answer at counts dues
 ends table s t e p f =
     record {
       walked = λ h. absurd (true≢false (sym h ∙ (ap isPassed e ∙ p)));
       ended = λ _. subst (λ a. FirstFound (recordFindings table s t) (saidOf a)) (sym e) f;
     }
 
-module _ (table : Table) (s : List ℕ) (t : ℕ) (walk : Walk) (dues : List ℕ) (can : CanJudge table s t walk dues) where
+module _ (table : Table) (s : List ℕ) (t at : ℕ) (counts dues : List ℕ) (can : CanJudge table s t at counts dues) where
   -- where the record's shape is not sound,
-  pub shape-ends : {x : Said} → FirstFound (shapeAt table s (walk .at)) x → FirstFound (recordFindings table s t) x
+  pub shape-ends : {x : Said} → FirstFound (shapeAt table s (at)) x → FirstFound (recordFindings table s t) x
   shape-ends {x} f = first-in-front (timeFindings table s t) (subst (λ place. FirstFound (shapeAt table s place) x) (can .reached .place) f)
 
   -- the rows can be asked
-  rows-can-be-asked : Askable table (walk .quanta) t
+  rows-can-be-asked : Askable table counts t
   rows-can-be-asked =
       let at = can .reached in
       record { can = can .can; long = at .long; few = λ i l. omega (arith, at .quanta i l, at .few i); time = omega (arith, can .time) }
 
-  module _ {first count : ℕ} (read : Read table s (walk .at) first count) where
+  module _ {first count : ℕ} (read : Read table s (at) first count) where
     sound : NoneFound (shapeAt table s (placeIn s t))
     sound = subst (λ place. NoneFound (shapeAt table s place)) (can .reached .place) (read .sound)
 
@@ -79,7 +75,7 @@ module _ (table : Table) (s : List ℕ) (t : ℕ) (walk : Walk) (dues : List ℕ
     rows-inside = omega (arith, read .begins, read .all, read .inside)
 
     -- and can be given quanta.
-    pub can-give : CanGive table s first count (walk .quanta) t dues
+    pub can-give : CanGive table s first count counts t dues
     can-give =
         record {
           inside = rows-inside;
@@ -92,11 +88,11 @@ module _ (table : Table) (s : List ℕ) (t : ℕ) (walk : Walk) (dues : List ℕ
         }
 
     -- the lowest early row, as it was found in the arrays
-    early-is : {i : ℕ} → Lowest (isEarly table (walk .quanta) named-rows t) (length (rowsOf table)) i → Lowest (tooEarly table s t) (length (rowsOf table)) i
+    early-is : {i : ℕ} → Lowest (isEarly table counts named-rows t) (length (rowsOf table)) i → Lowest (tooEarly table s t) (length (rowsOf table)) i
     early-is {i} low =
-        same-lowest (isEarly table (walk .quanta) named-rows t) (tooEarly table s t) (length (rowsOf table)) i (λ j l. rw (rows-are, can .reached .quanta j l) refl) low
+        same-lowest (isEarly table counts named-rows t) (tooEarly table s t) (length (rowsOf table)) i (λ j l. rw (rows-are, can .reached .quanta j l) refl) low
 
-    module _ {early : ℕ} {after : List Quanta} {dues′ : List ℕ} (gave : Gave table named-rows (walk .quanta) t early after dues′) where
+    module _ {early : ℕ} {after : List ℕ} {dues′ : List ℕ} (gave : Gave table named-rows counts t early after dues′) where
       -- An early row ends the check,
       pub early-ends : early < length (rowsOf table) → FirstFound (recordFindings table s t) (named 44 early t)
       early-ends l =
@@ -108,11 +104,11 @@ module _ (table : Table) (s : List ℕ) (t : ℕ) (walk : Walk) (dues : List ℕ
         no-early = none-is table (tooEarly table s t) early (early-is (gave .lowest)) none
 
         -- the quanta after the slot,
-        quanta-after : (j : ℕ) → j < length (rowsOf table) → quantaOf after j ≡ timesNamed s j (t + 1)
+        quanta-after : (j : ℕ) → j < length (rowsOf table) → givenTo after j ≡ timesNamed s j (t + 1)
         quanta-after j l = gave .gave none .each j ∙ go (names (rowsOfSlot s t) j) refl
           where
             go : (b : Bool) → names (rowsOfSlot s t) j ≡ b →
-                cond (names named-rows j) (kept (quantaOf (walk .quanta) j + 1)) (quantaOf (walk .quanta) j) ≡ timesNamed s j (t + 1)
+                cond (names named-rows j) (kept (givenTo counts j + 1)) (givenTo counts j) ≡ timesNamed s j (t + 1)
             go true e =
                 rw (rows-are, e, can .reached .quanta j l)
                 (omega (arith, can .reached .few j, can .time) ∙ sym (counted-if-named s firstPlace j t e))
@@ -150,7 +146,7 @@ module _ (table : Table) (s : List ℕ) (t : ℕ) (walk : Walk) (dues : List ℕ
 
         -- and else the walk goes on.
         pub goes-on : {time k : ℕ} → time ≡ t + 1 → Lowest (λ i. leb (getD dues′ i 0) time) (table .count) k → length (rowsOf table) ≤ k →
-            Walked table s t (record { at = first + count; quanta = after }) dues′
+            Walked table s t (first + count) after dues′
         unfolding placeOf
         goes-on {k = k} e low h =
             record {

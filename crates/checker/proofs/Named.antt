@@ -11,16 +11,13 @@ use lib.Dec.{ltb, eqb}
 use lib.ListN.{length, getD, take, drop, set, length-set, length-take, length-drop, drop-of-length-le}
 use lib.Seq.{drop-cons, take-suc, take-all, getD-set-same, getD-set-other, getD-take, getD-drop}
 use Rattle.facts.specs.First.{Lowest}
-use Rattle.facts.proofs.Filling.{getD-any}
 use Rattle.facts.proofs.Tests.{neither-holds, or-true, or-false}
 use Rattle.fields.specs.Fields.{byte}
-use Rattle.counts.specs.declared.Quanta.{Quanta}
 use Rattle.counts.specs.Limits.{kept}
-use Rattle.pd2.specs.Rows.{quantaOf}
 use Rattle.trace.specs.Records.{names}
 use Rattle.trace.proofs.Records.{names-either}
 use Rattle.checker.specs.Causes.{badRows}
-use Rattle.checker.specs.Walking.{GaveNamed}
+use Rattle.checker.specs.Walking.{givenTo, GaveNamed}
 
 -- the c numbers from a place on, and the j-th of them
 pub how-many-rows : (s : List ℕ) (first c : ℕ) → first + c ≤ length s → length (take c (drop first s)) ≡ c
@@ -128,7 +125,7 @@ pub record PassSoFar (rows : List ℕ) (a : ℕ → Bool) (j : ℕ) : Type 0 whe
   pub pass : (i : ℕ) → names (take j rows) i ≡ true → a i ≡ true
 
 -- For the loop that gives: the first j rows have one quantum more.
-pub record GaveSoFar (rows : List ℕ) (before after : List Quanta) (j : ℕ) : Type 0 where
+pub record GaveSoFar (rows : List ℕ) (before after : List ℕ) (j : ℕ) : Type 0 where
   pub within : j ≤ length rows
   pub gave : GaveNamed (take j rows) before after
 
@@ -188,30 +185,29 @@ module _ (rows : List ℕ) (n : ℕ) (rise : badRows n 0 rows ≡ false) where
           none-before = λ i b. not-failing i _ (sym (ap (λ x. names x i) (take-all j rows h))) (so .pass i);
         }
 
-  module _ (before : List Quanta) where
+  module _ (before : List ℕ) where
     -- Giving begins with nothing given,
     pub giving-begins : GaveSoFar rows before before 0
     unfolding names
     giving-begins = record { within = omega arith; gave = record { places = refl; each = λ i. refl } }
 
     -- has not come to the row that is next,
-    pub not-given-yet : {after : List Quanta} {j row : ℕ} → GaveSoFar rows before after j → j < length rows → row ≡ getD rows j 0 → quantaOf after row ≡ quantaOf before row
+    pub not-given-yet : {after : List ℕ} {j row : ℕ} → GaveSoFar rows before after j → j < length rows → row ≡ getD rows j 0 → givenTo after row ≡ givenTo before row
     not-given-yet {j = j} {row = row} so l same = so .gave .each row ∙ rw (same, not-named-yet n 0 rows rise j l) refl
 
     -- goes on row by row,
-    pub gives-one-more : {after : List Quanta} {j row : ℕ} → GaveSoFar rows before after j → j < length rows → row ≡ getD rows j 0 → row < length after → (d v : Quanta) →
-        v .0 ≡ kept (getD after row d .0 + 1) → GaveSoFar rows before (set after row v) (j + 1)
-    gives-one-more {after} {j} {row} so l same there d v e =
+    pub gives-one-more : {after : List ℕ} {j row : ℕ} → GaveSoFar rows before after j → j < length rows → row ≡ getD rows j 0 → row < length after → (v : ℕ) →
+        v ≡ kept (givenTo after row + 1) → GaveSoFar rows before (set after row v) (j + 1)
+    gives-one-more {after} {j} {row} so l same there v e =
         record { within = omega arith; gave = record { places = length-set after row v ∙ so .gave .places; each = λ i. at i (ℕ-discrete i row) } }
       where
-        at : (i : ℕ) → Dec (i ≡ row) → quantaOf (set after row v) i ≡ cond (names (take (j + 1) rows) i) (kept (quantaOf before i + 1)) (quantaOf before i)
+        at : (i : ℕ) → Dec (i ≡ row) → givenTo (set after row v) i ≡ cond (names (take (j + 1) rows) i) (kept (givenTo before i + 1)) (givenTo before i)
         at i (yes i-is) =
             rw (i-is, ap (names (take (j + 1) rows)) same ∙ own-named j l)
-            (ap (λ q. q .0) (getD-set-same after row v (record { 0 = 0 }) there)
-            ∙ (e ∙ (ap (λ q. kept (q .0 + 1)) (getD-any after row d (record { 0 = 0 }) there) ∙ ap (λ q. kept (q + 1)) (not-given-yet so l same))))
+            (getD-set-same after row v 0 there ∙ (e ∙ ap (λ q. kept (q + 1)) (not-given-yet so l same)))
         at i (no other) =
-            rw (other-named j i l (λ i-is. other (i-is ∙ sym same))) (ap (λ q. q .0) (getD-set-other after row i v (record { 0 = 0 }) other) ∙ so .gave .each i)
+            rw (other-named j i l (λ i-is. other (i-is ∙ sym same))) (getD-set-other after row i v 0 other ∙ so .gave .each i)
 
     -- and ends when all have been given theirs.
-    pub all-given : {after : List Quanta} {j : ℕ} → GaveSoFar rows before after j → length rows ≤ j → GaveNamed rows before after
+    pub all-given : {after : List ℕ} {j : ℕ} → GaveSoFar rows before after j → length rows ≤ j → GaveNamed rows before after
     all-given {after} {j} so h = subst (λ x. GaveNamed x before after) (take-all j rows h) (so .gave)

@@ -1,13 +1,11 @@
 -- Going through a trace, record after record. Assumes nothing.
 use Prim.Native.Nat.{ℕ, _+_, _-_, _≤_, _<_}
-use mathlib.Core.Path.{_≡_, sym, ap, _∙_}
+use mathlib.Core.Path.{_≡_, refl, sym, ap, _∙_}
 use mathlib.Core.List.{List, _++_, append-assoc}
 use native.Mathlib.Omega.{arith}
 use borrow.Author.Tests.{lt-ltb, le-ltb}
 use native.Mathlib.Decide.{decLt}
 use lib.ListN.{length, replicate, getD-replicate, length-replicate, List·getD-eq-default}
-use Rattle.counts.specs.declared.Quanta.{Quanta}
-use Rattle.pd2.specs.Rows.{quantaOf}
 use Rattle.facts.specs.Findings.{firstFound, FirstFound, NoneFound}
 use Rattle.facts.proofs.Findings.{first-is-said, none-says-otherwise, after-none, first-in-front}
 use Rattle.facts.proofs.Counting.{none-counted}
@@ -17,27 +15,23 @@ use Rattle.table.specs.Value.{rowsOf}
 use Rattle.pd2.specs.Choice.{rowAt}
 use Rattle.trace.specs.Said.{Said, bare}
 use Rattle.trace.specs.Records.{placeOf, namedIn, firstPlace, slotsIn}
-use Rattle.checker.specs.declared.Walk.{Walk}
 use Rattle.checker.specs.Causes.{slotLimit}
 use Rattle.checker.specs.Check.{recordFindings, recordsFindings, lastFindings, traceSaid}
-use Rattle.checker.specs.Walking.{DueAre, Reached, Walked}
+use Rattle.checker.specs.Walking.{givenTo, DueAre, Reached, Walked}
 use Rattle.checker.specs.Passes.{due}
 
-no-quanta : Quanta
-no-quanta = record { 0 = 0 }
-
 -- nothing has been given at the start
-nothing : (i : ℕ) → quantaOf (replicate 32 (record { 0 = 0 })) i ≡ 0
+nothing : (i : ℕ) → givenTo (replicate 32 0) i ≡ 0
 nothing i = go (decLt i 32)
   where
-    go : Dec (i < 32) → quantaOf (replicate 32 (record { 0 = 0 })) i ≡ 0
-    go (yes l) = ap (λ (q : Quanta). q .0) (getD-replicate 32 i (record { 0 = 0 }) (record { 0 = 0 }) l)
-    go (no l) = ap (λ (q : Quanta). q .0) (List·getD-eq-default (replicate 32 (record { 0 = 0 })) (record { 0 = 0 }) {n = i} (omega (arith, length-replicate 32 no-quanta)))
+    go : Dec (i < 32) → givenTo (replicate 32 0) i ≡ 0
+    go (yes l) = getD-replicate 32 i 0 0 l
+    go (no l) = List·getD-eq-default (replicate 32 0) 0 {n = i} (omega (arith, length-replicate {A = ℕ} 32 0))
 
 module _ (table : Table) (s : List ℕ) where
   -- The check has come to slot t of the trace's slots: what is left says what the whole says.
-  pub record Come (slots t : ℕ) (walk : Walk) (dues : List ℕ) : Type 0 where
-    pub reached : Reached table s t walk dues
+  pub record Come (slots t at : ℕ) (counts dues : List ℕ) : Type 0 where
+    pub reached : Reached table s t at counts dues
     pub within : t ≤ slots
     pub count : slots ≡ slotsIn s
     pub few : slots ≤ slotLimit
@@ -55,17 +49,16 @@ module _ (table : Table) (s : List ℕ) where
     is-too-long h = sym (first-is-said (bare 0) (FirstFound.later (le-ltb (length s) 4 there) (FirstFound.here (lt-ltb slotLimit (slotsIn s) h))))
 
     -- else the check begins.
-    pub check-begins : {slots : ℕ} → slots ≡ slotsIn s → slots ≤ slotLimit → (walk : Walk) → walk .at ≡ 4 → walk .quanta ≡ replicate 32 (record { 0 = 0 }) →
-        {dues : List ℕ} → DueAre table (λ _. 0) dues → Come slots 0 walk dues
+    pub check-begins : {slots : ℕ} → slots ≡ slotsIn s → slots ≤ slotLimit → {dues : List ℕ} → DueAre table (λ _. 0) dues → Come slots 0 4 (replicate 32 0) dues
     unfolding traceSaid placeOf
-    check-begins {slots} e few walk place quanta dues =
+    check-begins {slots} e few dues =
         record {
           reached =
               record {
-                place = place;
-                inside = omega arith;
-                long = ap length quanta;
-                quanta = λ i l. ap (λ q. quantaOf q i) quanta ∙ (nothing i ∙ sym (none-counted (namedIn s firstPlace i)));
+                place = refl;
+                inside = there;
+                long = length-replicate {A = ℕ} 32 0;
+                quanta = λ i l. nothing i ∙ sym (none-counted (namedIn s firstPlace i));
                 few = λ i. omega (arith, none-counted (namedIn s firstPlace i));
                 due = record {
                   long = dues .long;
@@ -81,7 +74,7 @@ module _ (table : Table) (s : List ℕ) where
               ∙ ap (λ m. firstFound (bare 0) (recordsFindings table s 0 m ++ lastFindings s)) {x = slotsIn s} {y = slots - 0} (omega arith);
         }
 
-  module _ {slots t : ℕ} {walk : Walk} {dues : List ℕ} (so : Come slots t walk dues) (more : t < slots) where
+  module _ {slots t : ℕ} {at : ℕ} {counts dues : List ℕ} (so : Come slots t at counts dues) (more : t < slots) where
     left : traceSaid table s ≡ firstFound (bare 0) ((recordFindings table s t ++ recordsFindings table s (t + 1) (slots - (t + 1))) ++ lastFindings s)
     unfolding recordsFindings
     left = so .rest ∙ ap (λ m. firstFound (bare 0) (recordsFindings table s t m ++ lastFindings s)) (one-left-more more)
@@ -91,7 +84,7 @@ module _ (table : Table) (s : List ℕ) where
     record-says f = sym (left ∙ first-is-said (bare 0) (first-in-front (lastFindings s) (first-in-front (recordsFindings table s (t + 1) (slots - (t + 1))) f)))
 
     -- and else the check goes on.
-    pub check-goes-on : {next : Walk} {dues′ : List ℕ} → Walked table s t next dues′ → Come slots (t + 1) next dues′
+    pub check-goes-on : {next : ℕ} {counts′ dues′ : List ℕ} → Walked table s t next counts′ dues′ → Come slots (t + 1) next counts′ dues′
     check-goes-on walked =
         record {
           reached = walked .reached;
@@ -104,19 +97,19 @@ module _ (table : Table) (s : List ℕ) where
               ∙ after-none (bare 0) (recordsFindings table s (t + 1) (slots - (t + 1)) ++ lastFindings s) (walked .none));
         }
 
-  module _ {slots t : ℕ} {walk : Walk} {dues : List ℕ} (so : Come slots t walk dues) (end : slots ≤ t) where
+  module _ {slots t : ℕ} {at : ℕ} {counts dues : List ℕ} (so : Come slots t at counts dues) (end : slots ≤ t) where
     last : traceSaid table s ≡ firstFound (bare 0) (lastFindings s)
     unfolding recordsFindings
     last = so .rest ∙ ap (λ m. firstFound (bare 0) (recordsFindings table s t m ++ lastFindings s)) {x = slots - t} {y = 0} (omega arith)
 
-    place-is : walk .at ≡ placeOf s firstPlace (slotsIn s)
+    place-is : at ≡ placeOf s firstPlace (slotsIn s)
     place-is = so .reached .place ∙ ap (placeOf s firstPlace) (omega (arith, so .within, so .count))
 
     -- At the end there are bytes left,
-    pub bytes-are-left : walk .at < length s → bare 46 ≡ traceSaid table s
+    pub bytes-are-left : at < length s → bare 46 ≡ traceSaid table s
     bytes-are-left h = sym (last ∙ first-is-said (bare 0) (FirstFound.here (lt-ltb (placeOf s firstPlace (slotsIn s)) (length s) (omega (arith, place-is)))))
 
     -- or the trace passes.
-    pub trace-passes : length s ≤ walk .at → bare 0 ≡ traceSaid table s
+    pub trace-passes : length s ≤ at → bare 0 ≡ traceSaid table s
     trace-passes h =
         sym (last ∙ none-says-otherwise (bare 0) (NoneFound.later (le-ltb (placeOf s firstPlace (slotsIn s)) (length s) (omega (arith, place-is))) NoneFound.end))

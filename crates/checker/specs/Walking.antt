@@ -7,7 +7,6 @@ use lib.Dec.{eqb}
 use lib.ListN.{length, getD, take, drop}
 use Rattle.facts.specs.First.{Lowest}
 use Rattle.facts.specs.Findings.{FirstFound, NoneFound}
-use Rattle.counts.specs.declared.Quanta.{Quanta}
 use Rattle.counts.specs.Limits.{kept}
 use Rattle.windows.specs.Fits.{reach}
 use Rattle.table.specs.declared.Row.{Row}
@@ -17,10 +16,8 @@ use Rattle.table.specs.Value.{faultOf, rowsOf}
 use Rattle.pd2.specs.Ready.{ready}
 use Rattle.pd2.specs.Share.{CanBe}
 use Rattle.pd2.specs.Choice.{rowAt}
-use Rattle.pd2.specs.Rows.{quantaOf}
 use Rattle.trace.specs.Records.{countAt, pastRecord, names, placeIn, timesNamed}
 use Rattle.checker.specs.declared.Answer.{Answer}
-use Rattle.checker.specs.declared.Walk.{Walk}
 use Rattle.checker.specs.Answer.{saidOf}
 use Rattle.checker.specs.Causes.{slotLimit, badRows, badRow}
 use Rattle.checker.specs.Check.{shapeAt, recordFindings}
@@ -32,11 +29,15 @@ pub record CanCheck (table : Table) : Type 0 where
   pub few : table .count ≤ rowLimit
   pub all : length (rowsOf table) ≡ table .count
 
+-- how many quanta a row has been given, by the array of counts
+abbrev pub givenTo : List ℕ → ℕ → ℕ
+givenTo counts i = getD counts i 0
+
 -- The rows can be asked: their quanta and the time are within their limits.
-pub record Askable (table : Table) (quanta : List Quanta) (t : ℕ) : Type 0 where
+pub record Askable (table : Table) (counts : List ℕ) (t : ℕ) : Type 0 where
   pub can : CanCheck table
-  pub long : length quanta ≡ rowLimit
-  pub few : (i : ℕ) → i < length (rowsOf table) → quantaOf quanta i ≤ t
+  pub long : length counts ≡ rowLimit
+  pub few : (i : ℕ) → i < length (rowsOf table) → givenTo counts i ≤ t
   pub time : t ≤ slotLimit
 
 -- A row can be asked when its next quantum is due.
@@ -50,30 +51,30 @@ pub record DueAre (table : Table) (quanta : ℕ → ℕ) (dues : List ℕ) : Typ
   pub each : (i : ℕ) → i < length (rowsOf table) → getD dues i 0 ≡ due (rowAt (rowsOf table) i) (quanta i + 1)
 
 -- The check has come to slot t: the place is that of its record, and the quanta are the records before it that name each row.
-pub record Reached (table : Table) (s : List ℕ) (t : ℕ) (walk : Walk) (dues : List ℕ) : Type 0 where
-  pub place : walk .at ≡ placeIn s t
-  pub inside : walk .at ≤ length s
-  pub long : length (walk .quanta) ≡ rowLimit
-  pub quanta : (i : ℕ) → i < length (rowsOf table) → quantaOf (walk .quanta) i ≡ timesNamed s i t
+pub record Reached (table : Table) (s : List ℕ) (t at : ℕ) (counts dues : List ℕ) : Type 0 where
+  pub place : at ≡ placeIn s t
+  pub inside : at ≤ length s
+  pub long : length counts ≡ rowLimit
+  pub quanta : (i : ℕ) → i < length (rowsOf table) → givenTo counts i ≡ timesNamed s i t
   pub few : (i : ℕ) → timesNamed s i t ≤ t
   pub due : DueAre table (λ i. timesNamed s i t) dues
 
 -- The record of slot t can be judged.
-pub record CanJudge (table : Table) (s : List ℕ) (t : ℕ) (walk : Walk) (dues : List ℕ) : Type 0 where
+pub record CanJudge (table : Table) (s : List ℕ) (t at : ℕ) (counts dues : List ℕ) : Type 0 where
   pub can : CanCheck table
-  pub reached : Reached table s t walk dues
+  pub reached : Reached table s t at counts dues
   pub time : t < slotLimit
 
 -- What a record leads to: nothing is found in it and the walk goes behind it, or the first that is found ends the check.
-pub record Walked (table : Table) (s : List ℕ) (t : ℕ) (walk : Walk) (dues : List ℕ) : Type 0 where
+pub record Walked (table : Table) (s : List ℕ) (t at : ℕ) (counts dues : List ℕ) : Type 0 where
   pub none : NoneFound (recordFindings table s t)
-  pub reached : Reached table s (t + 1) walk dues
+  pub reached : Reached table s (t + 1) at counts dues
 
 abbrev pub isPassed : Answer → Bool
 isPassed answer = eqb (saidOf answer .number) 0
 
-pub record Leads (table : Table) (s : List ℕ) (t : ℕ) (answer : Answer) (walk : Walk) (dues : List ℕ) : Type 0 where
-  pub walked : isPassed answer ≡ true → Walked table s t walk dues
+pub record Leads (table : Table) (s : List ℕ) (t : ℕ) (answer : Answer) (at : ℕ) (counts dues : List ℕ) : Type 0 where
+  pub walked : isPassed answer ≡ true → Walked table s t at counts dues
   pub ended : isPassed answer ≡ false → FirstFound (recordFindings table s t) (saidOf answer)
 
 -- What reading the record at a place leads to: where its rows begin and how many there are, if it is sound; or the first fault in it.
@@ -89,23 +90,23 @@ pub record ReadLeads (table : Table) (s : List ℕ) (at : ℕ) (answer : Answer)
   pub refused : isPassed answer ≡ false → FirstFound (shapeAt table s at) (saidOf answer)
 
 -- Row i is named and not ready.
-abbrev pub isEarly : Table → List Quanta → List ℕ → ℕ → ℕ → Bool
-isEarly table quanta rows t i = names rows i && not (ready (rowAt (rowsOf table) i) (quantaOf quanta i) t)
+abbrev pub isEarly : Table → List ℕ → List ℕ → ℕ → ℕ → Bool
+isEarly table counts rows t i = names rows i && not (ready (rowAt (rowsOf table) i) (givenTo counts i) t)
 
 -- Each row that is named has one quantum more.
-pub record GaveNamed (rows : List ℕ) (before after : List Quanta) : Type 0 where
+pub record GaveNamed (rows : List ℕ) (before after : List ℕ) : Type 0 where
   pub places : length after ≡ length before
-  pub each : (i : ℕ) → quantaOf after i ≡ cond (names rows i) (kept (quantaOf before i + 1)) (quantaOf before i)
+  pub each : (i : ℕ) → givenTo after i ≡ cond (names rows i) (kept (givenTo before i + 1)) (givenTo before i)
 
 -- The c rows from a place on can be given quanta: they lie inside the trace, they rise, and the rows can be asked.
-pub record CanGive (table : Table) (s : List ℕ) (first c : ℕ) (quanta : List Quanta) (t : ℕ) (dues : List ℕ) : Type 0 where
+pub record CanGive (table : Table) (s : List ℕ) (first c : ℕ) (counts : List ℕ) (t : ℕ) (dues : List ℕ) : Type 0 where
   pub inside : first + c ≤ length s
   pub rise : badRows (length (rowsOf table)) 0 (take c (drop first s)) ≡ false
-  pub ask : Askable table quanta t
-  pub due : DueAre table (quantaOf quanta) dues
+  pub ask : Askable table counts t
+  pub due : DueAre table (givenTo counts) dues
 
 -- What giving leads to: the lowest row that is early; and if there is none, each named row has one quantum more, and is due as its next one is.
-pub record Gave (table : Table) (rows : List ℕ) (before : List Quanta) (t early : ℕ) (after : List Quanta) (dues : List ℕ) : Type 0 where
+pub record Gave (table : Table) (rows : List ℕ) (before : List ℕ) (t early : ℕ) (after dues : List ℕ) : Type 0 where
   pub lowest : Lowest (isEarly table before rows t) (length (rowsOf table)) early
   pub gave : length (rowsOf table) ≤ early → GaveNamed rows before after
-  pub due : length (rowsOf table) ≤ early → DueAre table (quantaOf after) dues
+  pub due : length (rowsOf table) ≤ early → DueAre table (givenTo after) dues

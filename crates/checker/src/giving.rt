@@ -1,5 +1,5 @@
-// The rows of the table in a check: they are given quanta, and the time when the next of each is due stands in an array, `dues`.
-use crate::Given;
+// The rows of the table in a check: how many quanta each has been given stands in an array, `counts`, and the time when its next one is due in
+// another, `dues`. Both are of plain numbers, so that they can be lent; a count is a `Quanta` again wherever it is used.
 use counts::Quanta;
 use counts::Slot;
 use table::Row;
@@ -41,35 +41,37 @@ fn next_due(row: Row, given: Quanta) -> u64
     }
 }
 
-// One quantum more for each of the c rows from a place on, up to the first that was not ready. They rise, so the first is the lowest.
+// One quantum more for each of the c rows from a place on, up to the first that was not ready, which is handed back, or n where all were. They
+// rise, so the first is the lowest.
 pub(crate) fn give(
     trace: &[u8],
     first: usize,
     c: usize,
     table: Table,
-    mut quanta: [Quanta; 32],
+    counts: &mut [u64; 32],
     dues: &mut [u64; 32],
     slot: Slot,
-) -> Given
-    requires { ⌜ CanGive table (now trace) first c quanta (slot .0) (now dues) ⌝ }
-    ensures { λ r. ⌜ Gave table (take c (drop first (now (trace .entry)))) quanta (slot .0) (r .early) (r .quanta) (now (dues .exit)) ⌝ }
+) -> usize
+    requires { ⌜ CanGive table (now trace) first c (now counts) (slot .0) (now dues) ⌝ }
+    ensures { λ r. ⌜ Gave table (take c (drop first (now (trace .entry)))) (now (counts .entry)) (slot .0) r (now (counts .exit)) (now (dues .exit)) ⌝ }
 {
     let n = table.count as usize;
     let mut j: usize = 0;
     while j < c {
         let i = fields::byte(trace, first + j) as usize;
         let row = table.rows[i];
-        let given = quanta[i];
+        let count = counts[i];
+        let given = Quanta::of(count);
         let verdict = pd2::ready(row, given, slot);
         if !verdict.is_yes() {
-            return Given { early: i, quanta };
+            return i;
         }
         let more = given.one_more();
-        quanta[i] = more;
+        counts[i] = more.count();
         dues[i] = next_due(row, more);
         j += 1;
     }
-    Given { early: n, quanta }
+    n
 }
 
 // The lowest of n rows that is late at this time, its next quantum due, or n where none is.

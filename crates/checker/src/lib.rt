@@ -2,7 +2,6 @@
 mod giving;
 mod record;
 
-use counts::Quanta;
 use counts::Slot;
 use table::Table;
 ghost use mathlib.Core.Path.{_≡_};
@@ -45,22 +44,10 @@ pub enum Answer {
 // The most slots that a trace may have.
 const SLOT_LIMIT: u32 = 1_000_000_000;
 
-// How far the check has come: the place of the next record, and the quanta given so far.
-struct Walk {
-    at: usize,
-    quanta: [Quanta; 32],
-}
-
-// What giving leads to: the lowest row that was not ready, or n where all were; and the quanta then.
-struct Given {
-    early: usize,
-    quanta: [Quanta; 32],
-}
-
-// What a record leads to: `Passed` and the walk behind it, or the answer that ends the check.
+// What a record leads to: `Passed` and the place behind it, or the answer that ends the check.
 struct Step {
     answer: Answer,
-    walk: Walk,
+    next: usize,
 }
 
 // Judges the table, then the trace.
@@ -147,21 +134,27 @@ fn check_trace(table: Table, trace: &[u8]) -> Answer
     if SLOT_LIMIT < slots {
         return Answer::TooLong;
     }
-    let none = Quanta::of(0);
-    let quanta = [none; 32];
+    let mut counts = [0u64; 32];
     let mut dues = giving::first_dues(table);
-    let mut walk = Walk { at: 4, quanta };
+    let mut at: usize = 4;
     let mut slot: u32 = 0;
     while slot < slots {
-        let step = record::judge(table, trace, walk, &mut dues, Slot::at(slot as u64));
+        let step = record::judge(
+            table,
+            trace,
+            at,
+            &mut counts,
+            &mut dues,
+            Slot::at(slot as u64),
+        );
         let answer = step.answer;
         if !is_passed(answer) {
             return answer;
         }
-        walk = step.walk;
+        at = step.next;
         slot += 1;
     }
-    if walk.at < trace.len() {
+    if at < trace.len() {
         return Answer::Extra;
     }
     Answer::Passed

@@ -1,7 +1,6 @@
 // One record of a trace: whether it is sound, whether its rows were ready, and who is late at the slot's end.
 use crate::Answer;
 use crate::Step;
-use crate::Walk;
 use crate::giving;
 use crate::is_passed;
 use counts::Slot;
@@ -25,39 +24,40 @@ struct RecordRead {
 pub(crate) fn judge(
     table: Table,
     trace: &[u8],
-    walk: Walk,
+    at: usize,
+    counts: &mut [u64; 32],
     dues: &mut [u64; 32],
     slot: Slot,
 ) -> Step
-    requires { ⌜ CanJudge table (now trace) (slot .0) walk (now dues) ⌝ }
-    ensures { λ r. ⌜ Leads table (now (trace .entry)) (slot .0) (r .answer) (r .walk) (now (dues .exit)) ⌝ }
+    requires { ⌜ CanJudge table (now trace) (slot .0) at (now counts) (now dues) ⌝ }
+    ensures { λ r. ⌜ Leads table (now (trace .entry)) (slot .0) (r .answer) (r .next) (now (counts .exit)) (now (dues .exit)) ⌝ }
 {
-    let read = read_at(table, trace, walk.at);
+    let read = read_at(table, trace, at);
     let answer = read.answer;
     if !is_passed(answer) {
-        return ended(answer, walk);
+        return ended(answer);
     }
-    let quanta = walk.quanta;
     let n = table.count as usize;
-    let given = giving::give(trace, read.first, read.count, table, quanta, dues, slot);
-    if given.early < n {
-        return ended(early_in(given.early, slot), walk);
+    let early = giving::give(trace, read.first, read.count, table, counts, dues, slot);
+    if early < n {
+        return ended(early_in(early, slot));
     }
     let time = slot.later(1);
     let late = giving::lowest_late(dues, n, time);
     if late < n {
-        return ended(late_at(late, time), walk);
+        return ended(late_at(late, time));
     }
-    let past = read.first + read.count;
-    let quanta = given.quanta;
-    let next = Walk { at: past, quanta };
-    ended(Answer::Passed, next)
+    let next = read.first + read.count;
+    Step {
+        answer: Answer::Passed,
+        next,
+    }
 }
 
-fn ended(answer: Answer, walk: Walk) -> Step
-    ensures { λ r. ⌜ (r .answer ≡ answer) × (r .walk ≡ walk) ⌝ }
+fn ended(answer: Answer) -> Step
+    ensures { λ r. ⌜ r .answer ≡ answer ⌝ }
 {
-    Step { answer, walk }
+    Step { answer, next: 0 }
 }
 
 fn early_in(row: usize, slot: Slot) -> Answer

@@ -1,9 +1,8 @@
-use mathlib.Core.Path.{refl, sym, ap, subst, _∙_}
+use mathlib.Core.Path.{sym, subst, _∙_}
 use Prim.Native.Nat.{_-_}
 use native.Mathlib.Omega.{arith}
 use borrow.Author.Needs.{needs}
 use borrow.Author.Tests.{not-true, not-false}
-use lib.ListN.{replicate}
 use Rattle.facts.specs.Findings.{FirstFound}
 use Rattle.checker.specs.Answer.{saidOf}
 use Rattle.checker.specs.Check.{recordFindings}
@@ -14,10 +13,10 @@ use Rattle.checker.proofs.check_trace.Statement.{statement}
 use Rattle.checker.proofs.check_trace.Tie as tie
 
 abbrev Inv-loop : tie.InvT-loop
-Inv-loop table trace slots dues₀ walk₀ slot₀ dues walk slot = Come table trace slots slot walk dues
+Inv-loop table trace slots counts₀ dues₀ at₀ slot₀ counts dues at slot = Come table trace slots slot at counts dues
 
 abbrev μ-loop : tie.MeasureT-loop
-μ-loop table trace slots dues₀ walk₀ slot₀ dues walk slot = slots - slot
+μ-loop table trace slots counts₀ dues₀ at₀ slot₀ counts dues at slot = slots - slot
 
 returns : tie.Need-returns Inv-loop μ-loop
 returns c =
@@ -32,16 +31,13 @@ returns-2 c =
     let a = c .before .before .before .before in
     is-too-long (a .args .table) (a .args .trace .now) (c .before .before .if1 .left) (omega (arith, c .if2 .taken, c .before .word .ensures))
 
-of-requires : tie.Need-of-requires Inv-loop μ-loop
-of-requires c κs = search needs
-
 first-dues-requires : tie.Need-first-dues-requires Inv-loop μ-loop
 first-dues-requires c κs = search needs
 
 loop-holds : tie.Need-loop-holds Inv-loop μ-loop
 loop-holds c =
-    let a = c .before .before .before .before .before .before in
-    check-begins (a .args .table) (a .args .trace .now) (c .before .before .before .before .if1 .left) (c .before .before .before .word .ensures) (c .before .before .if2 .left) _ refl (ap (λ q. replicate 32 (record { 0 = q })) (c .before .of .ensures)) (c .first-dues .ensures)
+    let a = c .before .before .before .before .before in
+    check-begins (a .args .table) (a .args .trace .now) (c .before .before .before .if1 .left) (c .before .before .word .ensures) (c .before .if2 .left) (c .first-dues .ensures)
 
 cast-at : tie.Need-cast-at Inv-loop μ-loop
 cast-at c = search needs
@@ -52,12 +48,12 @@ at-requires c κs = search needs
 judge-requires : tie.Need-judge-requires Inv-loop μ-loop
 judge-requires c κs =
     let a = c .before .before .before .before .before .before .before .before .before .before in
-    let at = c .before .before .before in
-    let so = at .loop .inv in
+    let come = c .before .before .before .before .loop in
+    let so = come .inv in
     record {
       can = a .pre;
-      reached = subst (λ t. Reached (a .args .table) (a .args .trace .now) t (at .loop .walk) (at .loop .dues)) (sym (c .at .ensures)) (so .reached);
-      time = omega (arith, c .at .ensures, c .before .before .loop-test .taken, so .few);
+      reached = subst (λ t. Reached (a .args .table) (a .args .trace .now) t (come .at) (come .counts) (come .dues)) (sym (c .at .ensures)) (so .reached);
+      time = omega (arith, c .at .ensures, c .before .before .before .loop-test .taken, so .few);
     }
 
 is-passed-requires : tie.Need-is-passed-requires Inv-loop μ-loop
@@ -68,7 +64,7 @@ returns-3 c =
     let a = c .before .before .before .before .before .before .before .before .before .before .before .before .before in
     let judged = c .before .before .judge in
     let off = sym (c .before .is-passed .ensures) ∙ not-true _ (c .if3 .taken) in
-    record-says (a .args .table) (a .args .trace .now) (c .before .before .before .before .before .before .loop .inv) (c .before .before .before .before .before .loop-test .taken) (subst (λ t. FirstFound (recordFindings (a .args .table) (a .args .trace .now) t) (saidOf (judged .result .answer))) (c .before .before .before .at .ensures) (judged .ensures .ended off))
+    record-says (a .args .table) (a .args .trace .now) (c .before .before .before .before .before .before .before .loop .inv) (c .before .before .before .before .before .before .loop-test .taken) (subst (λ t. FirstFound (recordFindings (a .args .table) (a .args .trace .now) t) (saidOf (judged .result .answer))) (c .before .before .before .at .ensures) (judged .ensures .ended off))
 
 add-slot : tie.Need-add-slot Inv-loop μ-loop
 add-slot c = search needs
@@ -78,20 +74,20 @@ loop-less c = search needs
 
 loop-again : tie.Need-loop-again Inv-loop μ-loop
 loop-again c =
-    let a = c .before .before .before .before .before .before .before .before .before .before .before .before .before .before in
-    let judged = c .before .before .before .judge in
-    let on = sym (c .before .before .is-passed .ensures) ∙ not-false _ (c .before .if3 .left) in
-    check-goes-on (a .args .table) (a .args .trace .now) (c .before .before .before .before .before .before .before .loop .inv) (c .before .before .before .before .before .before .loop-test .taken) (same-walked (a .args .table) (a .args .trace .now) (c .before .before .before .before .at .ensures) refl (judged .ensures .walked on))
+    let a = c .before .before .before .before .before .before .before .before .before .before .before .before .before in
+    let judged = c .before .before .judge in
+    let on = sym (c .before .is-passed .ensures) ∙ not-false _ (c .if3 .left) in
+    check-goes-on (a .args .table) (a .args .trace .now) (c .before .before .before .before .before .before .before .loop .inv) (c .before .before .before .before .before .before .loop-test .taken) (same-walked (a .args .table) (a .args .trace .now) (c .before .before .before .at .ensures) (judged .ensures .walked on))
 
 returns-4 : tie.Need-returns-4 Inv-loop μ-loop
 returns-4 c =
-    let a = c .before .before .before .before .before .before .before .before .before .before in
-    bytes-are-left (a .args .table) (a .args .trace .now) (c .before .before .before .loop .inv) (c .before .before .loop-test .left) (c .if4 .taken)
+    let a = c .before .before .before .before .before .before .before .before in
+    bytes-are-left (a .args .table) (a .args .trace .now) (c .before .before .loop .inv) (c .before .loop-test .left) (c .if4 .taken)
 
 returns-5 : tie.Need-returns-5 Inv-loop μ-loop
 returns-5 c =
-    let a = c .before .before .before .before .before .before .before .before .before .before in
-    trace-passes (a .args .table) (a .args .trace .now) (c .before .before .before .loop .inv) (c .before .before .loop-test .left) (c .if4 .left)
+    let a = c .before .before .before .before .before .before .before .before in
+    trace-passes (a .args .table) (a .args .trace .now) (c .before .before .loop .inv) (c .before .loop-test .left) (c .if4 .left)
 
 pub check-trace-spec : {M : Type 1} → statement M
 check-trace-spec =
@@ -102,7 +98,6 @@ check-trace-spec =
     returns
     word-requires
     returns-2
-    of-requires
     first-dues-requires
     loop-holds
     cast-at

@@ -5,29 +5,27 @@ use borrow.Author.Needs.{needs}
 use borrow.Author.Tests.{not-true, not-false}
 use lib.ListN.{length, getD, take, drop}
 use Rattle.facts.specs.First.{Lowest}
-use Rattle.table.specs.Causes.{zeroRow}
+use Rattle.counts.specs.Limits.{kept}
 use Rattle.table.specs.Value.{rowsOf}
 use Rattle.pd2.specs.Ready.{ready}
-use Rattle.pd2.specs.Verdict.{answered, verdict}
 use Rattle.pd2.specs.Choice.{rowAt}
-use Rattle.pd2.specs.Rows.{quantaOf}
 use Rattle.checker.specs.Passes.{due}
-use Rattle.checker.specs.Walking.{DueAre, isEarly}
+use Rattle.checker.specs.Walking.{givenTo, DueAre, isEarly}
 use Rattle.checker.proofs.Named.{PassSoFar, passing-begins, passes-on, fails-first, none-fails, GaveSoFar, giving-begins, not-given-yet, gives-one-more, all-given, named-is-below, how-many-rows, row-at}
 use Rattle.checker.proofs.Asked.{row-there, ready-as-read}
 use Rattle.checker.proofs.Dues.{can-be-due, one-due-later}
 use Rattle.checker.proofs.giving.give.Statement.{statement}
 use Rattle.checker.proofs.giving.give.Tie as tie
 
--- the first j rows were ready and have one quantum more, and the dues are as the quanta are
+-- the first j rows were ready and have one quantum more, and the dues are as the counts are
 abbrev Inv-loop : tie.InvT-loop
-Inv-loop trace first c dues₀ slot table quanta₀ n j₀ dues quanta j =
-    PassSoFar (take c (drop first trace)) (λ i. ready (rowAt (rowsOf table) i) (quantaOf quanta₀ i) (slot .0)) j
-    × GaveSoFar (take c (drop first trace)) quanta₀ quanta j
-    × DueAre table (quantaOf quanta) dues
+Inv-loop trace first c counts₀ dues₀ slot table n j₀ counts dues j =
+    PassSoFar (take c (drop first trace)) (λ i. ready (rowAt (rowsOf table) i) (givenTo counts₀ i) (slot .0)) j
+    × GaveSoFar (take c (drop first trace)) counts₀ counts j
+    × DueAre table (givenTo counts) dues
 
 abbrev μ-loop : tie.MeasureT-loop
-μ-loop trace first c dues₀ slot table quanta₀ n j₀ dues quanta j = c - j
+μ-loop trace first c counts₀ dues₀ slot table n j₀ counts dues j = c - j
 
 cast-n : tie.Need-cast-n Inv-loop μ-loop
 cast-n c = search needs
@@ -55,7 +53,7 @@ is-row c =
     let a = c .before .before .before .before in
     c .byte .ensures ∙ row-at (a .args .trace .now) (a .args .first) (a .args .c) (c .before .before .loop .j) (c .before .loop-test .taken)
 
--- and is that of a row of the table
+-- and is that of a row of the table,
 is-there : (c : tie.After-byte Inv-loop μ-loop) → c .byte .result < length (rowsOf (c .before .before .before .before .args .t4))
 is-there c =
     let a = c .before .before .before .before in
@@ -65,7 +63,7 @@ fits : (c : tie.After-byte Inv-loop μ-loop) → c .byte .result < 32
 fits c = let can = c .before .before .before .before .pre .ask .can in omega (arith, is-there c, can .few, can .all)
 
 -- which has not been given its quantum yet
-had : (c : tie.After-byte Inv-loop μ-loop) → quantaOf (c .before .before .loop .quanta) (c .byte .result) ≡ quantaOf (c .before .before .before .before .args .t5) (c .byte .result)
+had : (c : tie.After-byte Inv-loop μ-loop) → givenTo (c .before .before .loop .counts) (c .byte .result) ≡ givenTo (c .before .before .before .before .args .counts .now) (c .byte .result)
 had c = not-given-yet _ _ (c .before .before .before .before .pre .rise) _ (c .before .before .loop .inv .1) (inside (c .before)) (is-row c)
 
 cast-i : tie.Need-cast-i Inv-loop μ-loop
@@ -81,15 +79,18 @@ element-copy-out-row c =
     let there = fits c in
     search needs
 
-mul-given : tie.Need-mul-given Inv-loop μ-loop
-mul-given c =
+mul-count : tie.Need-mul-count Inv-loop μ-loop
+mul-count c =
     let there = fits (c .before) in
     search needs
 
-array-copy-out-given : tie.Need-array-copy-out-given Inv-loop μ-loop
-array-copy-out-given c =
+element-copy-out-count : tie.Need-element-copy-out-count Inv-loop μ-loop
+element-copy-out-count c =
     let there = fits (c .before) in
     search needs
+
+of-requires : tie.Need-of-requires Inv-loop μ-loop
+of-requires c κs = search needs
 
 ready-requires : tie.Need-ready-requires Inv-loop μ-loop
 ready-requires c κs = search needs
@@ -98,24 +99,22 @@ is-yes-requires : tie.Need-is-yes-requires Inv-loop μ-loop
 is-yes-requires c κs = search needs
 
 -- the row is asked as the definition asks it
-asked : (c : tie.After-is-yes Inv-loop μ-loop) → let a = c .before .before .before .before .before .before .before .before in let i = getD (take (a .args .c) (drop (a .args .first) (a .args .trace .now))) (c .before .before .before .before .before .before .loop .j) 0 in
-    c .is-yes .result ≡ ready (rowAt (rowsOf (a .args .t4)) i) (quantaOf (a .args .t5) i) (a .args .slot .0)
+asked : (c : tie.After-is-yes Inv-loop μ-loop) → let a = c .before .before .before .before .before .before .before .before .before in let i = getD (take (a .args .c) (drop (a .args .first) (a .args .trace .now))) (c .before .before .before .before .before .before .before .loop .j) 0 in
+    c .is-yes .result ≡ ready (rowAt (rowsOf (a .args .t4)) i) (givenTo (a .args .counts .now) i) (a .args .slot .0)
 asked c =
-    let a = c .before .before .before .before .before .before .before .before in
-    let byte = c .before .before .before .before in
-    let row = getD (a .args .t4 .rows) (byte .byte .result) zeroRow in
-    subst (λ i. c .is-yes .result ≡ ready (rowAt (rowsOf (a .args .t4)) i) (quantaOf (a .args .t5) i) (a .args .slot .0)) (is-row byte)
-    (ready-as-read _ _ _ (a .pre .ask) _ (is-there byte) _ _ (c .is-yes .ensures)
-    (subst (λ q. c .before .ready .result ≡ verdict (answered row q (a .args .slot .0)) (ready row q (a .args .slot .0))) (had byte) (c .before .ready .ensures)))
+    let a = c .before .before .before .before .before .before .before .before .before in
+    let byte = c .before .before .before .before .before in
+    subst (λ i. c .is-yes .result ≡ ready (rowAt (rowsOf (a .args .t4)) i) (givenTo (a .args .counts .now) i) (a .args .slot .0)) (is-row byte)
+    (ready-as-read _ _ _ (a .pre .ask) _ (is-there byte) _ (c .before .before .of .ensures ∙ had byte) (c .is-yes .ensures) (c .before .ready .ensures))
 
 returns : tie.Need-returns Inv-loop μ-loop
 returns c =
-    let a = c .before .before .before .before .before .before .before .before .before in
-    let there = is-there (c .before .before .before .before .before) in
+    let a = c .before .before .before .before .before .before .before .before .before .before in
+    let there = is-there (c .before .before .before .before .before .before) in
     record {
       lowest =
-          subst (Lowest (isEarly (a .args .t4) (a .args .t5) (take (a .args .c) (drop (a .args .first) (a .args .trace .now))) (a .args .slot .0)) (length (rowsOf (a .args .t4)))) (sym (is-row (c .before .before .before .before .before)))
-          (fails-first _ _ (a .pre .rise) _ (c .before .before .before .before .before .before .before .loop .inv .0) (inside (c .before .before .before .before .before .before)) (sym (asked (c .before)) ∙ not-true _ (c .if1 .taken)));
+          subst (Lowest (isEarly (a .args .t4) (a .args .counts .now) (take (a .args .c) (drop (a .args .first) (a .args .trace .now))) (a .args .slot .0)) (length (rowsOf (a .args .t4)))) (sym (is-row (c .before .before .before .before .before .before)))
+          (fails-first _ _ (a .pre .rise) _ (c .before .before .before .before .before .before .before .before .loop .inv .0) (inside (c .before .before .before .before .before .before .before)) (sym (asked (c .before)) ∙ not-true _ (c .if1 .taken)));
       gave = λ h. absurd (omega (arith, h, there));
       due = λ h. absurd (omega (arith, h, there));
     }
@@ -123,30 +122,33 @@ returns c =
 one-more-requires : tie.Need-one-more-requires Inv-loop μ-loop
 one-more-requires c κs = search needs
 
-mul-quanta : tie.Need-mul-quanta Inv-loop μ-loop
-mul-quanta c =
-    let there = fits (c .before .before .before .before .before .before) in
+count-requires : tie.Need-count-requires Inv-loop μ-loop
+count-requires c κs = search needs
+
+mul-counts : tie.Need-mul-counts Inv-loop μ-loop
+mul-counts c =
+    let there = fits (c .before .before .before .before .before .before .before .before) in
     search needs
 
-array-set-from-quanta : tie.Need-array-set-from-quanta Inv-loop μ-loop
-array-set-from-quanta c =
-    let there = fits (c .before .before .before .before .before .before) in
+element-write-counts : tie.Need-element-write-counts Inv-loop μ-loop
+element-write-counts c =
+    let there = fits (c .before .before .before .before .before .before .before .before) in
     search needs
 
 next-due-requires : tie.Need-next-due-requires Inv-loop μ-loop
 next-due-requires c κs =
-    let a = c .before .before .before .before .before .before .before .before .before .before in
-    let byte = c .before .before .before .before .before .before in
-    can-be-due _ (a .pre .ask .can) _ (is-there byte) _ (omega (arith, c .one-more .ensures, had byte, a .pre .ask .few (byte .byte .result) (is-there byte), a .pre .ask .time))
+    let a = c .before .before .before .before .before .before .before .before .before .before .before .before in
+    let byte = c .before .before .before .before .before .before .before .before in
+    can-be-due _ (a .pre .ask .can) _ (is-there byte) _ (omega (arith, c .before .one-more .ensures, c .before .before .before .before .before .of .ensures, had byte, a .pre .ask .few (byte .byte .result) (is-there byte), a .pre .ask .time))
 
 mul-dues : tie.Need-mul-dues Inv-loop μ-loop
 mul-dues c =
-    let there = fits (c .before .before .before .before .before .before .before) in
+    let there = fits (c .before .before .before .before .before .before .before .before .before) in
     search needs
 
 element-write-dues : tie.Need-element-write-dues Inv-loop μ-loop
 element-write-dues c =
-    let there = fits (c .before .before .before .before .before .before .before) in
+    let there = fits (c .before .before .before .before .before .before .before .before .before) in
     search needs
 
 add-j : tie.Need-add-j Inv-loop μ-loop
@@ -157,15 +159,19 @@ loop-less c = search needs
 
 loop-again : tie.Need-loop-again Inv-loop μ-loop
 loop-again c =
-    let a = c .before .before .before .before .before .before .before .before .before .before .before in
-    let at = c .before .before .before .before .before .before .before .before .before in
-    let byte = c .before .before .before .before .before .before .before in
+    let a = c .before .before .before .before .before .before .before .before .before .before .before .before .before in
+    let at = c .before .before .before .before .before .before .before .before .before .before .before in
+    let byte = c .before .before .before .before .before .before .before .before .before in
     let inv = at .loop .inv in
-    let long : length (at .loop .quanta) ≡ 32 = inv .1 .gave .places ∙ a .pre .ask .long in (
-      passes-on _ _ (a .pre .rise) _ (inv .0) (inside (c .before .before .before .before .before .before .before .before)) (sym (asked (c .before .before .before)) ∙ not-false _ (c .before .before .if1 .left)),
-      gives-one-more _ _ (a .pre .rise) _ (inv .1) (inside (c .before .before .before .before .before .before .before .before)) (is-row byte) (omega (arith, fits byte, long)) _ _ (c .before .one-more .ensures),
-      one-due-later (a .args .t4) (at .loop .quanta) (at .loop .dues) (inv .2) long (byte .byte .result) (fits byte) (c .before .one-more .result)
-          (c .next-due .ensures ∙ ap (λ row. due row (c .before .one-more .result .0 + 1)) (row-there (a .args .t4) (byte .byte .result) _ (is-there byte))),
+    let long : length (at .loop .counts) ≡ 32 = inv .1 .gave .places ∙ a .pre .ask .long in
+    let count = c .before .count2 in
+    let given = count .ensures ∙ (c .before .before .one-more .ensures ∙ ap (λ q. kept (q + 1)) (c .before .before .before .before .before .before .of .ensures)) in (
+      passes-on _ _ (a .pre .rise) _ (inv .0) (inside (c .before .before .before .before .before .before .before .before .before .before)) (sym (asked (c .before .before .before .before)) ∙ not-false _ (c .before .before .before .if1 .left)),
+      gives-one-more _ _ (a .pre .rise) _ (inv .1) (inside (c .before .before .before .before .before .before .before .before .before .before)) (is-row byte) (omega (arith, fits byte, long)) _ given,
+      one-due-later (a .args .t4) (at .loop .counts) (at .loop .dues) (inv .2) long (byte .byte .result) (fits byte) (count .result)
+          (c .next-due .ensures
+          ∙ (ap (λ row. due row (c .before .before .one-more .result .0 + 1)) (row-there (a .args .t4) (byte .byte .result) _ (is-there byte))
+          ∙ ap (λ q. due (rowAt (rowsOf (a .args .t4)) (byte .byte .result)) (q + 1)) (sym (count .ensures)))),
     )
 
 returns-2 : tie.Need-returns-2 Inv-loop μ-loop
@@ -174,7 +180,7 @@ returns-2 c =
     let inv = c .before .loop .inv in
     let all : length (take (a .args .c) (drop (a .args .first) (a .args .trace .now))) ≤ c .before .loop .j = omega (arith, c .loop-test .left, how-many-rows (a .args .trace .now) (a .args .first) (a .args .c) (a .pre .inside)) in
     record {
-      lowest = subst (Lowest (isEarly (a .args .t4) (a .args .t5) (take (a .args .c) (drop (a .args .first) (a .args .trace .now))) (a .args .slot .0)) (length (rowsOf (a .args .t4)))) (a .pre .ask .can .all) (none-fails _ _ (a .pre .rise) _ (inv .0) all);
+      lowest = subst (Lowest (isEarly (a .args .t4) (a .args .counts .now) (take (a .args .c) (drop (a .args .first) (a .args .trace .now))) (a .args .slot .0)) (length (rowsOf (a .args .t4)))) (a .pre .ask .can .all) (none-fails _ _ (a .pre .rise) _ (inv .0) all);
       gave = λ _. all-given _ _ (a .pre .rise) _ (inv .1) all;
       due = λ _. inv .2;
     }
@@ -192,14 +198,16 @@ give-spec =
     cast-i
     mul-row
     element-copy-out-row
-    mul-given
-    array-copy-out-given
+    mul-count
+    element-copy-out-count
+    of-requires
     ready-requires
     is-yes-requires
     returns
     one-more-requires
-    mul-quanta
-    array-set-from-quanta
+    count-requires
+    mul-counts
+    element-write-counts
     next-due-requires
     mul-dues
     element-write-dues

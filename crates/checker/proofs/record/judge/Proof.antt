@@ -1,4 +1,4 @@
-use mathlib.Core.Path.{_≡_, refl, sym, ap, subst, _∙_}
+use mathlib.Core.Path.{_≡_, sym, ap, subst, _∙_}
 use mathlib.Core.Bool.{true≢false}
 use Prim.Native.Nat.{_+_, _<_}
 use native.Mathlib.Omega.{arith}
@@ -8,8 +8,8 @@ use lib.ListN.{length}
 use Rattle.facts.specs.Findings.{FirstFound}
 use Rattle.trace.specs.Said.{named}
 use Rattle.checker.specs.Check.{recordFindings}
-use Rattle.checker.specs.Walking.{Read, isPassed}
-use Rattle.checker.proofs.Judged.{same-walked, ends, shape-ends, rows-inside, can-give, early-ends, late-ends, goes-on}
+use Rattle.checker.specs.Walking.{Read}
+use Rattle.checker.proofs.Judged.{ends, shape-ends, rows-inside, can-give, early-ends, late-ends, goes-on}
 use borrow.Author.Needs.{needs}
 use Rattle.checker.proofs.record.judge.Statement.{statement}
 use Rattle.checker.proofs.record.judge.Tie as tie
@@ -24,18 +24,18 @@ ended-requires : tie.Need-ended-requires
 ended-requires c κs = search needs
 
 -- a record that passed was read
-is-read : (c : tie.Else1) → let a = c .before .before .before .before in Read (a .args .table) (a .args .trace .now) (a .args .walk .at) (c .before .before .read-at .result .first) (c .before .before .read-at .result .count)
+is-read : (c : tie.Else1) → let a = c .before .before .before .before in Read (a .args .table) (a .args .trace .now) (a .args .at) (c .before .before .read-at .result .first) (c .before .before .read-at .result .count)
 is-read c = c .before .before .read-at .ensures .read (sym (c .before .is-passed .ensures) ∙ not-false _ (c .if1 .left))
 
 -- the slot's end
-later-is : (c : tie.After-later) → c .later .result .0 ≡ c .before .before .before .before .before .before .before .before .before .before .before .args .slot .0 + 1
-later-is c = omega (arith, c .later .ensures, c .before .before .before .before .before .before .before .before .before .before .before .pre .time)
+later-is : (c : tie.After-later) → c .later .result .0 ≡ c .before .before .before .before .before .before .before .before .before .before .args .slot .0 + 1
+later-is c = omega (arith, c .later .ensures, c .before .before .before .before .before .before .before .before .before .before .pre .time)
 
 returns : tie.Need-returns
 returns c =
     let a = c .before .before .before .before .before in
     let off = sym (c .before .before .is-passed .ensures) ∙ not-true _ (c .before .if1 .taken) in
-    ends (a .args .table) (a .args .trace .now) (a .args .slot .0) (c .ended .ensures .0) off (shape-ends (a .args .table) (a .args .trace .now) (a .args .slot .0) (a .args .walk) _ (a .pre) (c .before .before .before .read-at .ensures .refused off))
+    ends (a .args .table) (a .args .trace .now) (a .args .slot .0) (c .ended .ensures) off (shape-ends (a .args .table) (a .args .trace .now) (a .args .slot .0) (a .args .at) _ _ (a .pre) (c .before .before .before .read-at .ensures .refused off))
 
 cast-n : tie.Need-cast-n
 cast-n c = search needs
@@ -43,7 +43,7 @@ cast-n c = search needs
 give-requires : tie.Need-give-requires
 give-requires c κs =
     let a = c .before .before .before .before .before .before .before in
-    can-give (a .args .table) (a .args .trace .now) (a .args .slot .0) (a .args .walk) _ (a .pre) (is-read (c .before .before .before))
+    can-give (a .args .table) (a .args .trace .now) (a .args .slot .0) (a .args .at) _ _ (a .pre) (is-read (c .before .before .before))
 
 early-in-requires : tie.Need-early-in-requires
 early-in-requires c κs = search needs
@@ -53,9 +53,9 @@ ended-requires-2 c κs = search needs
 
 returns-2 : tie.Need-returns-2
 returns-2 c =
-    let a = c .before .before .before .before .before .before .before .before .before .before .before .before in
-    ends (a .args .table) (a .args .trace .now) (a .args .slot .0) (c .ended2 .ensures .0) (ap (λ x. eqb (x .number) 0) (c .before .early-in .ensures))
-    (subst (FirstFound (recordFindings (a .args .table) (a .args .trace .now) (a .args .slot .0))) (sym (c .before .early-in .ensures)) (early-ends (a .args .table) (a .args .trace .now) (a .args .slot .0) (a .args .walk) _ (a .pre) (is-read (c .before .before .before .before .before .before .before .before)) (c .before .before .before .before .give .ensures) (omega (arith, c .before .before .if2 .taken, a .pre .can .all))))
+    let a = c .before .before .before .before .before .before .before .before .before .before .before in
+    ends (a .args .table) (a .args .trace .now) (a .args .slot .0) (c .ended2 .ensures) (ap (λ x. eqb (x .number) 0) (c .before .early-in .ensures))
+    (subst (FirstFound (recordFindings (a .args .table) (a .args .trace .now) (a .args .slot .0))) (sym (c .before .early-in .ensures)) (early-ends (a .args .table) (a .args .trace .now) (a .args .slot .0) (a .args .at) _ _ (a .pre) (is-read (c .before .before .before .before .before .before .before)) (c .before .before .before .give .ensures) (omega (arith, c .before .before .if2 .taken, a .pre .can .all))))
 
 later-requires : tie.Need-later-requires
 later-requires c κs = search needs
@@ -71,26 +71,26 @@ ended-requires-3 c κs = search needs
 
 returns-3 : tie.Need-returns-3
 returns-3 c =
-    let a = c .before .before .before .before .before .before .before .before .before .before .before .before .before .before .before .before in
-    let end = later-is (c .before .before .before .before .before) in
-    ends (a .args .table) (a .args .trace .now) (a .args .slot .0) (c .ended3 .ensures .0) (ap (λ x. eqb (x .number) 0) (c .before .late-at .ensures))
-    (subst (FirstFound (recordFindings (a .args .table) (a .args .trace .now) (a .args .slot .0))) (sym (c .before .late-at .ensures ∙ ap (named 45 (c .before .before .before .lowest-late .result)) end))
-    (late-ends (a .args .table) (a .args .trace .now) (a .args .slot .0) (a .args .walk) _ (a .pre) (is-read (c .before .before .before .before .before .before .before .before .before .before .before .before)) (c .before .before .before .before .before .before .before .before .give .ensures) (omega (arith, c .before .before .before .before .before .before .if2 .left, a .pre .can .all)) end (c .before .before .before .lowest-late .ensures) (omega (arith, c .before .before .if3 .taken, a .pre .can .all))))
-
-add-past : tie.Need-add-past
-add-past c =
     let a = c .before .before .before .before .before .before .before .before .before .before .before .before .before .before .before in
-    let short : length (a .args .trace .now) < 18_446_744_073_709_551_616 = search needs in
-    omega (arith, short, rows-inside (a .args .table) (a .args .trace .now) (a .args .slot .0) (a .args .walk) _ (a .pre) (is-read (c .before .before .before .before .before .before .before .before .before .before .before)))
+    let end = later-is (c .before .before .before .before .before) in
+    ends (a .args .table) (a .args .trace .now) (a .args .slot .0) (c .ended3 .ensures) (ap (λ x. eqb (x .number) 0) (c .before .late-at .ensures))
+    (subst (FirstFound (recordFindings (a .args .table) (a .args .trace .now) (a .args .slot .0))) (sym (c .before .late-at .ensures ∙ ap (named 45 (c .before .before .before .lowest-late .result)) end))
+    (late-ends (a .args .table) (a .args .trace .now) (a .args .slot .0) (a .args .at) _ _ (a .pre) (is-read (c .before .before .before .before .before .before .before .before .before .before .before)) (c .before .before .before .before .before .before .before .give .ensures) (omega (arith, c .before .before .before .before .before .before .if2 .left, a .pre .can .all)) end (c .before .before .before .lowest-late .ensures) (omega (arith, c .before .before .if3 .taken, a .pre .can .all))))
 
-ended-requires-4 : tie.Need-ended-requires-4
-ended-requires-4 c κs = search needs
+add-next : tie.Need-add-next
+add-next c =
+    let a = c .before .before .before .before .before .before .before .before .before .before .before .before .before .before in
+    let short : length (a .args .trace .now) < 18_446_744_073_709_551_616 = search needs in
+    omega (arith, short, rows-inside (a .args .table) (a .args .trace .now) (a .args .slot .0) (a .args .at) _ _ (a .pre) (is-read (c .before .before .before .before .before .before .before .before .before .before)))
 
 returns-4 : tie.Need-returns-4
 returns-4 c =
-    let a = c .before .before .before .before .before .before .before .before .before .before .before .before .before .before .before .before .before in
-    let walked = goes-on (a .args .table) (a .args .trace .now) (a .args .slot .0) (a .args .walk) _ (a .pre) (is-read (c .before .before .before .before .before .before .before .before .before .before .before .before .before)) (c .before .before .before .before .before .before .before .before .before .give .ensures) (omega (arith, c .before .before .before .before .before .before .before .if2 .left, a .pre .can .all)) (later-is (c .before .before .before .before .before .before)) (c .before .before .before .before .lowest-late .ensures) (omega (arith, c .before .before .before .if3 .left, a .pre .can .all)) in
-    record { walked = λ _. same-walked (a .args .table) (a .args .trace .now) refl (sym (c .ended4 .ensures .1)) walked; ended = λ h. absurd (true≢false (ap isPassed (sym (c .ended4 .ensures .0)) ∙ h)) }
+    let a = c .before .before .before .before .before .before .before .before .before .before .before .before .before .before in
+    record {
+      walked = λ _.
+          goes-on (a .args .table) (a .args .trace .now) (a .args .slot .0) (a .args .at) _ _ (a .pre) (is-read (c .before .before .before .before .before .before .before .before .before .before)) (c .before .before .before .before .before .before .give .ensures) (omega (arith, c .before .before .before .before .before .if2 .left, a .pre .can .all)) (later-is (c .before .before .before .before)) (c .before .before .lowest-late .ensures) (omega (arith, c .before .if3 .left, a .pre .can .all));
+      ended = λ h. absurd (true≢false h);
+    }
 
 pub judge-spec : {M : Type 1} → statement M
 judge-spec =
@@ -110,6 +110,5 @@ judge-spec =
     late-at-requires
     ended-requires-3
     returns-3
-    add-past
-    ended-requires-4
+    add-next
     returns-4)
