@@ -24,7 +24,7 @@ use Rattle.checker.specs.declared.Answer.{Answer}
 use Rattle.checker.specs.Answer.{saidOf}
 use Rattle.checker.specs.Causes.{tooEarly, tooLate, lowest, anyRow}
 use Rattle.checker.specs.Check.{shapeAt, timeFindings, recordFindings}
-use Rattle.checker.specs.Walking.{givenTo, Askable, DueAre, CanJudge, Walked, Leads, Read, CanGive, Gave, isEarly, isPassed}
+use Rattle.checker.specs.Walking.{givenTo, Askable, DueAre, CanJudge, Walked, Leads, Read, CanGive, Gave, isEarly}
 use Rattle.checker.specs.Passes.{due}
 
 -- The lowest row that is so is the one that is named.
@@ -40,18 +40,18 @@ pub same-walked : (table : Table) (s : List ℕ) {t t′ at : ℕ} {counts dues 
 same-walked table s {at = at} {counts = counts} {dues = dues} e walked = subst (λ u. Walked table s u at counts dues) e walked
 
 -- An answer ends the check,
-pub ends : (table : Table) (s : List ℕ) (t : ℕ) {answer a : Answer} {at : ℕ} {counts dues : List ℕ} → answer ≡ a → isPassed a ≡ false → FirstFound (recordFindings table s t) (saidOf a) →
-    Leads table s t answer at counts dues
-ends table s t e p f =
+pub ends : (table : Table) (s : List ℕ) (t : ℕ) {ended : Bool} {answer : Answer} {said : Said} {at : ℕ} {counts dues : List ℕ} →
+    (ended ≡ true) × (saidOf answer ≡ said) → FirstFound (recordFindings table s t) said → Leads table s t ended answer at counts dues
+ends table s t e f =
     record {
-      walked = λ h. absurd (true≢false (sym h ∙ (ap isPassed e ∙ p)));
-      ended = λ _. subst (λ a. FirstFound (recordFindings table s t) (saidOf a)) (sym e) f;
+      walked = λ h. absurd (true≢false (sym (e .0) ∙ h));
+      found = λ _. subst (FirstFound (recordFindings table s t)) (sym (e .1)) f;
     }
 
 module _ (table : Table) (s : List ℕ) (t at : ℕ) (counts dues : List ℕ) (can : CanJudge table s t at counts dues) where
   -- where the record's shape is not sound,
-  pub shape-ends : {x : Said} → FirstFound (shapeAt table s (at)) x → FirstFound (recordFindings table s t) x
-  shape-ends {x} f = first-in-front (timeFindings table s t) (subst (λ place. FirstFound (shapeAt table s place) x) (can .reached .place) f)
+  pub shape-ends : {x : Said} → FirstFound (shapeAt (table .cores) (length (rowsOf table)) s (at)) x → FirstFound (recordFindings table s t) x
+  shape-ends {x} f = first-in-front (timeFindings table s t) (subst (λ place. FirstFound (shapeAt (table .cores) (length (rowsOf table)) s place) x) (can .reached .place) f)
 
   -- the rows can be asked
   rows-can-be-asked : Askable table counts t
@@ -59,9 +59,9 @@ module _ (table : Table) (s : List ℕ) (t at : ℕ) (counts dues : List ℕ) (c
       let at = can .reached in
       record { can = can .can; long = at .long; few = λ i l. omega (arith, at .quanta i l, at .few i); time = omega (arith, can .time) }
 
-  module _ {first count : ℕ} (read : Read table s (at) first count) where
-    sound : NoneFound (shapeAt table s (placeIn s t))
-    sound = subst (λ place. NoneFound (shapeAt table s place)) (can .reached .place) (read .sound)
+  module _ {first count : ℕ} (read : Read (table .cores) (length (rowsOf table)) s at first count) where
+    sound : NoneFound (shapeAt (table .cores) (length (rowsOf table)) s (placeIn s t))
+    sound = subst (λ place. NoneFound (shapeAt (table .cores) (length (rowsOf table)) s place)) (can .reached .place) (read .sound)
 
     -- the rows that are named, as they stand in the record
     abbrev named-rows : List ℕ

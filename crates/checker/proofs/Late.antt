@@ -47,7 +47,7 @@ module _ (table : Table) (s : List ℕ) where
     unfolding traceSaid
     late-is-said well slots in-time readied = first-is-said (bare 0) (FirstFound.later (well .count) (FirstFound.later (well .limit) (first-in-front (lastFindings s) found)))
       where
-        shape : (t : ℕ) → t < suc m → NoneFound (shapeAt table s (placeIn s t))
+        shape : (t : ℕ) → t < suc m → NoneFound (shapeAt (table .cores) (length (rowsOf table)) s (placeIn s t))
         shape t l = none-in-shape table s (placeIn s t) .1 (well .records t (omega (arith, slots)))
 
         found : FirstFound (recordsFindings table s 0 (slotsIn s)) (named 45 row (m + 1))

@@ -90,7 +90,7 @@ module _ (table : Table) (s : List ℕ) where
           absurd (omega (arith, first-has-number trace-numbered (one .1)))
 
   -- Nothing is found in the shape of a record exactly if it is sound.
-  pub none-in-shape : (place : ℕ) → NoneFound (shapeAt table s place) ↔ SoundRecord table s place
+  pub none-in-shape : (place : ℕ) → NoneFound (shapeAt (table .cores) (length (rowsOf table)) s place) ↔ SoundRecord table s place
   none-in-shape place = (
     to,
     λ sound.
@@ -98,7 +98,7 @@ module _ (table : Table) (s : List ℕ) where
         (NoneFound.later (sound .cores) (NoneFound.later (sound .count) (NoneFound.later (sound .rows) (NoneFound.later (sound .numbers) NoneFound.end)))),
   )
     where
-      to : NoneFound (shapeAt table s place) → SoundRecord table s place
+      to : NoneFound (shapeAt (table .cores) (length (rowsOf table)) s place) → SoundRecord table s place
       to (NoneFound.later a (NoneFound.later b (NoneFound.later c (NoneFound.later d (NoneFound.later e NoneFound.end))))) =
           record { head = a; cores = b; count = c; rows = d; numbers = e }
 
@@ -154,8 +154,8 @@ module _ (table : Table) (s : List ℕ) where
       to : NoneFound (traceFindings table s) → WellFormed table s × ((t : ℕ) → t < slotsIn s → InTime table s t)
       to (NoneFound.later a (NoneFound.later b rest)) =
           let parts = none-apart (recordsFindings table s 0 (slotsIn s)) rest in
-          let each : (t : ℕ) → t < slotsIn s → NoneFound (shapeAt table s (placeIn s t)) × NoneFound (timeFindings table s t) =
-          λ t l. none-apart (shapeAt table s (placeIn s t)) (none-in-each 0 (slotsIn s) (parts .0) t (omega arith) (omega arith)) in (
+          let each : (t : ℕ) → t < slotsIn s → NoneFound (shapeAt (table .cores) (length (rowsOf table)) s (placeIn s t)) × NoneFound (timeFindings table s t) =
+          λ t l. none-apart (shapeAt (table .cores) (length (rowsOf table)) s (placeIn s t)) (none-in-each 0 (slotsIn s) (parts .0) t (omega arith) (omega arith)) in (
             record { count = a; limit = b; records = λ t l. none-in-shape (placeIn s t) .0 (each t l .0); end = none-last (parts .1) },
             λ t l. none-in-time t .0 (each t l .1),
           )

@@ -33,8 +33,8 @@ abbrev pub rowsCut : List ℕ → ℕ → Bool
 rowsCut s place = shorter s (pastRecord s place)
 
 -- 41, "k above M", 42, "c above k"
-abbrev pub tooManyCores : Table → List ℕ → ℕ → Bool
-tooManyCores table s place = ltb (table .cores) (freeAt s place)
+abbrev pub tooManyCores : ℕ → List ℕ → ℕ → Bool
+tooManyCores M s place = ltb M (freeAt s place)
 
 abbrev pub tooManyRows : List ℕ → ℕ → Bool
 tooManyRows s place = ltb (freeAt s place) (countAt s place)
@@ -44,8 +44,8 @@ unfoldable pub badRows : ℕ → ℕ → List ℕ → Bool
 badRows n least [] = false
 badRows n least (row ∷ rows) = not (ltb row n) || ltb row least || badRows n (row + 1) rows
 
-abbrev pub badRow : Table → List ℕ → ℕ → Bool
-badRow table s place = badRows (length (rowsOf table)) 0 (rowsAt s place)
+abbrev pub badRow : ℕ → List ℕ → ℕ → Bool
+badRow n s place = badRows n 0 (rowsAt s place)
 
 -- 44, "quantum before its row was ready (row, slot)": row i is named in slot t and was not ready
 abbrev pub tooEarly : Table → List ℕ → ℕ → ℕ → Bool

@@ -2,21 +2,24 @@
 -- trace from the front".
 use Prim.Native.Nat.{ℕ, zero, suc, _+_}
 use mathlib.Core.List.{List, [], _∷_, _++_}
+use lib.ListN.{length}
 use Rattle.facts.specs.Findings.{Finding, _says_, firstFound}
 use Rattle.table.specs.declared.Table.{Table}
+use Rattle.table.specs.Value.{rowsOf}
 use Rattle.table.specs.Bytes.{tableNumber, tableIn}
 use Rattle.trace.specs.Records.{slotsIn, placeIn}
 use Rattle.trace.specs.Said.{Said, bare, named}
 use Rattle.checker.specs.Causes.{countCut, tooLong, headCut, tooManyCores, tooManyRows, rowsCut, badRow, tooEarly, tooLate, lowest, anyRow, extra}
 
--- "and for each record 40 (its first two bytes), 41, 42, 40 (its rows), 43 ..": what is looked for in the shape of the record at a place
-abbrev pub shapeAt : Table → List ℕ → ℕ → List (Finding Said)
-shapeAt table s place =
+-- "and for each record 40 (its first two bytes), 41, 42, 40 (its rows), 43 ..": what is looked for in the shape of the record at a place,
+-- for a table of M cores and n rows
+abbrev pub shapeAt : ℕ → ℕ → List ℕ → ℕ → List (Finding Said)
+shapeAt M n s place =
     (headCut s place says bare 40)
-    ∷ (tooManyCores table s place says bare 41)
+    ∷ (tooManyCores M s place says bare 41)
     ∷ (tooManyRows s place says bare 42)
     ∷ (rowsCut s place says bare 40)
-    ∷ (badRow table s place says bare 43)
+    ∷ (badRow n s place says bare 43)
     ∷ []
 
 -- ".. 44 for the lowest row, and 45 for the lowest late row at the slot's end": what is looked for in slot t
@@ -28,7 +31,7 @@ timeFindings table s t =
 
 -- both, for the record of slot t
 abbrev pub recordFindings : Table → List ℕ → ℕ → List (Finding Said)
-recordFindings table s t = shapeAt table s (placeIn s t) ++ timeFindings table s t
+recordFindings table s t = shapeAt (table .cores) (length (rowsOf table)) s (placeIn s t) ++ timeFindings table s t
 
 -- in the records of m slots from slot t on
 unfoldable pub recordsFindings : Table → List ℕ → ℕ → ℕ → List (Finding Said)

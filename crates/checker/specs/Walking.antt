@@ -3,7 +3,6 @@ use Prim.Native.Nat.{ℕ, _+_, _≤_, _<_}
 use mathlib.Core.Path.{_≡_}
 use mathlib.Core.List.{List}
 use mathlib.Core.Bool.{Bool, true, false, cond, not, _&&_}
-use lib.Dec.{eqb}
 use lib.ListN.{length, getD, take, drop}
 use Rattle.facts.specs.First.{Lowest}
 use Rattle.facts.specs.Findings.{FirstFound, NoneFound}
@@ -16,6 +15,7 @@ use Rattle.table.specs.Value.{faultOf, rowsOf}
 use Rattle.pd2.specs.Ready.{ready}
 use Rattle.pd2.specs.Share.{CanBe}
 use Rattle.pd2.specs.Choice.{rowAt}
+use Rattle.trace.specs.Said.{bare}
 use Rattle.trace.specs.Records.{countAt, pastRecord, names, placeIn, timesNamed}
 use Rattle.checker.specs.declared.Answer.{Answer}
 use Rattle.checker.specs.Answer.{saidOf}
@@ -70,24 +70,22 @@ pub record Walked (table : Table) (s : List ℕ) (t at : ℕ) (counts dues : Lis
   pub none : NoneFound (recordFindings table s t)
   pub reached : Reached table s (t + 1) at counts dues
 
-abbrev pub isPassed : Answer → Bool
-isPassed answer = eqb (saidOf answer .number) 0
+pub record Leads (table : Table) (s : List ℕ) (t : ℕ) (ended : Bool) (answer : Answer) (at : ℕ) (counts dues : List ℕ) : Type 0 where
+  pub walked : ended ≡ false → Walked table s t at counts dues
+  pub found : ended ≡ true → FirstFound (recordFindings table s t) (saidOf answer)
 
-pub record Leads (table : Table) (s : List ℕ) (t : ℕ) (answer : Answer) (at : ℕ) (counts dues : List ℕ) : Type 0 where
-  pub walked : isPassed answer ≡ true → Walked table s t at counts dues
-  pub ended : isPassed answer ≡ false → FirstFound (recordFindings table s t) (saidOf answer)
-
--- What reading the record at a place leads to: where its rows begin and how many there are, if it is sound; or the first fault in it.
-pub record Read (table : Table) (s : List ℕ) (at first count : ℕ) : Type 0 where
-  pub sound : NoneFound (shapeAt table s at)
+-- What reading the record at a place leads to, for a table of M cores and n rows: where its rows begin and how many there are, if it is sound;
+-- or the number of what is found first.
+pub record Read (M n : ℕ) (s : List ℕ) (at first count : ℕ) : Type 0 where
+  pub sound : NoneFound (shapeAt M n s at)
   pub begins : first ≡ at + 2
   pub all : count ≡ countAt s at
   pub inside : pastRecord s at ≤ length s
-  pub rise : badRow table s at ≡ false
+  pub rise : badRow n s at ≡ false
 
-pub record ReadLeads (table : Table) (s : List ℕ) (at : ℕ) (answer : Answer) (first count : ℕ) : Type 0 where
-  pub read : isPassed answer ≡ true → Read table s at first count
-  pub refused : isPassed answer ≡ false → FirstFound (shapeAt table s at) (saidOf answer)
+pub record ReadLeads (M n : ℕ) (s : List ℕ) (at number first count : ℕ) : Type 0 where
+  pub read : number ≡ 0 → Read M n s at first count
+  pub refused : (number ≡ 0 → ⊥) → (40 ≤ number) × (number ≤ 43) × FirstFound (shapeAt M n s at) (bare number)
 
 -- Row i is named and not ready.
 abbrev pub isEarly : Table → List ℕ → List ℕ → ℕ → ℕ → Bool

@@ -8,7 +8,7 @@ ghost use mathlib.Core.Path.{_≡_};
 ghost use Prim.Native.Nat.{_≤_};
 ghost use Rattle.checker.specs.Answer.{saidOf, faultNumber};
 ghost use Rattle.checker.specs.Check.{traceSaid, checkOf};
-ghost use Rattle.checker.specs.Walking.{CanCheck, isPassed};
+ghost use Rattle.checker.specs.Walking.{CanCheck};
 
 // Why a table was refused.
 pub enum TableFault {
@@ -44,8 +44,9 @@ pub enum Answer {
 // The most slots that a trace may have.
 const SLOT_LIMIT: u32 = 1_000_000_000;
 
-// What a record leads to: `Passed` and the place behind it, or the answer that ends the check.
+// What a record leads to: the place behind it, or the answer that ends the check.
 struct Step {
+    ended: bool,
     answer: Answer,
     next: usize,
 }
@@ -147,9 +148,8 @@ fn check_trace(table: Table, trace: &[u8]) -> Answer
             &mut dues,
             Slot::at(slot as u64),
         );
-        let answer = step.answer;
-        if !is_passed(answer) {
-            return answer;
+        if step.ended {
+            return step.answer;
         }
         at = step.next;
         slot += 1;
@@ -158,11 +158,4 @@ fn check_trace(table: Table, trace: &[u8]) -> Answer
         return Answer::Extra;
     }
     Answer::Passed
-}
-
-// Whether nothing was found.
-fn is_passed(answer: Answer) -> bool
-    ensures { λ r. ⌜ r ≡ isPassed answer ⌝ }
-{
-    number(answer) == 0
 }

@@ -2,20 +2,20 @@
 use crate::Answer;
 use crate::Step;
 use crate::giving;
-use crate::is_passed;
 use counts::Slot;
 use table::Table;
 ghost use mathlib.Core.Path.{_≡_};
+ghost use mathlib.Core.Bool.{true};
 ghost use Prim.Native.Nat.{_+_, _≤_, _<_};
 ghost use lib.ListN.{length, take, drop};
-ghost use Rattle.trace.specs.Said.{named};
+ghost use Rattle.trace.specs.Said.{bare, named};
 ghost use Rattle.checker.specs.Answer.{saidOf};
 ghost use Rattle.checker.specs.Causes.{badRows};
-ghost use Rattle.checker.specs.Walking.{CanCheck, CanJudge, Leads, ReadLeads};
+ghost use Rattle.checker.specs.Walking.{CanJudge, Leads, ReadLeads};
 
-// What the bytes of a record hold: `Passed`, where its rows begin and how many there are; or the answer that ends the check.
+// What the bytes of a record hold: 0, where its rows begin and how many there are; or the number of what is found in them.
 struct RecordRead {
-    answer: Answer,
+    number: u8,
     first: usize,
     count: usize,
 }
@@ -30,93 +30,119 @@ pub(crate) fn judge(
     slot: Slot,
 ) -> Step
     requires { ⌜ CanJudge table (now trace) (slot .0) at (now counts) (now dues) ⌝ }
-    ensures { λ r. ⌜ Leads table (now (trace .entry)) (slot .0) (r .answer) (r .next) (now (counts .exit)) (now (dues .exit)) ⌝ }
+    ensures { λ r. ⌜ Leads table (now (trace .entry)) (slot .0) (r .ended) (r .answer) (r .next) (now (counts .exit)) (now (dues .exit)) ⌝ }
 {
-    let read = read_at(table, trace, at);
-    let answer = read.answer;
-    if !is_passed(answer) {
-        return ended(answer);
+    let read = read_at(table.cores, table.count, trace, at);
+    if read.number != 0 {
+        return refused(read.number);
     }
     let n = table.count as usize;
     let early = giving::give(trace, read.first, read.count, table, counts, dues, slot);
     if early < n {
-        return ended(early_in(early, slot));
+        return early_in(early, slot);
     }
     let time = slot.later(1);
     let late = giving::lowest_late(dues, n, time);
     if late < n {
-        return ended(late_at(late, time));
+        return late_at(late, time);
     }
     let next = read.first + read.count;
     Step {
+        ended: false,
         answer: Answer::Passed,
         next,
     }
 }
 
-fn ended(answer: Answer) -> Step
-    ensures { λ r. ⌜ r .answer ≡ answer ⌝ }
+// The check ends: with what is found in the bytes of a record,
+fn refused(number: u8) -> Step
+    requires { ⌜ (40 ≤ number) × (number ≤ 43) ⌝ }
+    ensures { λ r. ⌜ (r .ended ≡ true) × (saidOf (r .answer) ≡ bare number) ⌝ }
 {
-    Step { answer, next: 0 }
+    ended(refusal(number))
 }
 
-fn early_in(row: usize, slot: Slot) -> Answer
+// with a row that was not ready,
+fn early_in(row: usize, slot: Slot) -> Step
     requires { ⌜ row < 32 ⌝ }
-    ensures { λ r. ⌜ saidOf r ≡ named 44 row (slot .0) ⌝ }
+    ensures { λ r. ⌜ (r .ended ≡ true) × (saidOf (r .answer) ≡ named 44 row (slot .0)) ⌝ }
 {
-    Answer::Early {
+    ended(Answer::Early {
         row: row as u8,
         slot,
-    }
+    })
 }
 
-fn late_at(row: usize, time: Slot) -> Answer
+// or with one that is late.
+fn late_at(row: usize, time: Slot) -> Step
     requires { ⌜ row < 32 ⌝ }
-    ensures { λ r. ⌜ saidOf r ≡ named 45 row (time .0) ⌝ }
+    ensures { λ r. ⌜ (r .ended ≡ true) × (saidOf (r .answer) ≡ named 45 row (time .0)) ⌝ }
 {
-    Answer::Late {
+    ended(Answer::Late {
         row: row as u8,
         time,
+    })
+}
+
+// The answer, by its number.
+fn refusal(number: u8) -> Answer
+    requires { ⌜ (40 ≤ number) × (number ≤ 43) ⌝ }
+    ensures { λ r. ⌜ saidOf r ≡ bare number ⌝ }
+{
+    match number {
+        40 => Answer::Cut,
+        41 => Answer::TooManyCores,
+        42 => Answer::TooManyRows,
+        _ => Answer::BadRow,
     }
 }
 
-// Reads the record at a place, and judges its shape.
-fn read_at(table: Table, trace: &[u8], at: usize) -> RecordRead
-    requires { ⌜ CanCheck table × (at ≤ length (now trace)) ⌝ }
-    ensures { λ r. ⌜ ReadLeads table (now (trace .entry)) at (r .answer) (r .first) (r .count) ⌝ }
+fn ended(answer: Answer) -> Step
+    ensures { λ r. ⌜ (r .ended ≡ true) × (r .answer ≡ answer) ⌝ }
+{
+    Step {
+        ended: true,
+        answer,
+        next: 0,
+    }
+}
+
+// Reads the record at a place, and judges its shape, for a table of so many cores and of n rows.
+fn read_at(cores: u8, n: u8, trace: &[u8], at: usize) -> RecordRead
+    requires { ⌜ (n ≤ 32) × (at ≤ length (now trace)) ⌝ }
+    ensures { λ r. ⌜ ReadLeads cores n (now (trace .entry)) at (r .number) (r .first) (r .count) ⌝ }
 {
     if trace.len() - at < 2 {
-        return refused(Answer::Cut);
+        return found(40);
     }
     let free = fields::byte(trace, at);
     let count = fields::byte(trace, at + 1);
-    if table.cores < free {
-        return refused(Answer::TooManyCores);
+    if cores < free {
+        return found(41);
     }
     if free < count {
-        return refused(Answer::TooManyRows);
+        return found(42);
     }
     let c = count as usize;
     let first = at + 2;
     if trace.len() - first < c {
-        return refused(Answer::Cut);
+        return found(40);
     }
-    if are_bad(trace, first, c, table.count) {
-        return refused(Answer::BadRow);
+    if are_bad(trace, first, c, n) {
+        return found(43);
     }
     RecordRead {
-        answer: Answer::Passed,
+        number: 0,
         first,
         count: c,
     }
 }
 
-// A record that ends the check.
-fn refused(answer: Answer) -> RecordRead
-    ensures { λ r. ⌜ r .answer ≡ answer ⌝ }
+fn found(number: u8) -> RecordRead
+    ensures { λ r. ⌜ r .number ≡ number ⌝ }
 {
     RecordRead {
-        answer,
+        number,
         first: 0,
         count: 0,
     }

@@ -1,8 +1,7 @@
-use mathlib.Core.Path.{sym, subst, _∙_}
+use mathlib.Core.Path.{sym, subst}
 use Prim.Native.Nat.{_-_}
 use native.Mathlib.Omega.{arith}
 use borrow.Author.Needs.{needs}
-use borrow.Author.Tests.{not-true, not-false}
 use Rattle.facts.specs.Findings.{FirstFound}
 use Rattle.checker.specs.Answer.{saidOf}
 use Rattle.checker.specs.Check.{recordFindings}
@@ -56,15 +55,11 @@ judge-requires c κs =
       time = omega (arith, c .at .ensures, c .before .before .before .loop-test .taken, so .few);
     }
 
-is-passed-requires : tie.Need-is-passed-requires Inv-loop μ-loop
-is-passed-requires c κs = search needs
-
 returns-3 : tie.Need-returns-3 Inv-loop μ-loop
 returns-3 c =
-    let a = c .before .before .before .before .before .before .before .before .before .before .before .before .before in
-    let judged = c .before .before .judge in
-    let off = sym (c .before .is-passed .ensures) ∙ not-true _ (c .if3 .taken) in
-    record-says (a .args .table) (a .args .trace .now) (c .before .before .before .before .before .before .before .loop .inv) (c .before .before .before .before .before .before .loop-test .taken) (subst (λ t. FirstFound (recordFindings (a .args .table) (a .args .trace .now) t) (saidOf (judged .result .answer))) (c .before .before .before .at .ensures) (judged .ensures .ended off))
+    let a = c .before .before .before .before .before .before .before .before .before .before .before .before in
+    let judged = c .before .judge in
+    record-says (a .args .table) (a .args .trace .now) (c .before .before .before .before .before .before .loop .inv) (c .before .before .before .before .before .loop-test .taken) (subst (λ t. FirstFound (recordFindings (a .args .table) (a .args .trace .now) t) (saidOf (judged .result .answer))) (c .before .before .at .ensures) (judged .ensures .found (c .if3 .taken)))
 
 add-slot : tie.Need-add-slot Inv-loop μ-loop
 add-slot c = search needs
@@ -74,10 +69,9 @@ loop-less c = search needs
 
 loop-again : tie.Need-loop-again Inv-loop μ-loop
 loop-again c =
-    let a = c .before .before .before .before .before .before .before .before .before .before .before .before .before in
-    let judged = c .before .before .judge in
-    let on = sym (c .before .is-passed .ensures) ∙ not-false _ (c .if3 .left) in
-    check-goes-on (a .args .table) (a .args .trace .now) (c .before .before .before .before .before .before .before .loop .inv) (c .before .before .before .before .before .before .loop-test .taken) (same-walked (a .args .table) (a .args .trace .now) (c .before .before .before .at .ensures) (judged .ensures .walked on))
+    let a = c .before .before .before .before .before .before .before .before .before .before .before .before in
+    let judged = c .before .judge in
+    check-goes-on (a .args .table) (a .args .trace .now) (c .before .before .before .before .before .before .loop .inv) (c .before .before .before .before .before .loop-test .taken) (same-walked (a .args .table) (a .args .trace .now) (c .before .before .at .ensures) (judged .ensures .walked (c .if3 .left)))
 
 returns-4 : tie.Need-returns-4 Inv-loop μ-loop
 returns-4 c =
@@ -103,7 +97,6 @@ check-trace-spec =
     cast-at
     at-requires
     judge-requires
-    is-passed-requires
     returns-3
     add-slot
     loop-less
