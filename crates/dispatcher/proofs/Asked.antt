@@ -1,22 +1,18 @@
 -- What the lower crates answer about a usable row, and what the functions here make of it. Assumes nothing.
 use Prim.Native.Nat.{ℕ, _+_, _-_, _*_, _%_, _<_}
 use mathlib.Core.Path.{_≡_, refl, sym, ap, _∙_}
+use mathlib.Core.List.{List}
 use mathlib.Core.Bool.{Bool, true, false, false≢true}
 use native.Mathlib.Nat.{mul-le-mul}
 use native.Mathlib.Omega.{arith}
 use borrow.Author.Tests.{eq-eqb, ne-eqb}
-use lib.ListN.{length, getD, length-take, List·getD-map}
+use lib.ListN.{length, getD, take, length-take, List·getD-map}
 use lib.Seq.{getD-take}
 use Rattle.counts.specs.declared.Quanta.{Quanta}
 use Rattle.table.specs.Causes.{zeroRow}
-use Rattle.table.specs.Value.{faultOf}
 use Rattle.pd2.specs.Share.{CanBe}
-use Rattle.pd2.proofs.Share.{row-can-be}
 use Rattle.pd2.specs.declared.Verdict.{Verdict}
 use Rattle.pd2.specs.Choice.{rowAt, quantaAt}
-use Rattle.dispatcher.specs.declared.State.{State}
-use Rattle.dispatcher.specs.State.{rowsIn, quantaIn, timeOf}
-use Rattle.dispatcher.specs.Broken.{ofRow}
 use Rattle.counts.specs.Limits.{most}
 use Rattle.windows.specs.declared.Due.{Due}
 use Rattle.windows.specs.declared.Due.the-variants as due
@@ -34,7 +30,7 @@ use Rattle.pd2.specs.Ready.{origin, ready}
 use Rattle.pd2.specs.Verdict.{isYes, answered, verdict}
 use Rattle.facts.proofs.Filling.{getD-any}
 use Rattle.pd2.proofs.Verdicts.{yes-if-it-holds}
-use Rattle.dispatcher.specs.Usable.{UsableRow, InPlace, Usable}
+use Rattle.dispatcher.specs.Usable.{UsableRow, numbersOf, ofRowAt, InPlace, Testable, Usable}
 use Rattle.dispatcher.specs.Classes.{keyOf, groupOf}
 
 -- What an answer holds.
@@ -116,40 +112,41 @@ pub no-group-at-bit-0 : (row : Row) (q key class : ℕ) → key ≡ class → cl
 unfolding groupOf
 no-group-at-bit-0 row q key class same odd = rw (eq-eqb key class same, eq-eqb (class % 2) 1 odd) refl
 
--- The rows of a state stand in its table,
-pub row-there : (s : State) (i : ℕ) (d : Row) → i < length (rowsIn s) → getD (s .table .rows) i d ≡ rowAt (rowsIn s) i
-row-there s i d l =
-    getD-any (s .table .rows) i d zeroRow (omega (arith, length-take (s .table .count) (s .table .rows)))
-    ∙ sym (getD-take (s .table .count) (s .table .rows) i zeroRow (omega (arith, length-take (s .table .count) (s .table .rows))))
+-- The first n rows stand in their array,
+pub row-there : (rows : List Row) (n i : ℕ) (d : Row) → i < length (take n rows) → getD rows i d ≡ rowAt (take n rows) i
+row-there rows n i d l =
+    getD-any rows i d zeroRow (omega (arith, length-take n rows)) ∙ sym (getD-take n rows i zeroRow (omega (arith, length-take n rows)))
 
--- and their quanta among its counts.
-pub quanta-there : (s : State) (i : ℕ) (d : Quanta) → i < length (s .quanta) → getD (s .quanta) i d .0 ≡ quantaAt (quantaIn s) i
-quanta-there s i d there =
-    ap (λ q. q .0) (getD-any (s .quanta) i d (record { 0 = 0 }) there) ∙ sym (List·getD-map (λ q. q .0) (s .quanta) i (record { 0 = 0 }))
+-- and their quanta among the counts.
+pub quanta-there : (quanta : List Quanta) (i : ℕ) (d : Quanta) → i < length quanta → getD quanta i d .0 ≡ quantaAt (numbersOf quanta) i
+quanta-there quanta i d there =
+    ap (λ q. q .0) (getD-any quanta i d (record { 0 = 0 }) there) ∙ sym (List·getD-map (λ q. q .0) quanta i (record { 0 = 0 }))
 
--- Row i of a state, as the code reads it, can be, if the table has no fault,
-pub can-be-there : (s : State) → faultOf (s .table) ≡ 0 → (i : ℕ) → i < length (rowsIn s) → (r : Row) → CanBe (getD (s .table .rows) i r)
-can-be-there s sound i l r = rw (row-there s i r l) (row-can-be (s .table) sound i l)
+module _ {rows : List Row} {quanta : List Quanta} {n : ℕ} where
+  -- Row i, as the code reads it, can be if all rows can,
+  pub can-be-there : {t : ℕ} → Testable rows quanta n t → {i : ℕ} → i < length (take n rows) → (r : Row) → CanBe (getD rows i r)
+  can-be-there can {i} l r = rw (row-there rows n i r l) (can .each i l)
 
--- and a question about it is one about the state's row.
-pub as-read : (s : State) → InPlace s → (i : ℕ) → i < length (rowsIn s) → (r : Row) (q : Quanta) (is : Row → ℕ → Bool) →
-    is (getD (s .table .rows) i r) (getD (s .quanta) i q .0) ≡ ofRow s is i
-as-read s place i l r q is = rw (row-there s i r l, quanta-there s i q (omega (arith, l, place .few, place .all, place .long))) refl
+  -- and a question about it is one about row i.
+  pub as-read : InPlace rows quanta n → {i : ℕ} → i < length (take n rows) → (r : Row) (q : Quanta) (is : Row → ℕ → Bool) →
+      is (getD rows i r) (getD quanta i q .0) ≡ ofRowAt (take n rows) (numbersOf quanta) is i
+  as-read place {i} l r q is =
+      rw (row-there rows n i r l, quanta-there quanta i q (omega (arith, l, place .few, place .all, place .long))) refl
 
--- Row i of a usable state, as the code reads it.
-module _ (s : State) (u : Usable s) (i : ℕ) (l : i < length (rowsIn s)) (r : Row) (q : Quanta) where
-  there : i < length (s .quanta)
+-- Row i of usable rows, as the code reads it.
+module _ {rows : List Row} {quanta : List Quanta} {n t : ℕ} (u : Usable rows quanta n t) {i : ℕ} (l : i < length (take n rows)) (r : Row) (q : Quanta) where
+  there : i < length quanta
   there = omega (arith, u .place .few, u .place .all, u .place .long)
 
   -- It is usable,
-  pub usable-there : UsableRow (getD (s .table .rows) i r) (getD (s .quanta) i q .0) (timeOf s)
-  usable-there = rw (row-there s i r l, quanta-there s i q there) (u .rows i l)
+  pub usable-there : UsableRow (getD rows i r) (getD quanta i q .0) t
+  usable-there = rw (row-there rows n i r l, quanta-there quanta i q there) (u .each i l)
 
-  -- and a question about it is answered as the state's row is.
+  -- and a question about it is answered as row i is.
   pub answered-there : (is : Row → ℕ → Bool) {answer : Bool} {v : Verdict} →
       answer ≡ isYes v →
-      v ≡ verdict (answered (getD (s .table .rows) i r) (getD (s .quanta) i q .0) (timeOf s)) (is (getD (s .table .rows) i r) (getD (s .quanta) i q .0)) →
-      answer ≡ ofRow s is i
+      v ≡ verdict (answered (getD rows i r) (getD quanta i q .0) t) (is (getD rows i r) (getD quanta i q .0)) →
+      answer ≡ ofRowAt (take n rows) (numbersOf quanta) is i
   answered-there is e f =
-      e ∙ (ap isYes f ∙ (is-answered _ _ _ usable-there (is (getD (s .table .rows) i r) (getD (s .quanta) i q .0))
-      ∙ rw (row-there s i r l, quanta-there s i q there) refl))
+      e ∙ (ap isYes f ∙ (is-answered _ _ _ usable-there (is (getD rows i r) (getD quanta i q .0))
+      ∙ rw (row-there rows n i r l, quanta-there quanta i q there) refl))

@@ -11,10 +11,11 @@ use Rattle.counts.specs.Limits.{timeLimit}
 use Rattle.table.specs.Limits.{rowLimit}
 use Rattle.table.specs.Value.{faultOf}
 use Rattle.table.proofs.Taken.{sizes-are-within}
+use Rattle.pd2.proofs.Share.{row-can-be}
 use Rattle.dispatcher.specs.declared.State.{State}
 use Rattle.dispatcher.specs.State.{rowsIn, timeOf}
 use Rattle.dispatcher.specs.Broken.{ofRow, someRow, exceeds, outsideShare, broken}
-use Rattle.dispatcher.specs.Usable.{InPlace, brokenRow}
+use Rattle.dispatcher.specs.Usable.{InPlace, Testable, brokenRow}
 
 module _ (s : State) where
   -- A fault of the table,
@@ -23,18 +24,23 @@ module _ (s : State) where
   by-fault h = rw (ne-eqb (faultOf (s .table)) 0 h) refl
 
   module _ (none : faultOf (s .table) ≡ 0) where
-    -- a time past the limit,
+    -- or a time past the limit.
     pub by-time : timeLimit < timeOf s → true ≡ broken s
     unfolding broken
     by-time h = rw (eq-eqb (faultOf (s .table)) 0 none, lt-ltb timeLimit (timeOf s) h) refl
 
     -- The arrays hold the rows of a table without fault.
-    pub in-place : length (s .table .rows) ≡ rowLimit → length (s .quanta) ≡ rowLimit → InPlace s
+    pub in-place : length (s .table .rows) ≡ rowLimit → length (s .quanta) ≡ rowLimit → InPlace (s .table .rows) (s .quanta) (s .table .count)
     in-place rows quanta =
         let few = sizes-are-within (s .table) none .2 in
         record { few = few; all = length-take-le (s .table .count) (s .table .rows) (omega arith); long = quanta }
 
-    -- or a row that breaks the state.
+    -- Within the time limit its rows can be tested,
+    pub testable : InPlace (s .table .rows) (s .quanta) (s .table .count) → timeOf s ≤ timeLimit →
+        Testable (s .table .rows) (s .quanta) (s .table .count) (timeOf s)
+    testable place early = record { place = place; each = row-can-be (s .table) none; time = early }
+
+    -- and one of them may break the state.
     pub by-rows : timeOf s ≤ timeLimit → someRow s (brokenRow (s .stopped) (timeOf s)) ≡ broken s
     unfolding broken
     by-rows early =

@@ -7,7 +7,7 @@ use native.Mathlib.Decide.{decLt}
 use native.Mathlib.Omega.{arith}
 use borrow.Author.Tests.{lt-ltb, le-ltb}
 use lib.Dec.{ltb}
-use lib.ListN.{length, getD, replicate, set}
+use lib.ListN.{length, getD, take, replicate, set}
 use lib.Seq.{getD-set-same, getD-set-other}
 use Rattle.facts.specs.Counting.{howMany, those}
 use Rattle.facts.proofs.Counting.{unlisted-if-failed, same-list}
@@ -16,11 +16,9 @@ use Rattle.counts.specs.declared.Quanta.{Quanta}
 use Rattle.counts.specs.Limits.{most}
 use Rattle.table.specs.declared.Row.{Row}
 use Rattle.pd2.specs.Ready.{ready}
-use Rattle.pd2.specs.Choice.{rowAt, quantaAt}
+use Rattle.pd2.specs.Choice.{rowAt, quantaAt, readyIn}
 use Rattle.trace.specs.Record.{marked}
-use Rattle.dispatcher.specs.declared.State.{State}
-use Rattle.dispatcher.specs.State.{rowsIn, quantaIn, timeOf}
-use Rattle.dispatcher.specs.Usable.{Usable}
+use Rattle.dispatcher.specs.Usable.{numbersOf, InPlace}
 use Rattle.dispatcher.specs.Classes.{keyOf, keyIn, KeysAre, groupOf, GroupsAre, tied, inCut}
 use Rattle.dispatcher.proofs.Asked.{row-there, quanta-there}
 
@@ -54,45 +52,50 @@ marks-are a n marks {i} so same few =
     ∙ list-ends (λ j. getD marks j false) a n (32 - n) (λ j l. so .first j (omega arith)) (λ j l h. so .rest j (omega arith) (omega arith))
 
 -- The keys of the first i rows stand in the array.
-pub record Keyed (s : State) (keys : List ℕ) (i : ℕ) : Type 0 where
-  pub keyed : Filled (λ j. keyOf (rowAt (rowsIn s) j) (quantaAt (quantaIn s) j) (timeOf s)) most 0 32 i keys
-  pub low : (j : ℕ) → j < i → ready (rowAt (rowsIn s) j) (quantaAt (quantaIn s) j) (timeOf s) ≡ true → keyIn keys j < most
+pub record Keyed (rows : List Row) (quanta : List ℕ) (t : ℕ) (keys : List ℕ) (i : ℕ) : Type 0 where
+  pub keyed : Filled (λ j. keyOf (rowAt rows j) (quantaAt quanta j) t) most 0 32 i keys
+  pub low : (j : ℕ) → j < i → readyIn rows quanta t j ≡ true → keyIn keys j < most
 
-pub no-keys-yet : (s : State) → Keyed s (replicate 32 most) 0
-no-keys-yet s = record { keyed = filling-begins _ _ _ _; low = λ j l. absurd (omega arith) }
+pub no-keys-yet : (rows : List Row) (quanta : List ℕ) (t : ℕ) → Keyed rows quanta t (replicate 32 most) 0
+no-keys-yet rows quanta t = record { keyed = filling-begins _ _ _ _; low = λ j l. absurd (omega arith) }
 
-module _ (s : State) (u : Usable s) (r : Row) (q : Quanta) {i : ℕ} (l : i < length (rowsIn s)) where
-  there : i < length (s .quanta)
-  there = omega (arith, u .place .few, u .place .all, u .place .long)
+-- The group deadlines of the first i rows stand in theirs.
+abbrev pub Grouped : List Row → List ℕ → List ℕ → ℕ → List ℕ → ℕ → Type 0
+Grouped rows quanta keys class groups i = Filled (λ j. groupOf (rowAt rows j) (quantaAt quanta j) (keyIn keys j) class) 0 0 32 i groups
+
+module _ {rows : List Row} {quanta : List Quanta} {n : ℕ} (place : InPlace rows quanta n) (r : Row) (q : Quanta) {i : ℕ} (l : i < length (take n rows)) where
+  there : i < length quanta
+  there = omega (arith, place .few, place .all, place .long)
 
   room : i < 32
-  room = omega (arith, u .place .few, u .place .all)
+  room = omega (arith, place .few, place .all)
 
   -- one key more,
-  pub one-more-keyed : {keys : List ℕ} {v : ℕ} → Keyed s keys i →
-      (v ≡ keyOf (getD (s .table .rows) i r) (getD (s .quanta) i q .0) (timeOf s))
-      × (ready (getD (s .table .rows) i r) (getD (s .quanta) i q .0) (timeOf s) ≡ true → v < most) →
-      Keyed s (set keys i v) (i + 1)
-  one-more-keyed {keys} {v} so key =
-      let is = rw (row-there s i r l, quanta-there s i q there) at key in
+  pub one-more-keyed : {t : ℕ} {keys : List ℕ} {v : ℕ} → Keyed (take n rows) (numbersOf quanta) t keys i →
+      (v ≡ keyOf (getD rows i r) (getD quanta i q .0) t) × (ready (getD rows i r) (getD quanta i q .0) t ≡ true → v < most) →
+      Keyed (take n rows) (numbersOf quanta) t (set keys i v) (i + 1)
+  one-more-keyed {t} {keys} {v} so key =
+      let is = rw (row-there rows n i r l, quanta-there quanta i q there) at key in
       record { keyed = fills-one-more _ _ _ _ (so .keyed) room (is .0); low = λ j m h. low j m h (decLt j i) (is .1) }
     where
-      low : (j : ℕ) → j < i + 1 → ready (rowAt (rowsIn s) j) (quantaAt (quantaIn s) j) (timeOf s) ≡ true → Dec (j < i) →
-          (ready (rowAt (rowsIn s) i) (quantaAt (quantaIn s) i) (timeOf s) ≡ true → v < most) → keyIn (set keys i v) j < most
+      isReady : ℕ → Type 0
+      isReady j = readyIn (take n rows) (numbersOf quanta) t j ≡ true
+
+      low : (j : ℕ) → j < i + 1 → isReady j → Dec (j < i) → (isReady i → v < most) → keyIn (set keys i v) j < most
       low j m h (yes k) own = rw (getD-set-other keys i j v 0 (λ same. omega arith)) (so .low j k h)
       low j m h (no k) own =
           let same : j ≡ i = omega arith in
           rw (same, getD-set-same keys i v 0 (omega (arith, so .keyed .long, room))) (own (rw same at h))
 
   -- one group deadline more.
-  pub one-more-grouped : (keys : List ℕ) (class : ℕ) {groups : List ℕ} {v : ℕ} → Filled (λ j. groupOf (rowAt (rowsIn s) j) (quantaAt (quantaIn s) j) (keyIn keys j) class) 0 0 32 i groups →
-      v ≡ groupOf (getD (s .table .rows) i r) (getD (s .quanta) i q .0) (keyIn keys i) class →
-      Filled (λ j. groupOf (rowAt (rowsIn s) j) (quantaAt (quantaIn s) j) (keyIn keys j) class) 0 0 32 (i + 1) (set groups i v)
-  one-more-grouped keys class so group = fills-one-more _ _ _ _ so room (rw (row-there s i r l, quanta-there s i q there) at group)
+  pub one-more-grouped : (keys : List ℕ) (class : ℕ) {groups : List ℕ} {v : ℕ} → Grouped (take n rows) (numbersOf quanta) keys class groups i →
+      v ≡ groupOf (getD rows i r) (getD quanta i q .0) (keyIn keys i) class → Grouped (take n rows) (numbersOf quanta) keys class (set groups i v) (i + 1)
+  one-more-grouped keys class so group = fills-one-more _ _ _ _ so room (rw (row-there rows n i r l, quanta-there quanta i q there) at group)
 
-pub all-keyed : (s : State) {keys : List ℕ} {i : ℕ} → Keyed s keys i → length (rowsIn s) ≤ i → KeysAre s keys
-all-keyed s so h = record { each = λ j l. so .keyed .first j (omega arith); low = λ j l. so .low j (omega arith) }
+module _ (rows : List Row) (quanta : List ℕ) where
+  pub all-keyed : {t : ℕ} {keys : List ℕ} {i : ℕ} → Keyed rows quanta t keys i → length rows ≤ i → KeysAre rows quanta t keys
+  all-keyed so h = record { each = λ j l. so .keyed .first j (omega arith); low = λ j l. so .low j (omega arith) }
 
-pub all-grouped : (s : State) (keys : List ℕ) (class : ℕ) {groups : List ℕ} {i : ℕ} →
-    Filled (λ j. groupOf (rowAt (rowsIn s) j) (quantaAt (quantaIn s) j) (keyIn keys j) class) 0 0 32 i groups → length (rowsIn s) ≤ i → GroupsAre s keys class groups
-all-grouped s keys class so h = record { each = λ j l. so .first j (omega arith) }
+  pub all-grouped : (keys : List ℕ) (class : ℕ) {groups : List ℕ} {i : ℕ} → Grouped rows quanta keys class groups i → length rows ≤ i →
+      GroupsAre rows quanta keys class groups
+  all-grouped keys class so h = record { each = λ j l. so .first j (omega arith) }

@@ -14,12 +14,10 @@ use Rattle.facts.proofs.Tests.{or-false}
 use Rattle.facts.proofs.Counting.{same-list}
 use Rattle.counts.specs.Limits.{most}
 use Rattle.windows.proofs.Windows.{bit-is-0-or-1}
+use Rattle.table.specs.declared.Row.{Row}
 use Rattle.pd2.specs.Order.{Rank, rankOf, before}
 use Rattle.pd2.specs.Picks.{picked}
-use Rattle.pd2.specs.Choice.{rowAt, quantaAt, readyIn, firstBy}
-use Rattle.dispatcher.specs.declared.State.{State}
-use Rattle.dispatcher.specs.State.{rowsIn, quantaIn, timeOf}
-use Rattle.dispatcher.specs.Slot.{picksIn}
+use Rattle.pd2.specs.Choice.{rowAt, quantaAt, readyIn, firstBy, pd2Picks}
 use Rattle.dispatcher.specs.Classes.{keyFor, keyOf, keyIn, KeysAre, IsCut, groupOf, groupIn, GroupsAre, larger, tied, inCut}
 use Rattle.dispatcher.proofs.Keys.{tie, before-is-by-key}
 use Rattle.dispatcher.proofs.Classes.{cut-takes-picked}
@@ -37,19 +35,20 @@ parity : (x : Rank) → (x .b ≡ 0) ⊎ (x .b ≡ 1) → keyFor x % 2 ≡ 1 - x
 parity x (inl z) = let rest = mod-lt (keyFor x) {m = 2} (omega arith) in omega (arith, div-add-mod' (keyFor x) 2, z)
 parity x (inr z) = let rest = mod-lt (keyFor x) {m = 2} (omega arith) in omega (arith, div-add-mod' (keyFor x) 2, z)
 
-module _ (s : State) (k : ℕ) (keys groups : List ℕ) (class left : ℕ)
-    (keyed : KeysAre s keys) (cut : IsCut (keyIn keys) (length (rowsIn s)) k class left) (grouped : 0 < left → GroupsAre s keys class groups) where
+module _ (rows : List Row) (quanta : List ℕ) (t k : ℕ) (keys groups : List ℕ) (class left : ℕ)
+    (keyed : KeysAre rows quanta t keys) (cut : IsCut (keyIn keys) (length rows) k class left)
+    (grouped : 0 < left → GroupsAre rows quanta keys class groups) where
   abbrev rank : ℕ → Rank
-  rank i = rankOf (rowAt (rowsIn s) i) i (quantaAt (quantaIn s) i)
+  rank i = rankOf (rowAt rows i) i (quantaAt quanta i)
 
   abbrev isReady : ℕ → Bool
-  isReady = readyIn (rowsIn s) (quantaIn s) (timeOf s)
+  isReady = readyIn rows quanta t
 
   abbrev n : ℕ
-  n = length (rowsIn s)
+  n = length rows
 
   bit-of : (i : ℕ) → (rank i .b ≡ 0) ⊎ (rank i .b ≡ 1)
-  bit-of i = bit-is-0-or-1 (rowAt (rowsIn s) i .cost) (rowAt (rowsIn s) i .period) (quantaAt (quantaIn s) i + 1)
+  bit-of i = bit-is-0-or-1 (rowAt rows i .cost) (rowAt rows i .period) (quantaAt quanta i + 1)
 
   -- the key of a row that is ready, and of one that is not
   ready-key : (i : ℕ) → i < n → isReady i ≡ true → keyIn keys i ≡ keyFor (rank i)
@@ -68,7 +67,7 @@ module _ (s : State) (k : ℕ) (keys groups : List ℕ) (class left : ℕ)
       go false e = absurd (omega (arith, unready-key i l e))
 
   by-key : (j i : ℕ) → j < n → i < n → isReady j ≡ true → isReady i ≡ true →
-      firstBy before (rowsIn s) (quantaIn s) j i ≡ ltb (keyIn keys j) (keyIn keys i) || (eqb (keyIn keys j) (keyIn keys i) && tie (rank j) (rank i))
+      firstBy before rows quanta j i ≡ ltb (keyIn keys j) (keyIn keys i) || (eqb (keyIn keys j) (keyIn keys i) && tie (rank j) (rank i))
   by-key j i lj li hj hi = rw (ready-key j lj hj, ready-key i li hi) (before-is-by-key (rank j) (rank i) (bit-of j) (bit-of i))
 
   -- in the class that is cut, group deadlines decide as PD2's rule does
@@ -108,33 +107,32 @@ module _ (s : State) (k : ℕ) (keys groups : List ℕ) (class left : ℕ)
       go (inr z) w = rw (← same-bit, z) refl
 
   -- So the rows in the cut are the rows that PD2 picks.
-  pub cut-picks : those (inCut (keyIn keys) (groupIn groups) (length (rowsIn s)) class left) (length (rowsIn s)) ≡ picksIn s k
+  pub cut-picks : those (inCut (keyIn keys) (groupIn groups) (length rows) class left) (length rows) ≡ pd2Picks rows quanta t k
   cut-picks =
-      same-list (inCut (keyIn keys) (groupIn groups) n class left) (picked isReady (firstBy before (rowsIn s) (quantaIn s)) n k) n
-      (cut-takes-picked isReady (firstBy before (rowsIn s) (quantaIn s)) (λ j i. tie (rank j) (rank i)) (keyIn keys) n unready-key
+      same-list (inCut (keyIn keys) (groupIn groups) n class left) (picked isReady (firstBy before rows quanta) n k) n
+      (cut-takes-picked isReady (firstBy before rows quanta) (λ j i. tie (rank j) (rank i)) (keyIn keys) n unready-key
       (λ i l h. keyed .low i l h) by-key (λ i l. tie-is-irreflexive (rank i)) cut (groupIn groups) ties)
 
 -- For the caller: the rows that are found are the picks, where the class is cut,
-pub found-are-picks : (s : State) (k : ℕ) {n class left : ℕ} {keys groups found : List ℕ} → length (rowsIn s) ≡ n → KeysAre s keys →
-    IsCut (keyIn keys) n k class left → GroupsAre s keys class groups →
-    found ≡ those (inCut (keyIn keys) (groupIn groups) n class left) n → found ≡ picksIn s k
-found-are-picks s k {n} {class} {left} {keys} {groups} all keyed cut grouped found =
-    found ∙ rw (← all) (cut-picks s k keys groups class left keyed (rw all cut) (λ _. grouped))
+module _ (rows : List Row) (quanta : List ℕ) (t k : ℕ) {n class left : ℕ} {keys : List ℕ} (all : length rows ≡ n) (keyed : KeysAre rows quanta t keys)
+    (cut : IsCut (keyIn keys) n k class left) {found : List ℕ} where
+  pub found-are-picks : {groups : List ℕ} → GroupsAre rows quanta keys class groups → found ≡ those (inCut (keyIn keys) (groupIn groups) n class left) n →
+      found ≡ pd2Picks rows quanta t k
+  found-are-picks {groups} grouped same = same ∙ rw (← all) (cut-picks rows quanta t k keys groups class left keyed (rw all cut) (λ _. grouped))
 
--- and where it is not.
-pub whole-are-picks : (s : State) (k : ℕ) {n class left : ℕ} {keys found : List ℕ} → length (rowsIn s) ≡ n → KeysAre s keys →
-    IsCut (keyIn keys) n k class left → left ≡ 0 → found ≡ those (λ i. ltb (keyIn keys i) class) n → found ≡ picksIn s k
-unfolding inCut
-whole-are-picks s k {n} {class} {left} {keys} all keyed cut none found =
-    found
-    ∙ (same-list (λ i. ltb (keyIn keys i) class) (inCut (keyIn keys) (groupIn []) n class left) n (λ i l. sym (only-before i))
-    ∙ rw (← all) (cut-picks s k keys [] class left keyed (rw all cut) (λ some. absurd (omega (arith, none)))))
-  where
-    and-false : (b : Bool) → b && false ≡ false
-    and-false true = refl
-    and-false false = refl
+  -- and where it is not.
+  pub whole-are-picks : left ≡ 0 → found ≡ those (λ i. ltb (keyIn keys i) class) n → found ≡ pd2Picks rows quanta t k
+  unfolding inCut
+  whole-are-picks none same =
+      same
+      ∙ (same-list (λ i. ltb (keyIn keys i) class) (inCut (keyIn keys) (groupIn []) n class left) n (λ i l. sym (only-before i))
+      ∙ rw (← all) (cut-picks rows quanta t k keys [] class left keyed (rw all cut) (λ some. absurd (omega (arith, none)))))
+    where
+      and-false : (b : Bool) → b && false ≡ false
+      and-false true = refl
+      and-false false = refl
 
-    only-before : (i : ℕ) → inCut (keyIn keys) (groupIn []) n class left i ≡ ltb (keyIn keys i) class
-    only-before i =
-        rw (le-ltb (howMany (λ j. tied (keyIn keys) (groupIn []) j i) n) left (omega (arith, none)))
-        (ap (λ b. ltb (keyIn keys i) class || b) (and-false (not (ltb class (keyIn keys i)))) ∙ or-false (ltb (keyIn keys i) class))
+      only-before : (i : ℕ) → inCut (keyIn keys) (groupIn []) n class left i ≡ ltb (keyIn keys i) class
+      only-before i =
+          rw (le-ltb (howMany (λ j. tied (keyIn keys) (groupIn []) j i) n) left (omega (arith, none)))
+          (ap (λ b. ltb (keyIn keys i) class || b) (and-false (not (ltb class (keyIn keys i)))) ∙ or-false (ltb (keyIn keys i) class))

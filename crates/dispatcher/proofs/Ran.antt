@@ -27,7 +27,7 @@ use Rattle.dispatcher.specs.Answer.{doneSaid}
 use Rattle.dispatcher.specs.Slot.{picksIn, lateAt, lateIn, ran}
 use Rattle.table.specs.Causes.{zeroRow}
 use Rattle.pd2.specs.Rows.{quantaOf, GaveMarked, isLate}
-use Rattle.dispatcher.specs.Usable.{Usable, CanRun}
+use Rattle.dispatcher.specs.Usable.{UsableState, CanRun}
 use Rattle.dispatcher.proofs.Asked.{answered-there}
 
 -- counts as the state keeps them are the numbers they hold
@@ -74,11 +74,11 @@ as-counted [] = refl
 as-counted (q ∷ l) = ap (λ rest. q ∷ rest) (as-counted l)
 
 -- If only its rows are given to, a usable state stays usable as long as the time is below its limit.
-pub stays-usable : (s : State) (isPicked : ℕ → Bool) → Usable s → timeOf s < timeLimit → Usable (ran s isPicked)
+pub stays-usable : (s : State) (isPicked : ℕ → Bool) → UsableState s → timeOf s < timeLimit → UsableState (ran s isPicked)
 stays-usable s isPicked u early =
     record {
       place = record { few = u .place .few; all = u .place .all; long = same-long ∙ u .place .long };
-      rows = λ i l. let row = u .rows i l in record { cost = row .cost; weight = row .weight; quanta = few i l; time = omega arith };
+      each = λ i l. let row = u .each i l in record { cost = row .cost; weight = row .weight; quanta = few i l; time = omega arith };
     }
   where
     same-long : length (ran s isPicked .quanta) ≡ length (s .quanta)
@@ -95,7 +95,7 @@ stays-usable s isPicked u early =
         let place = u .place in
         let there : i < length (quantaIn s) = omega (arith, length-map (s .quanta) (λ q. q .0), place .few, place .all, place .long) in
         rw (as-counted (given isPicked 0 (quantaIn s)), given-at isPicked 0 (quantaIn s) i there)
-        (omega (arith, u .rows i l .quanta, one-at-most (isPicked (0 + i))))
+        (omega (arith, u .each i l .quanta, one-at-most (isPicked (0 + i))))
 
 -- Marks that say what PD2 picks mark only rows of the state.
 pub marks-are-rows : (s : State) (k : ℕ) (marks : List Bool) → marked marks ≡ picksIn s k → (i : ℕ) → getD marks i false ≡ true → i < length (rowsIn s)
@@ -111,17 +111,17 @@ marks-are-rows s k marks e i h = below i h (decLt i (length marks))
 -- A mark that is set stands at a row, whose quanta are small.
 pub marked-are-small : (s : State) (marks : List Bool) → CanRun s marks → (i : ℕ) → getD marks i false ≡ true → quantaOf (s .quanta) i < most
 marked-are-small s marks can i h =
-    let row = can .usable .rows i (can .only-rows i h) in
+    let row = can .usable .each i (can .only-rows i h) in
     omega (arith, row .quanta, row .time, sym (List·getD-map (λ q. q .0) (s .quanta) i (record { 0 = 0 })))
 
 -- The lowest late row that the arrays show is the state's.
-pub lowest-of-state : (s : State) → Usable s → {i : ℕ} → Lowest (isLate (s .table .rows) (s .quanta) (timeOf s)) (min (s .table .count) 32) i →
+pub lowest-of-state : (s : State) → UsableState s → {i : ℕ} → Lowest (isLate (s .table .rows) (s .quanta) (timeOf s)) (min (s .table .count) 32) i →
     Lowest (ofRow s (lateAt (timeOf s))) (length (rowsIn s)) i
 lowest-of-state s u {i} low =
     let place = u .place in
     let bound : min (s .table .count) 32 ≡ length (rowsIn s) = omega (arith, place .few, place .all) in
     same-lowest (isLate (s .table .rows) (s .quanta) (timeOf s)) (ofRow s (lateAt (timeOf s))) (length (rowsIn s)) i
-    (λ j l. answered-there s u j l zeroRow (record { 0 = 0 }) (lateAt (timeOf s)) refl refl)
+    (λ j l. answered-there u l zeroRow (record { 0 = 0 }) (lateAt (timeOf s)) refl refl)
     (subst (λ n. Lowest (isLate (s .table .rows) (s .quanta) (timeOf s)) n i) bound low)
 
 -- The lowest late row is named, and the state is stopped;

@@ -20,7 +20,7 @@ use Rattle.pd2.specs.Choice.{quantaAt}
 use Rattle.dispatcher.specs.declared.State.{State}
 use Rattle.dispatcher.specs.State.{rowsIn, quantaIn, timeOf, freshOf}
 use Rattle.dispatcher.specs.Broken.{ofRow, someRow, exceeds, outsideShare, broken}
-use Rattle.dispatcher.specs.Usable.{InPlace, Usable}
+use Rattle.dispatcher.specs.Usable.{InPlace, UsableState}
 
 -- for callers
 
@@ -65,11 +65,11 @@ pub rows-have-places : (t : Table) → faultOf t ≡ 0 → length (rowsOf t) ≤
 rows-have-places t h = omega (arith, length-take (t .count) (t .rows), sizes-are-within t h .2)
 
 -- A whole state is one that the functions of this crate can use.
-pub is-usable : (s : State) → Whole s → InPlace s → Usable s
+pub is-usable : (s : State) → Whole s → InPlace (s .table .rows) (s .quanta) (s .table .count) → UsableState s
 is-usable s w place =
     record {
       place = place;
-      rows = λ i l.
+      each = λ i l.
           let sound = rows-are-sound (s .table) (w .table) i l in
           record { cost = sound .cost; weight = sound .weight; quanta = w .quanta i l; time = w .time };
     }

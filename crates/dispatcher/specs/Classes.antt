@@ -11,9 +11,7 @@ use Rattle.counts.specs.Limits.{most}
 use Rattle.table.specs.declared.Row.{Row}
 use Rattle.pd2.specs.Ready.{ready}
 use Rattle.pd2.specs.Order.{Rank, rankOf}
-use Rattle.pd2.specs.Choice.{rowAt, quantaAt}
-use Rattle.dispatcher.specs.declared.State.{State}
-use Rattle.dispatcher.specs.State.{rowsIn, quantaIn, timeOf}
+use Rattle.pd2.specs.Choice.{rowAt, quantaAt, readyIn}
 
 -- The key of a rank: two for each deadline, b = 1 before b = 0. A row that is not ready has the largest number there is.
 abbrev pub keyFor : Rank → ℕ
@@ -25,9 +23,9 @@ keyOf row q t = cond (ready row q t) (keyFor (rankOf row 0 q)) most
 abbrev pub keyIn : List ℕ → ℕ → ℕ
 keyIn keys i = getD keys i 0
 
-pub record KeysAre (s : State) (keys : List ℕ) : Type 0 where
-  pub each : (i : ℕ) → i < length (rowsIn s) → keyIn keys i ≡ keyOf (rowAt (rowsIn s) i) (quantaAt (quantaIn s) i) (timeOf s)
-  pub low : (i : ℕ) → i < length (rowsIn s) → ready (rowAt (rowsIn s) i) (quantaAt (quantaIn s) i) (timeOf s) ≡ true → keyIn keys i < most
+pub record KeysAre (rows : List Row) (quanta : List ℕ) (t : ℕ) (keys : List ℕ) : Type 0 where
+  pub each : (i : ℕ) → i < length rows → keyIn keys i ≡ keyOf (rowAt rows i) (quantaAt quanta i) t
+  pub low : (i : ℕ) → i < length rows → readyIn rows quanta t i ≡ true → keyIn keys i < most
 
 -- Keys that do not fall.
 abbrev pub Rises : ℕ → List ℕ → Type 0
@@ -59,9 +57,8 @@ groupOf row q key class = cond (eqb key class && not (eqb (class % 2) 1)) (rankO
 abbrev pub groupIn : List ℕ → ℕ → ℕ
 groupIn groups i = getD groups i 0
 
-pub record GroupsAre (s : State) (keys : List ℕ) (class : ℕ) (groups : List ℕ) : Type 0 where
-  pub each : (i : ℕ) → i < length (rowsIn s) →
-      groupIn groups i ≡ groupOf (rowAt (rowsIn s) i) (quantaAt (quantaIn s) i) (keyIn keys i) class
+pub record GroupsAre (rows : List Row) (quanta keys : List ℕ) (class : ℕ) (groups : List ℕ) : Type 0 where
+  pub each : (i : ℕ) → i < length rows → groupIn groups i ≡ groupOf (rowAt rows i) (quantaAt quanta i) (keyIn keys i) class
 
 -- In a class the larger group deadline goes first, then the lower row.
 abbrev pub larger : ℕ → ℕ → ℕ → ℕ → Bool

@@ -1,18 +1,19 @@
--- Between functions: what those of this crate ask of a state and of its rows. No part of what 01 says.
+-- Between functions: what those of this crate ask of a state and of its rows. No part of what 01 says. Those that go through the rows are
+-- handed the arrays alone: n rows, their quanta and a time.
 use Prim.Native.Nat.{ℕ, _≤_, _<_}
 use mathlib.Core.Path.{_≡_}
-use mathlib.Core.List.{List}
+use mathlib.Core.List.{List, map}
 use mathlib.Core.Bool.{Bool, true, false, not, _&&_, _||_}
 use lib.Dec.{ltb}
-use lib.ListN.{length, getD}
+use lib.ListN.{length, getD, take}
+use Rattle.counts.specs.declared.Quanta.{Quanta}
 use Rattle.counts.specs.Limits.{timeLimit}
 use Rattle.table.specs.declared.Row.{Row}
 use Rattle.table.specs.Limits.{rowLimit}
-use Rattle.table.specs.Value.{faultOf}
-use Rattle.pd2.specs.Share.{within}
+use Rattle.pd2.specs.Share.{CanBe, within}
 use Rattle.pd2.specs.Choice.{rowAt, quantaAt}
 use Rattle.dispatcher.specs.declared.State.{State}
-use Rattle.dispatcher.specs.State.{rowsIn, quantaIn, timeOf}
+use Rattle.dispatcher.specs.State.{rowsIn, timeOf}
 
 -- A row that can be, with quanta and a time within their limits.
 pub record UsableRow (row : Row) (q t : ℕ) : Type 0 where
@@ -21,29 +22,41 @@ pub record UsableRow (row : Row) (q t : ℕ) : Type 0 where
   pub quanta : q ≤ t
   pub time : t ≤ timeLimit
 
--- A state whose rows and quanta stand in their arrays.
-pub record InPlace (s : State) : Type 0 where
-  pub few : s .table .count ≤ rowLimit
-  pub all : length (rowsIn s) ≡ s .table .count
-  pub long : length (s .quanta) ≡ rowLimit
+-- the numbers that counts of quanta hold
+abbrev pub numbersOf : List Quanta → List ℕ
+numbersOf = map (λ q. q .0)
 
--- A state whose rows can be judged: its table has no fault and stands in its array, and its time is within the limit.
-pub record CanJudge (s : State) : Type 0 where
-  pub place : InPlace s
-  pub sound : faultOf (s .table) ≡ 0
-  pub time : timeOf s ≤ timeLimit
+-- A question about a row and its quanta, put to row i.
+abbrev pub ofRowAt : List Row → List ℕ → (Row → ℕ → Bool) → ℕ → Bool
+ofRowAt rows quanta is i = is (rowAt rows i) (quantaAt quanta i)
+
+-- Rows and quanta that stand in their arrays.
+pub record InPlace (rows : List Row) (quanta : List Quanta) (n : ℕ) : Type 0 where
+  pub few : n ≤ rowLimit
+  pub all : length (take n rows) ≡ n
+  pub long : length quanta ≡ rowLimit
+
+-- Rows that can be asked whether they break a state: each can be, and the time is within the limit.
+pub record Testable (rows : List Row) (quanta : List Quanta) (n t : ℕ) : Type 0 where
+  pub place : InPlace rows quanta n
+  pub each : (i : ℕ) → i < length (take n rows) → CanBe (rowAt (take n rows) i)
+  pub time : t ≤ timeLimit
 
 -- A row that breaks a state: its quanta exceed the time, or it is outside its share and the state is not stopped.
 abbrev pub brokenRow : Bool → ℕ → Row → ℕ → Bool
 brokenRow stopped time row q = ltb time q || (not stopped && not (within row q time))
 
--- A state whose rows are all usable.
-pub record Usable (s : State) : Type 0 where
-  pub place : InPlace s
-  pub rows : (i : ℕ) → i < length (rowsIn s) → UsableRow (rowAt (rowsIn s) i) (quantaAt (quantaIn s) i) (timeOf s)
+-- Rows that are all usable.
+pub record Usable (rows : List Row) (quanta : List Quanta) (n t : ℕ) : Type 0 where
+  pub place : InPlace rows quanta n
+  pub each : (i : ℕ) → i < length (take n rows) → UsableRow (rowAt (take n rows) i) (quantaAt (numbersOf quanta) i) t
+
+-- The same of a state.
+abbrev pub UsableState : State → Type 0
+UsableState s = Usable (s .table .rows) (s .quanta) (s .table .count) (timeOf s)
 
 -- The marked rows can be given a quantum: only rows of the state are marked, and there is a slot left.
 pub record CanRun (s : State) (marks : List Bool) : Type 0 where
-  pub usable : Usable s
+  pub usable : UsableState s
   pub only-rows : (i : ℕ) → getD marks i false ≡ true → i < length (rowsIn s)
   pub early : timeOf s < timeLimit

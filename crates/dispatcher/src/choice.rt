@@ -1,6 +1,5 @@
 // Which rows are picked. Rows of the same deadline and bit form a class, and a number, the key, says which class goes first. Whole
 // classes are picked while they fit; only in the one that does not fit are group deadlines asked for.
-use crate::State;
 use counts::Quanta;
 use counts::Slot;
 use table::Row;
@@ -10,12 +9,13 @@ ghost use mathlib.Core.Path.{_≡_};
 ghost use Prim.Native.Nat.{_≤_, _<_};
 ghost use mathlib.Core.Bool.{true};
 ghost use lib.Dec.{ltb};
+ghost use lib.ListN.{take};
 ghost use Rattle.pd2.specs.Ready.{ready};
+ghost use Rattle.pd2.specs.Choice.{pd2Picks};
 ghost use Rattle.trace.specs.Record.{marked};
-ghost use Rattle.dispatcher.specs.Slot.{picksIn};
 ghost use Rattle.facts.specs.Counting.{howMany, those};
 ghost use Rattle.counts.specs.Limits.{most};
-ghost use Rattle.dispatcher.specs.Usable.{Usable, UsableRow};
+ghost use Rattle.dispatcher.specs.Usable.{numbersOf, Usable, UsableRow};
 ghost use Rattle.dispatcher.specs.Classes.{
   keyOf,
   keyIn,
@@ -49,33 +49,36 @@ struct Standing {
 }
 
 // The rows picked with k cores free, as marks.
-pub(crate) fn picks(state: State, k: u8) -> [bool; 32]
-    requires { ⌜ Usable state × (k ≤ 8) ⌝ }
-    ensures { λ r. ⌜ marked r ≡ picksIn state k ⌝ }
+pub(crate) fn picks(
+    rows: [Row; 32],
+    quanta: [Quanta; 32],
+    n: usize,
+    time: Slot,
+    k: u8,
+) -> [bool; 32]
+    requires { ⌜ Usable rows quanta n (time .0) × (k ≤ 8) ⌝ }
+    ensures { λ r. ⌜ marked r ≡ pd2Picks (take n rows) (numbersOf quanta) (time .0) k ⌝ }
 {
-    let keys = keys(state);
-    let n = state.table.count as usize;
+    let keys = keys(rows, quanta, n, time);
     let cut = cut_at(&keys, n, k);
     if cut.left == 0 {
         return whole_classes(&keys, n, cut.class);
     }
-    let groups = groups(state, &keys, cut.class);
+    let groups = groups(rows, quanta, n, time, &keys, cut.class);
     marks(&keys, &groups, n, cut)
 }
 
 // The key of each row.
-fn keys(state: State) -> [u64; 32]
-    requires { ⌜ Usable state ⌝ }
-    ensures { λ r. ⌜ KeysAre state r ⌝ }
+fn keys(rows: [Row; 32], quanta: [Quanta; 32], n: usize, time: Slot) -> [u64; 32]
+    requires { ⌜ Usable rows quanta n (time .0) ⌝ }
+    ensures { λ r. ⌜ KeysAre (take n rows) (numbersOf quanta) (time .0) r ⌝ }
 {
     let mut keys = [NOT_READY; 32];
-    let table = state.table;
-    let n = table.count as usize;
     let mut i: usize = 0;
     while i < n {
-        let row = table.rows[i];
-        let given = state.quanta[i];
-        keys[i] = key(row, given, state.time);
+        let row = rows[i];
+        let given = quanta[i];
+        keys[i] = key(row, given, time);
         i += 1;
     }
     keys
@@ -196,19 +199,24 @@ fn whole_classes(keys: &[u64; 32], n: usize, class: u64) -> [bool; 32]
 }
 
 // The group deadlines of the rows of the class, 0 for all others.
-fn groups(state: State, keys: &[u64; 32], class: u64) -> [u64; 32]
-    requires { ⌜ Usable state ⌝ }
-    ensures { λ r. ⌜ GroupsAre state (now (keys .entry)) class r ⌝ }
+fn groups(
+    rows: [Row; 32],
+    quanta: [Quanta; 32],
+    n: usize,
+    time: Slot,
+    keys: &[u64; 32],
+    class: u64,
+) -> [u64; 32]
+    requires { ⌜ Usable rows quanta n (time .0) ⌝ }
+    ensures { λ r. ⌜ GroupsAre (take n rows) (numbersOf quanta) (now (keys .entry)) class r ⌝ }
 {
     let mut groups = [0u64; 32];
-    let table = state.table;
-    let n = table.count as usize;
     let mut i: usize = 0;
     while i < n {
-        let row = table.rows[i];
-        let given = state.quanta[i];
+        let row = rows[i];
+        let given = quanta[i];
         let key = keys[i];
-        groups[i] = group(row, given, state.time, key, class);
+        groups[i] = group(row, given, time, key, class);
         i += 1;
     }
     groups

@@ -5,10 +5,12 @@ use counts::Slot;
 use table::Row;
 ghost use mathlib.Core.Path.{_≡_};
 ghost use Prim.Native.Nat.{_≤_};
+ghost use lib.ListN.{length, take};
+ghost use Rattle.facts.specs.Counting.{some};
 ghost use Rattle.counts.specs.Limits.{timeLimit};
 ghost use Rattle.pd2.specs.Share.{CanBe};
-ghost use Rattle.dispatcher.specs.Broken.{someRow, broken};
-ghost use Rattle.dispatcher.specs.Usable.{CanJudge, brokenRow};
+ghost use Rattle.dispatcher.specs.Broken.{broken};
+ghost use Rattle.dispatcher.specs.Usable.{numbersOf, ofRowAt, Testable, brokenRow};
 
 // Whether the state is broken. The state may be wild: only what passed is looked at further.
 pub(crate) fn is_broken(state: State) -> bool
@@ -20,21 +22,28 @@ pub(crate) fn is_broken(state: State) -> bool
     if counts::TIME_LIMIT < state.time.time() {
         return true;
     }
-    has_broken_row(state)
+    let n = state.table.count as usize;
+    let rows = state.table.rows;
+    let quanta = state.quanta;
+    has_broken_row(rows, quanta, n, state.time, state.stopped)
 }
 
 // Whether some row breaks the state.
-fn has_broken_row(state: State) -> bool
-    requires { ⌜ CanJudge state ⌝ }
-    ensures { λ r. ⌜ r ≡ someRow state (brokenRow (state .stopped) (state .time .0)) ⌝ }
+fn has_broken_row(
+    rows: [Row; 32],
+    quanta: [Quanta; 32],
+    n: usize,
+    time: Slot,
+    stopped: bool,
+) -> bool
+    requires { ⌜ Testable rows quanta n (time .0) ⌝ }
+    ensures { λ r. ⌜ r ≡ some (ofRowAt (take n rows) (numbersOf quanta) (brokenRow stopped (time .0))) (length (take n rows)) ⌝ }
 {
-    let table = state.table;
-    let n = table.count as usize;
     let mut i: usize = 0;
     while i < n {
-        let row = table.rows[i];
-        let given = state.quanta[i];
-        if is_broken_row(row, given, state.time, state.stopped) {
+        let row = rows[i];
+        let given = quanta[i];
+        if is_broken_row(row, given, time, stopped) {
             return true;
         }
         i += 1;

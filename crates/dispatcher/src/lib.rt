@@ -10,11 +10,11 @@ ghost use mathlib.Core.Path.{_≡_};
 ghost use Rattle.trace.specs.Record.{marked};
 ghost use Rattle.dispatcher.specs.State.{freshOf};
 ghost use Rattle.dispatcher.specs.Answer.{saidOf, doneSaid};
-ghost use Prim.Native.Nat.{_+_};
+ghost use Prim.Native.Nat.{_+_, _≤_};
 ghost use Rattle.trace.specs.Records.{names};
 ghost use Rattle.dispatcher.specs.State.{timeOf};
-ghost use Rattle.dispatcher.specs.Slot.{slotOf, ran, judged, lateIn};
-ghost use Rattle.dispatcher.specs.Usable.{Usable, CanRun};
+ghost use Rattle.dispatcher.specs.Slot.{picksIn, slotOf, ran, judged, lateIn};
+ghost use Rattle.dispatcher.specs.Usable.{UsableState, CanRun};
 
 pub struct State {
     pub table: Table,
@@ -78,12 +78,23 @@ impl State {
         if buffer.len() < place {
             return self.refused(Answer::NoRoom);
         }
-        let marks = choice::picks(self, k);
+        let marks = self.picks(k);
         let stored = trace::write(&mut buffer[place..], k, marks);
         let Stored::Written = stored else {
             return self.refused(Answer::NoRoom);
         };
         self.one_on(marks)
+    }
+
+    // The rows picked with k cores free, as marks.
+    fn picks(self, k: u8) -> [bool; 32]
+        requires { ⌜ UsableState self × (k ≤ 8) ⌝ }
+        ensures { λ r. ⌜ marked r ≡ picksIn self k ⌝ }
+    {
+        let n = self.table.count as usize;
+        let rows = self.table.rows;
+        let quanta = self.quanta;
+        choice::picks(rows, quanta, n, self.time, k)
     }
 
     // A refusal hands back the state as it came.
@@ -118,7 +129,7 @@ impl State {
 
     // Answer 1 and a stopped state if a row is late, else 0.
     fn judge(mut self) -> Outcome
-        requires { ⌜ Usable self ⌝ }
+        requires { ⌜ UsableState self ⌝ }
         ensures { λ r. ⌜ saidOf (r .answer) ≡ doneSaid (lateIn self (timeOf self)) (timeOf self) ⌝ }
         ensures { λ r. ⌜ r .state ≡ judged self ⌝ }
     {

@@ -1,3 +1,5 @@
+use Rattle.trace.specs.Record.{marked}
+use Rattle.trace.specs.Records.{names}
 use Rattle.dispatcher.proofs.Ran.{stays-usable}
 use borrow.Author.Needs.{needs}
 use Rattle.dispatcher.proofs.State.one_on.Statement.{statement}
@@ -7,7 +9,9 @@ run-requires : tie.Need-run-requires
 run-requires c κs = search needs
 
 judge-requires : tie.Need-judge-requires
-judge-requires c κs = rw (c .run .ensures) (stays-usable _ _ (c .before .pre .usable) (c .before .pre .early))
+judge-requires c κs =
+    let a = c .before in
+    rw (c .run .ensures) (stays-usable (a .args .self) (names (marked (a .args .marks))) (a .pre .usable) (a .pre .early))
 
 returns : tie.Need-returns
 returns c =

@@ -17,7 +17,7 @@ use Rattle.dispatcher.specs.State.{timeOf}
 use Rattle.dispatcher.specs.Broken.{broken}
 use Rattle.trace.specs.Record.{withRecord}
 use Rattle.dispatcher.specs.Slot.{recordIn, refusal, ran, judged, lateIn}
-use Rattle.dispatcher.specs.Usable.{Usable}
+use Rattle.dispatcher.specs.Usable.{UsableState}
 use Rattle.dispatcher.proofs.Ran.{marks-are-rows}
 use Rattle.dispatcher.proofs.Refused.{refused-gives, done-gives, first-30, first-31, first-32, first-33, past-end, no-room, has-room}
 use Rattle.dispatcher.proofs.Whole.{is-whole, is-usable}
@@ -42,12 +42,12 @@ at-limit c = omega (arith, c .if3 .taken, c .before .time .ensures, is-whole _ (
 early : (c : tie.Else3) → timeOf (c .before .before .before .before .before .before .args .self) < timeLimit
 early c = omega (arith, c .if3 .left, c .before .time .ensures)
 
-usable : (c : tie.Else3) → Usable (c .before .before .before .before .before .before .args .self)
+usable : (c : tie.Else3) → UsableState (c .before .before .before .before .before .before .args .self)
 usable c =
     let a = c .before .before .before .before .before .before in
     let w = is-whole _ (whole (c .before .before .before)) in
-    is-usable _ w
-    (in-place _ (w .table)
+    is-usable (a .args .self) w
+    (in-place (a .args .self) (w .table)
     (sym (length-map (a .args .self .table .rows) _) ∙ a .good .0 .1 .1 .0 .1 .1 .1 .1 .1 .1 .0 .1 .0 .1)
     (sym (length-map (a .args .self .quanta) _) ∙ a .good .0 .1 .1 .1 .1 .1 .0 .1 .0 .1))
 

@@ -5,7 +5,7 @@ use lib.ListN.{length-map}
 use Rattle.counts.specs.Limits.{timeLimit}
 use Rattle.table.specs.Value.{faultOf}
 use Rattle.dispatcher.specs.State.{timeOf}
-use Rattle.dispatcher.proofs.BrokenBy.{by-fault, by-time, in-place, by-rows}
+use Rattle.dispatcher.proofs.BrokenBy.{by-fault, by-time, in-place, testable, by-rows}
 use borrow.Author.Needs.{needs}
 use Rattle.dispatcher.proofs.judge.is_broken.Statement.{statement}
 use Rattle.dispatcher.proofs.judge.is_broken.Tie as tie
@@ -29,21 +29,34 @@ time-requires c κs = search needs
 returns-2 : tie.Need-returns-2
 returns-2 c = by-time _ (no-fault (c .before .before)) (omega (arith, c .if2 .taken, c .before .time .ensures))
 
+cast-n : tie.Need-cast-n
+cast-n c = search needs
+
 -- the arrays of a state have 32 places
 has-broken-row-requires : tie.Need-has-broken-row-requires
 has-broken-row-requires c κs =
-    let a = c .before .before .before .before in
-    record {
-      place =
-          in-place _ (no-fault (c .before .before))
-          (sym (length-map (a .args .state .table .rows) _) ∙ a .good .0 .1 .1 .0 .1 .1 .1 .1 .1 .1 .0 .1 .0 .1)
-          (sym (length-map (a .args .state .quanta) _) ∙ a .good .0 .1 .1 .1 .1 .1 .0 .1 .0 .1);
-      sound = no-fault (c .before .before);
-      time = in-time c;
-    }
+    let passed = c .before .before .before in
+    let a = passed .before .before .before .before in
+    let none = no-fault (passed .before .before) in
+    testable (a .args .state) none
+    (in-place (a .args .state) none
+    (sym (length-map (a .args .state .table .rows) _) ∙ a .good .0 .1 .1 .0 .1 .1 .1 .1 .1 .1 .0 .1 .0 .1)
+    (sym (length-map (a .args .state .quanta) _) ∙ a .good .0 .1 .1 .1 .1 .1 .0 .1 .0 .1))
+    (in-time passed)
 
 returns-3 : tie.Need-returns-3
-returns-3 c = c .has-broken-row .ensures ∙ by-rows _ (no-fault (c .before .before .before)) (in-time (c .before))
+returns-3 c =
+    let passed = c .before .before .before .before in
+    c .has-broken-row .ensures ∙ by-rows _ (no-fault (passed .before .before)) (in-time passed)
 
 pub is-broken-spec : {M : Type 1} → statement M
-is-broken-spec = tie.close (tie.spec fault-requires returns time-requires returns-2 has-broken-row-requires returns-3)
+is-broken-spec =
+    tie.close
+    (tie.spec
+    fault-requires
+    returns
+    time-requires
+    returns-2
+    cast-n
+    has-broken-row-requires
+    returns-3)
