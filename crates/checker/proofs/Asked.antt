@@ -2,7 +2,7 @@
 use Prim.Native.Nat.{ℕ, _<_}
 use mathlib.Core.Path.{_≡_, refl, sym, ap, _∙_}
 use mathlib.Core.List.{List}
-use mathlib.Core.Bool.{Bool, true, false}
+use mathlib.Core.Bool.{Bool, true}
 use native.Mathlib.Omega.{arith}
 use borrow.Author.Tests.{lt-ltb, le-leb}
 use lib.ListN.{length, getD, length-take}
@@ -17,12 +17,8 @@ use Rattle.pd2.specs.declared.Verdict.{Verdict}
 use Rattle.pd2.specs.Ready.{ready}
 use Rattle.pd2.specs.Verdict.{isYes, answered, verdict}
 use Rattle.pd2.specs.Choice.{rowAt}
+use Rattle.pd2.proofs.Verdicts.{yes-when-answered}
 use Rattle.checker.specs.Walking.{givenTo, Askable}
-
--- An answered question is answered yes exactly if it holds.
-pub yes-when-answered : (holds : Bool) {a : Bool} → a ≡ true → isYes (verdict a holds) ≡ holds
-yes-when-answered true e = rw e refl
-yes-when-answered false e = rw e refl
 
 -- The rows of a table stand in its array.
 pub row-there : (table : Table) (i : ℕ) (d : Row) → i < length (rowsOf table) → getD (table .rows) i d ≡ rowAt (rowsOf table) i

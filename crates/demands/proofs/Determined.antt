@@ -1,5 +1,6 @@
 -- Any two results that a promise allows are equal: by the law that stands beside each. Assumes nothing.
 use Prim.Native.Nat.{min}
+use lib.ListN.{take}
 use mathlib.Core.Path.{sym, ap₂, _∙_}
 use Rattle.facts.proofs.Determined.{by-value}
 use Rattle.counts.proofs.Determined.{slot-is-determined, quanta-is-determined, subtask-is-determined}
@@ -8,6 +9,9 @@ use Rattle.windows.proofs.Next.{next-due-is-determined}
 use Rattle.pd2.specs.Ready.{origin}
 use Rattle.pd2.proofs.Rows.{give-is-determined, lowest-late-is-determined}
 use Rattle.trace.proofs.Determined.{write-is-determined, record-is-determined-but-for-its-name}
+use Rattle.choice.specs.Arrays.{numbersOf}
+use Rattle.choice.specs.Choice.{chosen}
+use Rattle.choice.proofs.Chosen.{picks-are-determined}
 use Rattle.dispatcher.proofs.Determined as dispatcher
 use Rattle.checker.proofs.Determined.{check-is-determined}
 use Rattle.printer.proofs.Buffer.{print-is-determined}
@@ -48,6 +52,7 @@ every-promise-determines =
       pd2-lowest-late = λ rows quanta n time. lowest-late-is-determined rows quanta (min n 32) (time .0);
       trace-write = λ part free marks. write-is-determined part free marks;
       trace-record-but-for-its-name = λ trace at slot name. record-is-determined-but-for-its-name (record { ptr = at; name = 0; now = trace }) (slot .0) name;
+      choice-picks = λ rows quanta n time k. picks-are-determined (chosen (take n rows) (numbersOf quanta) (time .0) (min k 8));
       dispatcher-State-fresh = λ table. dispatcher.fresh-is-determined table;
       dispatcher-State-slot = λ self k buffer place a b p q. dispatcher.slot-is-determined self k buffer place a b (p .0, (p .1, p .2)) (q .0, (q .1, q .2));
       checker-check = λ table trace. check-is-determined table trace;

@@ -4,7 +4,7 @@ use Prim.Native.Nat.{ℕ, _+_, _-_, _≤_, min}
 use mathlib.Core.Path.{_≡_}
 use mathlib.Core.List.{List}
 use mathlib.Core.Bool.{Bool}
-use lib.ListN.{length}
+use lib.ListN.{length, take}
 use denote.Ref.{RefT, now}
 use Rattle.facts.specs.First.{Lowest}
 use Rattle.counts.specs.declared.Slot.{Slot}
@@ -32,6 +32,8 @@ use Rattle.pd2.specs.Rows.{GaveMarked, isLate}
 use Rattle.trace.specs.declared.Stored.{Stored}
 use Rattle.trace.specs.Record.{recordOf, marked, hasRoom, storedWhere, partAfter}
 use Rattle.trace.specs.Found.{partFound, partBegins}
+use Rattle.choice.specs.Arrays.{numbersOf}
+use Rattle.choice.specs.Choice.{chosen}
 use Rattle.dispatcher.specs.declared.State.{State}
 use Rattle.dispatcher.specs.declared.Outcome.{Outcome}
 use Rattle.dispatcher.specs.State.{timeOf, freshOf}
@@ -173,6 +175,10 @@ trace·write part free marks r part-after = (r ≡ storedWhere (hasRoom part (re
 -- trace::record; `trace-ptr` is where the lent trace lies: a block of memory, and a place in it
 abbrev pub trace·record : List ℕ → ℕ × ℕ → Slot → RefT (List ℕ) → Type 0
 trace·record trace trace-ptr slot r = (now r ≡ partFound trace (slot .0)) × ((r .ptr .0 ≡ trace-ptr .0) × (r .ptr .1 ≡ trace-ptr .1 + partBegins trace (slot .0)))
+
+-- choice::picks
+abbrev pub choice·picks : List Row → List Quanta → ℕ → Slot → ℕ → List Bool → Type 0
+choice·picks rows quanta n time k r = (length r ≡ 32) × (marked r ≡ chosen (take n rows) (numbersOf quanta) (time .0) (min k 8))
 
 -- dispatcher::State::fresh
 abbrev pub dispatcher·State·fresh : Table → State → Type 0

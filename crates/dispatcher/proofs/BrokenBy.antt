@@ -15,7 +15,8 @@ use Rattle.pd2.proofs.Share.{row-can-be}
 use Rattle.dispatcher.specs.declared.State.{State}
 use Rattle.dispatcher.specs.State.{rowsIn, timeOf}
 use Rattle.dispatcher.specs.Broken.{ofRow, someRow, exceeds, outsideShare, broken}
-use Rattle.dispatcher.specs.Usable.{InPlace, Testable, brokenRow}
+use Rattle.choice.specs.Arrays.{InPlace}
+use Rattle.dispatcher.specs.Usable.{Testable, brokenRow}
 
 module _ (s : State) where
   -- A fault of the table,

@@ -1,12 +1,7 @@
-pub mod Keys
-pub mod Classes
-pub mod Cuts
 pub mod Asked
 pub mod BrokenBy
 pub mod Ran
 pub mod Refused
-pub mod Marks
-pub mod Picked
 pub mod Whole
 pub mod Kept
 pub mod Places

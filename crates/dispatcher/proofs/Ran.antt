@@ -5,8 +5,9 @@ use mathlib.Core.List.{List, [], _∷_, map}
 use mathlib.Core.Bool.{Bool, true, false, cond, _&&_, false≢true}
 use native.Mathlib.Decide.{decLt}
 use native.Mathlib.Omega.{arith}
-use borrow.Author.Tests.{lt-ltb, ltb-true}
+use borrow.Author.Tests.{lt-ltb, le-ltb, ltb-true}
 use Rattle.facts.proofs.Tests.{both, hold-both}
+use lib.Dec.{ltb}
 use lib.ListN.{length, getD, length-map, List·getD-map, List·getD-eq-default}
 use lib.Seq.{ext-getD}
 use Rattle.facts.specs.First.{Lowest}
@@ -22,7 +23,7 @@ use Rattle.trace.proofs.Records.{listed-are-named}
 use Rattle.dispatcher.specs.declared.State.{State}
 use Rattle.dispatcher.specs.State.{rowsIn, quantaIn, timeOf, counted}
 use Rattle.dispatcher.specs.Broken.{ofRow, someRow}
-use Rattle.trace.specs.Said.{bare}
+use Rattle.trace.specs.Said.{bare, named}
 use Rattle.dispatcher.specs.Answer.{doneSaid}
 use Rattle.dispatcher.specs.Slot.{picksIn, lateAt, lateIn, ran}
 use Rattle.table.specs.Causes.{zeroRow}
@@ -124,16 +125,16 @@ lowest-of-state s u {i} low =
     (λ j l. answered-there u l zeroRow (record { 0 = 0 }) (lateAt (timeOf s)) refl refl)
     (subst (λ n. Lowest (isLate (s .table .rows) (s .quanta) (timeOf s)) n i) bound low)
 
--- The lowest late row is named, and the state is stopped;
-pub late-is-said : (s : State) (i : ℕ) → Lowest (ofRow s (lateAt (timeOf s))) (length (rowsIn s)) i → i < length (rowsIn s) →
-    (record { number = 1; row = i; time = timeOf s } ≡ doneSaid (lateIn s (timeOf s)) (timeOf s)) × (true ≡ someRow s (lateAt (timeOf s)))
-late-is-said s i low l =
-    let first = lowest-is-first _ _ i low l in
-    (sym (ap (λ rows. doneSaid rows (timeOf s)) (first .1)), sym (some-if _ _ i l (low .passes l)))
-
--- where none is late the slot is done, and the state runs on.
-pub none-is-late : (s : State) (i : ℕ) → Lowest (ofRow s (lateAt (timeOf s))) (length (rowsIn s)) i → length (rowsIn s) ≤ i →
-    (bare 0 ≡ doneSaid (lateIn s (timeOf s)) (timeOf s)) × (false ≡ someRow s (lateAt (timeOf s)))
-none-is-late s i low h =
-    let none : (j : ℕ) → j < length (rowsIn s) → ofRow s (lateAt (timeOf s)) j ≡ false = λ j l. low .none-before j (omega arith) in
-    (sym (ap (λ rows. doneSaid rows (timeOf s)) (none-is-listed _ _ none)), sym (none-if _ _ none))
+-- The lowest late row is named, and the state is stopped; where none is late the slot is done, and the state runs on.
+pub by-lowest : (s : State) {i : ℕ} → Lowest (ofRow s (lateAt (timeOf s))) (length (rowsIn s)) i → {n : ℕ} → n ≡ length (rowsIn s) →
+    (cond (ltb i n) (named 1 i (timeOf s)) (bare 0) ≡ doneSaid (lateIn s (timeOf s)) (timeOf s)) × (ltb i n ≡ someRow s (lateAt (timeOf s)))
+by-lowest s {i} low {n} all = go (decLt i n)
+  where
+    go : Dec (i < n) → (cond (ltb i n) (named 1 i (timeOf s)) (bare 0) ≡ doneSaid (lateIn s (timeOf s)) (timeOf s)) × (ltb i n ≡ someRow s (lateAt (timeOf s)))
+    go (yes l) =
+        let there : i < length (rowsIn s) = omega arith in
+        let first = lowest-is-first _ _ i low there in
+        rw (lt-ltb i n l) (sym (ap (λ rows. doneSaid rows (timeOf s)) (first .1)), sym (some-if _ _ i there (low .passes there)))
+    go (no l) =
+        let none : (j : ℕ) → j < length (rowsIn s) → ofRow s (lateAt (timeOf s)) j ≡ false = λ j m. low .none-before j (omega arith) in
+        rw (le-ltb i n (omega arith)) (sym (ap (λ rows. doneSaid rows (timeOf s)) (none-is-listed _ _ none)), sym (none-if _ _ none))

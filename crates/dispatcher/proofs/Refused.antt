@@ -1,5 +1,5 @@
 -- A slot's tests, one after the other: what each refusal gives back, and what a slot that is done gives. Assumes nothing.
-use Prim.Native.Nat.{ℕ, suc, _+_, _-_, _≤_, _<_}
+use Prim.Native.Nat.{ℕ, zero, suc, _+_, _-_, _≤_, _<_}
 use mathlib.Core.Path.{_≡_, refl, sym, ap, _∙_}
 use mathlib.Core.List.{List, _++_}
 use mathlib.Core.Bool.{Bool, true, false, cond, true≢false}
@@ -16,12 +16,14 @@ use Rattle.trace.specs.declared.Stored.the-variants.{Written, NoRoom}
 use Rattle.trace.specs.Record.{recordOf, hasRoom, withFront, withRecord, storedWhere, partAfter}
 use Rattle.dispatcher.specs.declared.State.{State}
 use Rattle.dispatcher.specs.declared.Answer.{Answer}
+use Rattle.dispatcher.specs.declared.Answer.the-variants.{Done}
 use Rattle.dispatcher.specs.declared.Outcome.{Outcome}
 use Rattle.dispatcher.specs.State.{timeOf}
 use Rattle.dispatcher.specs.Broken.{broken}
 use Rattle.trace.specs.Said.{bare}
 use Rattle.dispatcher.specs.Answer.{saidOf, doneSaid}
 use Rattle.dispatcher.specs.Slot.{picksIn, recordIn, lateIn, lacksRoom, oneOn, stepped, refusal, slotOf}
+use Rattle.dispatcher.specs.Usable.{Admitted, CauseIs}
 
 -- which of its two answers the writer gave
 abbrev isWritten : Stored → Bool
@@ -36,10 +38,14 @@ module _ (s : State) (k : ℕ) (buffer : List ℕ) (place : ℕ) where
       × ((r .state ≡ slotOf s k buffer place .state) × (bytes ≡ slotOf s k buffer place .bytes))
 
   -- A refusal gives its number, the state and the buffer as they came.
-  pub refused-gives : {number : ℕ} → refusal s k buffer place ≡ suc number → (a : Answer) → saidOf a ≡ bare (suc number) →
+  pub refused-gives : (a : Answer) → (saidOf a .number ≡ 0 → ⊥) → saidOf a ≡ bare (refusal s k buffer place) →
       {r : Outcome} → (r .answer ≡ a) × (r .state ≡ s) → {bytes : List ℕ} → bytes ≡ buffer → Gives r bytes
   unfolding slotOf
-  refused-gives e a said out bytes = rw e (ap saidOf (out .0) ∙ said, (out .1, bytes))
+  refused-gives a refuses said {r} out {bytes} same = go (refusal s k buffer place) refl
+    where
+      go : (number : ℕ) → refusal s k buffer place ≡ number → Gives r bytes
+      go zero e = absurd (refuses (ap (λ x. x .number) said ∙ e))
+      go (suc number) e = rw e (ap saidOf (out .0) ∙ (said ∙ ap bare e), (out .1, same))
 
   -- A slot that is not refused gives what the definition says.
   pub done-gives : refusal s k buffer place ≡ 0 → (r : Outcome) → saidOf (r .answer) ≡ doneSaid (lateIn (oneOn s k) (timeOf s + 1)) (timeOf s + 1) →
@@ -128,3 +134,18 @@ module _ (s : State) (k : ℕ) (buffer : List ℕ) (place : ℕ) where
                   go : room true ⊎ room false → (refusal s k buffer place ≡ 0) × (take place buffer ++ part ≡ take place buffer ++ withFront (drop place buffer) (recordIn s k))
                   go (inl has) = (has .1, rw (left, has .2, same) refl)
                   go (inr none) = absurd (true≢false (sym (ap isWritten e) ∙ ap isWritten (none .0)))
+
+-- The tests before the choice look at the buffer's length alone.
+module _ (s : State) (k len place : ℕ) where
+  -- One of them is met,
+  pub cause-is : (a : Answer) {number : ℕ} → saidOf a ≡ bare (suc number) →
+      ((buffer : List ℕ) → length buffer ≡ len → refusal s k buffer place ≡ suc number) → CauseIs s k len place a
+  cause-is a said met =
+      record {
+        refuses = λ _ buffer long. said ∙ ap bare (sym (met buffer long));
+        admits = λ none. absurd (omega (arith, ap (λ x. x .number) said));
+      }
+
+  -- or none is.
+  pub no-cause : Admitted s k len place → CauseIs s k len place Done
+  no-cause admitted = record { refuses = λ some. absurd (some refl); admits = λ _. admitted }

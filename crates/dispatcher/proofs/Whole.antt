@@ -20,7 +20,8 @@ use Rattle.pd2.specs.Choice.{quantaAt}
 use Rattle.dispatcher.specs.declared.State.{State}
 use Rattle.dispatcher.specs.State.{rowsIn, quantaIn, timeOf, freshOf}
 use Rattle.dispatcher.specs.Broken.{ofRow, someRow, exceeds, outsideShare, broken}
-use Rattle.dispatcher.specs.Usable.{InPlace, UsableState}
+use Rattle.choice.specs.Arrays.{InPlace}
+use Rattle.dispatcher.specs.Usable.{UsableState}
 
 -- for callers
 

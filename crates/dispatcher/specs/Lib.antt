@@ -7,4 +7,3 @@ pub mod Places
 pub mod Run
 pub mod RunKept
 pub mod Usable
-pub mod Classes

@@ -2,18 +2,23 @@
 -- handed the arrays alone: n rows, their quanta and a time.
 use Prim.Native.Nat.{ℕ, _≤_, _<_}
 use mathlib.Core.Path.{_≡_}
-use mathlib.Core.List.{List, map}
+use mathlib.Core.List.{List}
 use mathlib.Core.Bool.{Bool, true, false, not, _&&_, _||_}
 use lib.Dec.{ltb}
 use lib.ListN.{length, getD, take}
 use Rattle.counts.specs.declared.Quanta.{Quanta}
 use Rattle.counts.specs.Limits.{timeLimit}
 use Rattle.table.specs.declared.Row.{Row}
-use Rattle.table.specs.Limits.{rowLimit}
 use Rattle.pd2.specs.Share.{CanBe, within}
 use Rattle.pd2.specs.Choice.{rowAt, quantaAt}
+use Rattle.choice.specs.Arrays.{numbersOf, InPlace}
 use Rattle.dispatcher.specs.declared.State.{State}
+use Rattle.dispatcher.specs.declared.Answer.{Answer}
 use Rattle.dispatcher.specs.State.{rowsIn, timeOf}
+use Rattle.dispatcher.specs.Broken.{broken}
+use Rattle.trace.specs.Said.{bare}
+use Rattle.dispatcher.specs.Answer.{saidOf}
+use Rattle.dispatcher.specs.Slot.{refusal}
 
 -- A row that can be, with quanta and a time within their limits.
 pub record UsableRow (row : Row) (q t : ℕ) : Type 0 where
@@ -22,19 +27,9 @@ pub record UsableRow (row : Row) (q t : ℕ) : Type 0 where
   pub quanta : q ≤ t
   pub time : t ≤ timeLimit
 
--- the numbers that counts of quanta hold
-abbrev pub numbersOf : List Quanta → List ℕ
-numbersOf = map (λ q. q .0)
-
 -- A question about a row and its quanta, put to row i.
 abbrev pub ofRowAt : List Row → List ℕ → (Row → ℕ → Bool) → ℕ → Bool
 ofRowAt rows quanta is i = is (rowAt rows i) (quantaAt quanta i)
-
--- Rows and quanta that stand in their arrays.
-pub record InPlace (rows : List Row) (quanta : List Quanta) (n : ℕ) : Type 0 where
-  pub few : n ≤ rowLimit
-  pub all : length (take n rows) ≡ n
-  pub long : length quanta ≡ rowLimit
 
 -- Rows that can be asked whether they break a state: each can be, and the time is within the limit.
 pub record Testable (rows : List Row) (quanta : List Quanta) (n t : ℕ) : Type 0 where
@@ -60,3 +55,16 @@ pub record CanRun (s : State) (marks : List Bool) : Type 0 where
   pub usable : UsableState s
   pub only-rows : (i : ℕ) → getD marks i false ≡ true → i < length (rowsIn s)
   pub early : timeOf s < timeLimit
+
+-- A slot that no test before the choice refuses, with so many bytes in the buffer.
+pub record Admitted (s : State) (k len place : ℕ) : Type 0 where
+  pub whole : broken s ≡ false
+  pub runs : s .stopped ≡ false
+  pub early : timeOf s < timeLimit
+  pub enough : k ≤ s .table .cores
+  pub inside : place ≤ len
+
+-- The answer of the first test before the choice that refuses, 0 where none does.
+pub record CauseIs (s : State) (k len place : ℕ) (answer : Answer) : Type 0 where
+  pub refuses : (saidOf answer .number ≡ 0 → ⊥) → (buffer : List ℕ) → length buffer ≡ len → saidOf answer ≡ bare (refusal s k buffer place)
+  pub admits : saidOf answer .number ≡ 0 → Admitted s k len place

@@ -1,5 +1,4 @@
 // The dispatcher: who runs in a slot. The state goes in and comes back whole.
-mod choice;
 mod judge;
 
 use counts::Quanta;
@@ -7,14 +6,19 @@ use counts::Slot;
 use table::Table;
 use trace::Stored;
 ghost use mathlib.Core.Path.{_≡_};
-ghost use Rattle.trace.specs.Record.{marked};
-ghost use Rattle.dispatcher.specs.State.{freshOf};
-ghost use Rattle.dispatcher.specs.Answer.{saidOf, doneSaid};
+ghost use mathlib.Core.Bool.{cond};
 ghost use Prim.Native.Nat.{_+_, _≤_};
+ghost use lib.Dec.{ltb};
+ghost use lib.ListN.{length};
+ghost use Rattle.facts.specs.First.{Lowest};
+ghost use Rattle.trace.specs.Record.{marked};
 ghost use Rattle.trace.specs.Records.{names};
-ghost use Rattle.dispatcher.specs.State.{timeOf};
-ghost use Rattle.dispatcher.specs.Slot.{picksIn, slotOf, ran, judged, lateIn};
-ghost use Rattle.dispatcher.specs.Usable.{UsableState, CanRun};
+ghost use Rattle.trace.specs.Said.{bare, named};
+ghost use Rattle.dispatcher.specs.State.{rowsIn, timeOf, freshOf};
+ghost use Rattle.dispatcher.specs.Broken.{ofRow};
+ghost use Rattle.dispatcher.specs.Answer.{saidOf, doneSaid};
+ghost use Rattle.dispatcher.specs.Slot.{picksIn, lateAt, lateIn, ran, judged, slotOf};
+ghost use Rattle.dispatcher.specs.Usable.{UsableState, CanRun, CauseIs};
 
 pub struct State {
     pub table: Table,
@@ -62,28 +66,38 @@ impl State {
         ensures { λ r. ⌜ r .state ≡ slotOf self k (now (buffer .entry)) place .state ⌝ }
         ensures { λ _. ⌜ now (buffer .exit) ≡ slotOf self k (now (buffer .entry)) place .bytes ⌝ }
     {
-        if judge::is_broken(self) {
-            return self.refused(Answer::Broken);
-        }
-        if self.stopped {
-            return self.refused(Answer::Stopped);
-        }
-        if counts::TIME_LIMIT <= self.time.time() {
-            return self.refused(Answer::AtLimit);
-        }
-        let table = self.table;
-        if table.cores < k {
-            return self.refused(Answer::TooManyCores);
-        }
-        if buffer.len() < place {
-            return self.refused(Answer::NoRoom);
-        }
+        let cause = self.cause(k, buffer.len(), place);
+        let Answer::Done = cause else {
+            return self.refused(cause);
+        };
         let marks = self.picks(k);
         let stored = trace::write(&mut buffer[place..], k, marks);
         let Stored::Written = stored else {
             return self.refused(Answer::NoRoom);
         };
         self.one_on(marks)
+    }
+
+    // The refusal that is met before rows are picked, for a buffer of so many bytes; Done where none is.
+    fn cause(self, k: u8, len: usize, place: usize) -> Answer
+        ensures { λ r. ⌜ CauseIs self k len place r ⌝ }
+    {
+        if judge::is_broken(self) {
+            return Answer::Broken;
+        }
+        if self.stopped {
+            return Answer::Stopped;
+        }
+        if counts::TIME_LIMIT <= self.time.time() {
+            return Answer::AtLimit;
+        }
+        if self.table.cores < k {
+            return Answer::TooManyCores;
+        }
+        if len < place {
+            return Answer::NoRoom;
+        }
+        Answer::Done
     }
 
     // The rows picked with k cores free, as marks.
@@ -133,27 +147,36 @@ impl State {
         ensures { λ r. ⌜ saidOf (r .answer) ≡ doneSaid (lateIn self (timeOf self)) (timeOf self) ⌝ }
         ensures { λ r. ⌜ r .state ≡ judged self ⌝ }
     {
-        let table = self.table;
-        let n = table.count as usize;
-        let rows = table.rows;
-        let quanta = self.quanta;
-        let late = pd2::lowest_late(rows, quanta, n, self.time);
-        if late < n {
-            self.stopped = true;
-            let time = self.time;
-            let answer = Answer::Late {
-                row: late as u8,
-                time,
-            };
-            return Outcome {
-                answer,
-                state: self,
-            };
-        }
-        self.stopped = false;
+        let late = self.lowest_late();
+        let n = self.table.count as usize;
+        self.stopped = late < n;
+        let answer = done(late, n, self.time);
         Outcome {
-            answer: Answer::Done,
+            answer,
             state: self,
         }
     }
+
+    // The lowest row that is late, or the number of rows where none is.
+    fn lowest_late(self) -> usize
+        requires { ⌜ UsableState self ⌝ }
+        ensures { λ r. ⌜ Lowest (ofRow self (lateAt (timeOf self))) (length (rowsIn self)) r ⌝ }
+    {
+        let n = self.table.count as usize;
+        let rows = self.table.rows;
+        let quanta = self.quanta;
+        pd2::lowest_late(rows, quanta, n, self.time)
+    }
+}
+
+// What a slot that is done answers: the lowest late row is named.
+fn done(late: usize, n: usize, time: Slot) -> Answer
+    requires { ⌜ n ≤ 32 ⌝ }
+    ensures { λ r. ⌜ saidOf r ≡ cond (ltb late n) (named 1 late (time .0)) (bare 0) ⌝ }
+{
+    if late < n {
+        let row = late as u8;
+        return Answer::Late { row, time };
+    }
+    Answer::Done
 }

@@ -1,0 +1,118 @@
+-- What the lower crates answer about a row, and what the functions here make of it. Assumes nothing.
+use Prim.Native.Nat.{ℕ, _+_, _-_, _*_, _%_, _<_}
+use mathlib.Core.Path.{_≡_, refl, _∙_}
+use mathlib.Core.List.{List}
+use mathlib.Core.Bool.{Bool, true, false, false≢true}
+use native.Mathlib.Nat.{mul-le-mul}
+use native.Mathlib.Omega.{arith}
+use borrow.Author.Tests.{eq-eqb, ne-eqb}
+use Rattle.counts.specs.Limits.{most}
+use Rattle.windows.specs.declared.Due.{Due}
+use Rattle.windows.specs.declared.Due.the-variants as due
+use Rattle.windows.specs.declared.Due.the-variants.{By}
+use Rattle.windows.specs.declared.Moment.{Moment}
+use Rattle.windows.specs.declared.Moment.the-variants as moment
+use Rattle.windows.specs.declared.Moment.the-variants.{At}
+use Rattle.windows.specs.Next.{InReach, nextDue, next}
+use Rattle.windows.specs.Group.{groupDeadline}
+use Rattle.windows.proofs.Next.{due-in-reach, next-in-reach}
+use Rattle.windows.specs.Windows.{deadline, bit}
+use Rattle.windows.proofs.Windows.{deadline-is-near}
+use Rattle.table.specs.declared.Row.{Row}
+use Rattle.pd2.specs.Ready.{origin, ready}
+use Rattle.pd2.specs.Verdict.{answered}
+use Rattle.pd2.specs.Choice.{rowAt, quantaAt}
+use Rattle.pd2.proofs.Verdicts.{in-reach, yes-is-answered}
+use Rattle.choice.specs.Choice.{saysReady}
+use Rattle.choice.specs.Classes.{keyOf, keyIn, KeysAre, groupOf, Told, ClassTold}
+
+-- What an answer holds.
+abbrev pub dueTime : Due → ℕ
+dueTime (By deadline bit) = deadline .0
+dueTime due.Unanswered = 0
+
+abbrev pub dueBit : Due → ℕ
+dueBit (By deadline bit) = bit
+dueBit due.Unanswered = 0
+
+abbrev pub isDue : Due → Bool
+isDue (By deadline bit) = true
+isDue due.Unanswered = false
+
+abbrev pub momentTime : Moment → ℕ
+momentTime (At time) = time .0
+momentTime moment.Unanswered = 0
+
+abbrev pub isMoment : Moment → Bool
+isMoment (At time) = true
+isMoment moment.Unanswered = false
+
+-- The windows of a row that is answered to be ready are told,
+pub told-if-ready : (row : Row) (q t : ℕ) → saysReady row q t ≡ true → Told row q
+told-if-ready row q t h =
+    let numbers = in-reach row q t (yes-is-answered (answered row q t) (ready row q t) h) in
+    record { cost = numbers .0; weight = numbers .1; quanta = numbers .2 }
+
+-- and so are those of a row with a key below the largest number.
+pub class-is-told : {rows : List Row} {quanta : List ℕ} {t : ℕ} {keys : List ℕ} → KeysAre rows quanta t keys → {class : ℕ} → class < most →
+    ClassTold rows quanta keys class
+unfolding keyOf
+class-is-told {rows} {quanta} {t} {keys} keyed {class} low i l same = go (saysReady (rowAt rows i) (quantaAt quanta i) t) refl
+  where
+    go : (b : Bool) → saysReady (rowAt rows i) (quantaAt quanta i) t ≡ b → Told (rowAt rows i) (quantaAt quanta i)
+    go true e = told-if-ready (rowAt rows i) (quantaAt quanta i) t e
+    go false e =
+        let largest : keyIn keys i ≡ most = keyed .each i l ∙ rw e refl in
+        absurd (omega arith)
+
+-- The key of a row that is not ready.
+pub unready-key : (row : Row) (q t : ℕ) → saysReady row q t ≡ false → (most ≡ keyOf row q t) × (saysReady row q t ≡ true → most < most)
+unfolding keyOf
+unready-key row q t h = rw h (refl, λ e. absurd (false≢true e))
+
+module _ (row : Row) (q : ℕ) (u : Told row q) where
+  -- Its windows are within reach, since a phase is.
+  pub row-in-reach : row .phase < 65_536 → InReach (row .cost) (row .period) (origin row) q
+  row-in-reach small = record { cost = u .cost; weight = u .weight; origin = omega arith; quanta = u .quanta }
+
+  -- When its next quantum is due is answered,
+  pub due-is-said : row .phase < 65_536 → {o : ℕ} → o ≡ origin row → {r : Due} → r ≡ nextDue (row .cost) (row .period) o q →
+      r ≡ By (record { 0 = deadline (row .cost) (row .period) (origin row) (q + 1) }) (bit (row .cost) (row .period) (q + 1))
+  due-is-said small same e = rw (e, same) (due-in-reach (row-in-reach small))
+
+  -- and its group deadline.
+  pub group-is-said : row .phase < 65_536 → {o : ℕ} → o ≡ origin row → {r : Moment} → r ≡ next groupDeadline (row .cost) (row .period) o q →
+      r ≡ At (record { 0 = groupDeadline (row .cost) (row .period) (origin row) (q + 1) })
+  group-is-said small same e = rw (e, same) (next-in-reach groupDeadline (row-in-reach small))
+
+  -- Its deadline is far from the largest number.
+  pub deadline-is-small : row .phase < 65_536 → row .period < 65_536 → deadline (row .cost) (row .period) (origin row) (q + 1) < 5_000_000_000_000_000_000
+  deadline-is-small phase period =
+      let near = deadline-is-near (row .cost) (row .period) (origin row) (q + 1) (u .cost) in
+      let product = mul-le-mul {n₁ = q + 1} {m₁ = row .period} {n₂ = 70_368_744_177_665} {m₂ = 65_535} (omega (arith, u .quanta)) (omega arith) in
+      omega arith
+
+  -- The key of a row that is ready.
+  pub ready-key : row .phase < 65_536 → row .period < 65_536 → (t : ℕ) → saysReady row q t ≡ true → {d b : ℕ} →
+      d ≡ deadline (row .cost) (row .period) (origin row) (q + 1) → b ≡ bit (row .cost) (row .period) (q + 1) →
+      (2 * d + (1 - b) ≡ keyOf row q t) × (saysReady row q t ≡ true → 2 * d + (1 - b) < most)
+  unfolding keyOf
+  ready-key phase period t h pd pb =
+      let small = deadline-is-small phase period in
+      rw (h, pd, pb) (refl, λ e. omega arith)
+
+  -- The group deadline that is asked for,
+  pub group-asked : (key class : ℕ) → key ≡ class → (class % 2 ≡ 1 → ⊥) → {D : ℕ} → D ≡ groupDeadline (row .cost) (row .period) (origin row) (q + 1) →
+      D ≡ groupOf row q key class
+  unfolding groupOf
+  group-asked key class same even e = rw (eq-eqb key class same, ne-eqb (class % 2) 1 even) e
+
+-- and none where the row is not in the class,
+pub no-group-outside : (row : Row) (q key class : ℕ) → (key ≡ class → ⊥) → 0 ≡ groupOf row q key class
+unfolding groupOf
+no-group-outside row q key class other = rw (ne-eqb key class other) refl
+
+-- or the class has b = 0.
+pub no-group-at-bit-0 : (row : Row) (q key class : ℕ) → key ≡ class → class % 2 ≡ 1 → 0 ≡ groupOf row q key class
+unfolding groupOf
+no-group-at-bit-0 row q key class same odd = rw (eq-eqb key class same, eq-eqb (class % 2) 1 odd) refl

@@ -1,0 +1,87 @@
+use Prim.Native.Nat.{_-_, _<_}
+use native.Mathlib.Omega.{arith}
+use borrow.Author.Needs.{needs}
+use lib.ListN.{length, take}
+use Rattle.choice.specs.Arrays.{numbersOf}
+use Rattle.choice.proofs.Filled.{Grouped, told-there, one-more-grouped, all-grouped}
+use Rattle.facts.proofs.Filling.{filling-begins}
+use Rattle.choice.proofs.groups.Statement.{statement}
+use Rattle.choice.proofs.groups.Tie as tie
+
+abbrev Inv-loop : tie.InvT-loop
+Inv-loop n keys class rows quanta groups₀ i₀ groups i = Grouped (take n rows) (numbersOf quanta) keys class groups i
+
+abbrev μ-loop : tie.MeasureT-loop
+μ-loop n keys class rows quanta groups₀ i₀ groups i = n - i
+
+loop-holds : tie.Need-loop-holds Inv-loop μ-loop
+loop-holds c = filling-begins _ _ _ _
+
+mul-row : tie.Need-mul-row Inv-loop μ-loop
+mul-row c = search needs
+
+array-copy-out-row : tie.Need-array-copy-out-row Inv-loop μ-loop
+array-copy-out-row c = search needs
+
+mul-given : tie.Need-mul-given Inv-loop μ-loop
+mul-given c = search needs
+
+array-copy-out-given : tie.Need-array-copy-out-given Inv-loop μ-loop
+array-copy-out-given c = search needs
+
+mul-key : tie.Need-mul-key Inv-loop μ-loop
+mul-key c = search needs
+
+element-copy-out-key : tie.Need-element-copy-out-key Inv-loop μ-loop
+element-copy-out-key c = search needs
+
+-- the row in question is one of the first n
+row-is : (c : tie.In-loop Inv-loop μ-loop) → let a = c .before .before in c .before .loop .i < length (take (a .args .n) (a .args .t1))
+row-is c = omega (arith, c .loop-test .taken, c .before .before .pre .0 .all)
+
+group-requires : tie.Need-group-requires Inv-loop μ-loop
+group-requires c κs = let start = c .before .before .before .before .before in told-there (start .pre .0) _ _ (row-is (c .before .before .before)) (start .pre .1 _ (row-is (c .before .before .before)))
+
+mul-groups : tie.Need-mul-groups Inv-loop μ-loop
+mul-groups c = search needs
+
+array-write-groups : tie.Need-array-write-groups Inv-loop μ-loop
+array-write-groups c = search needs
+
+add-i : tie.Need-add-i Inv-loop μ-loop
+add-i c = search needs
+
+loop-less : tie.Need-loop-less Inv-loop μ-loop
+loop-less c = search needs
+
+loop-again : tie.Need-loop-again Inv-loop μ-loop
+loop-again c =
+    let a = c .before .before .before .before .before in
+    let start = a .before in
+    one-more-grouped (start .pre .0) _ _ (row-is (c .before .before .before .before)) (start .args .keys .now) (start .args .class) (a .loop .inv) (c .group .ensures)
+
+returns : tie.Need-returns Inv-loop μ-loop
+returns c =
+    let a = c .before in
+    all-grouped _ _ _ _ (a .loop .inv) (omega (arith, c .loop-test .left, a .before .pre .0 .all))
+
+pub groups-spec : {M : Type 1} → statement M
+groups-spec =
+    tie.close
+    (tie.spec
+    Inv-loop
+    μ-loop
+    loop-holds
+    mul-row
+    array-copy-out-row
+    mul-given
+    array-copy-out-given
+    mul-key
+    element-copy-out-key
+    group-requires
+    mul-groups
+    array-write-groups
+    add-i
+    loop-less
+    loop-again
+    returns)

@@ -1,0 +1,120 @@
+use mathlib.Core.Path.{_≡_, sym, ap, _∙_}
+use mathlib.Core.Bool.{true, true≢false}
+use mathlib.Core.Logic.{⊎-elim}
+use Prim.Native.Nat.{_+_, _≤_, _<_}
+use borrow.Author.Tests.{not-true, not-false}
+use Rattle.windows.specs.Windows.{deadline, bit}
+use Rattle.windows.proofs.Windows.{bit-is-0-or-1}
+use Rattle.pd2.specs.Ready.{origin}
+use Rattle.pd2.specs.Verdict.{isYes}
+use native.Mathlib.Omega.{arith}
+use Rattle.choice.specs.Choice.{saysReady}
+use Rattle.choice.specs.Classes.{Told}
+use Rattle.choice.proofs.Asked.{told-if-ready, due-is-said, deadline-is-small, dueTime, dueBit, isDue, unready-key, ready-key}
+use borrow.Author.Needs.{needs}
+use Rattle.choice.proofs.key.Statement.{statement}
+use Rattle.choice.proofs.key.Tie as tie
+
+ready-requires : tie.Need-ready-requires
+ready-requires c κs = search needs
+
+is-yes-requires : tie.Need-is-yes-requires
+is-yes-requires c κs = search needs
+
+-- the verdict says whether the row is ready
+is-ready : (c : tie.After-is-yes) → c .is-yes .result ≡ saysReady (c .before .before .args .row) (c .before .before .args .given .0) (c .before .before .args .slot .0)
+is-ready c = c .is-yes .ensures ∙ ap isYes (c .before .ready .ensures)
+
+returns : tie.Need-returns
+returns c = unready-key _ _ _ (sym (is-ready (c .before)) ∙ not-true _ (c .if1 .taken))
+
+-- past the test it is, so its windows are told
+ready-then : (c : tie.Else1) → let a = c .before .before .before in saysReady (a .args .row) (a .args .given .0) (a .args .slot .0) ≡ true
+ready-then c = sym (is-ready (c .before)) ∙ not-false _ (c .if1 .left)
+
+told : (c : tie.Else1) → let a = c .before .before .before in Told (a .args .row) (a .args .given .0)
+told c = let a = c .before .before .before in told-if-ready (a .args .row) (a .args .given .0) (a .args .slot .0) (ready-then c)
+
+origin-requires : tie.Need-origin-requires
+origin-requires c κs = search needs
+
+next-due-requires : tie.Need-next-due-requires
+next-due-requires c κs = search needs
+
+enum-known-due : tie.Need-enum-known-due
+enum-known-due c = search needs
+
+enum-told : tie.Need-enum-told
+enum-told c = search needs
+
+returns-2 : tie.Need-returns-2
+returns-2 c =
+    let a = c .before .before .before .before .before .before .before in
+    let small : a .args .row .phase < 65_536 = search needs in
+    let said = due-is-said _ _ (told (c .before .before .before .before)) small (c .before .before .before .origin .ensures) (c .before .before .next-due .ensures) in
+    absurd (true≢false (sym (ap isDue said) ∙ ap isDue (c .enum-told .given .1)))
+
+time-requires : tie.Need-time-requires
+time-requires c κs = search needs
+
+-- d and b, as the windows say them
+said : (c : tie.After-time) →
+    let a = c .before .before .before .before .before .before .before .before .before in
+    let row = a .args .row in
+    (c .time .result ≡ deadline (row .cost) (row .period) (origin row) (a .args .given .0 + 1)) × (c .before .before .due .given .0 .1 .0 ≡ bit (row .cost) (row .period) (a .args .given .0 + 1))
+said c =
+    let a = c .before .before .before .before .before .before .before .before .before in
+    let small : a .args .row .phase < 65_536 = search needs in
+    let is = sym (c .before .before .due .given .1) ∙ due-is-said _ _ (told (c .before .before .before .before .before .before)) small (c .before .before .before .before .before .origin .ensures) (c .before .before .before .before .next-due .ensures) in
+    (c .time .ensures ∙ ap dueTime is, ap dueBit is)
+
+-- they are small
+small-due : (c : tie.After-time) → (c .time .result < 5_000_000_000_000_000_000) × (c .before .before .due .given .0 .1 .0 ≤ 1)
+small-due c =
+    let a = c .before .before .before .before .before .before .before .before .before in
+    let phase : a .args .row .phase < 65_536 = search needs in
+    let period : a .args .row .period < 65_536 = search needs in
+    let is = said c in
+    let row = a .args .row in
+    let low = deadline-is-small row (a .args .given .0) (told (c .before .before .before .before .before .before)) phase period in
+    let one = bit-is-0-or-1 (row .cost) (row .period) (a .args .given .0 + 1) in
+    (omega (arith, is .0, low), ⊎-elim (λ z. omega (arith, is .1, z)) (λ z. omega (arith, is .1, z)) one)
+
+mul-result : tie.Need-mul-result
+mul-result c = let small = small-due c in omega arith
+
+sub-result : tie.Need-sub-result
+sub-result c = small-due c .1
+
+cast-result : tie.Need-cast-result
+cast-result c = search needs
+
+add-result : tie.Need-add-result
+add-result c = let small = small-due c in omega arith
+
+returns-3 : tie.Need-returns-3
+returns-3 c =
+    let a = c .before .before .before .before .before .before .before .before .before in
+    let phase : a .args .row .phase < 65_536 = search needs in
+    let period : a .args .row .period < 65_536 = search needs in
+    let is = said c in
+    ready-key _ _ (told (c .before .before .before .before .before .before)) phase period _ (ready-then (c .before .before .before .before .before .before)) (is .0) (is .1)
+
+pub key-spec : {M : Type 1} → statement M
+key-spec =
+    tie.close
+    (tie.spec
+    ready-requires
+    is-yes-requires
+    returns
+    origin-requires
+    next-due-requires
+    enum-known-due
+    enum-told
+    returns-2
+    time-requires
+    mul-result
+    sub-result
+    cast-result
+    add-result
+    returns-3)

@@ -1,0 +1,77 @@
+use Prim.Native.Nat.{_-_, _<_}
+use native.Mathlib.Omega.{arith}
+use borrow.Author.Needs.{needs}
+use lib.ListN.{length, take}
+use Rattle.choice.specs.Arrays.{numbersOf}
+use Rattle.choice.proofs.Filled.{Keyed, no-keys-yet, one-more-keyed, all-keyed}
+use Rattle.choice.proofs.keys.Statement.{statement}
+use Rattle.choice.proofs.keys.Tie as tie
+
+abbrev Inv-loop : tie.InvT-loop
+Inv-loop n time rows quanta keys₀ i₀ keys i = Keyed (take n rows) (numbersOf quanta) (time .0) keys i
+
+abbrev μ-loop : tie.MeasureT-loop
+μ-loop n time rows quanta keys₀ i₀ keys i = n - i
+
+loop-holds : tie.Need-loop-holds Inv-loop μ-loop
+loop-holds c = no-keys-yet _ _ _
+
+mul-row : tie.Need-mul-row Inv-loop μ-loop
+mul-row c = search needs
+
+array-copy-out-row : tie.Need-array-copy-out-row Inv-loop μ-loop
+array-copy-out-row c = search needs
+
+mul-given : tie.Need-mul-given Inv-loop μ-loop
+mul-given c = search needs
+
+array-copy-out-given : tie.Need-array-copy-out-given Inv-loop μ-loop
+array-copy-out-given c = search needs
+
+-- the row in question is one of the first n
+row-is : (c : tie.In-loop Inv-loop μ-loop) → let a = c .before .before in c .before .loop .i < length (take (a .args .n) (a .args .t1))
+row-is c = omega (arith, c .loop-test .taken, c .before .before .pre .all)
+
+key-requires : tie.Need-key-requires Inv-loop μ-loop
+key-requires c κs = search needs
+
+mul-keys : tie.Need-mul-keys Inv-loop μ-loop
+mul-keys c = search needs
+
+array-write-keys : tie.Need-array-write-keys Inv-loop μ-loop
+array-write-keys c = search needs
+
+add-i : tie.Need-add-i Inv-loop μ-loop
+add-i c = search needs
+
+loop-less : tie.Need-loop-less Inv-loop μ-loop
+loop-less c = search needs
+
+loop-again : tie.Need-loop-again Inv-loop μ-loop
+loop-again c =
+    let a = c .before .before .before .before in
+    one-more-keyed (a .before .pre) _ _ (row-is (c .before .before .before)) (a .loop .inv) (c .key .ensures)
+
+returns : tie.Need-returns Inv-loop μ-loop
+returns c =
+    let a = c .before in
+    all-keyed _ _ (a .loop .inv) (omega (arith, c .loop-test .left, a .before .pre .all))
+
+pub keys-spec : {M : Type 1} → statement M
+keys-spec =
+    tie.close
+    (tie.spec
+    Inv-loop
+    μ-loop
+    loop-holds
+    mul-row
+    array-copy-out-row
+    mul-given
+    array-copy-out-given
+    key-requires
+    mul-keys
+    array-write-keys
+    add-i
+    loop-less
+    loop-again
+    returns)

@@ -1,0 +1,55 @@
+use mathlib.Core.Bool.{false}
+use Prim.Native.Nat.{_-_, _≤_}
+use native.Mathlib.Omega.{arith}
+use borrow.Author.Needs.{needs}
+use Rattle.facts.proofs.Filling.{Filled, filling-begins, fills-one-more}
+use Rattle.choice.specs.Classes.{keyIn, groupIn, inCut}
+use Rattle.choice.proofs.Filled.{marks-are}
+use Rattle.choice.proofs.marks.Statement.{statement}
+use Rattle.choice.proofs.marks.Tie as tie
+
+abbrev Inv-loop : tie.InvT-loop
+Inv-loop keys groups n cut marks₀ i₀ marks i = Filled (inCut (keyIn keys) (groupIn groups) n (cut .class) (cut .left)) false false 32 i marks × (i ≤ n)
+
+abbrev μ-loop : tie.MeasureT-loop
+μ-loop keys groups n cut marks₀ i₀ marks i = n - i
+
+loop-holds : tie.Need-loop-holds Inv-loop μ-loop
+loop-holds c = (filling-begins _ _ _ _, omega arith)
+
+is-picked-requires : tie.Need-is-picked-requires Inv-loop μ-loop
+is-picked-requires c κs = search needs
+
+array-write-marks : tie.Need-array-write-marks Inv-loop μ-loop
+array-write-marks c = search needs
+
+add-i : tie.Need-add-i Inv-loop μ-loop
+add-i c = search needs
+
+loop-less : tie.Need-loop-less Inv-loop μ-loop
+loop-less c = search needs
+
+loop-again : tie.Need-loop-again Inv-loop μ-loop
+loop-again c =
+    let l = c .before .loop-test .taken in
+    let a = c .before .before in
+    (fills-one-more _ _ _ _ (a .loop .inv .0) (omega (arith, l, a .before .pre)) (c .is-picked .ensures), omega (arith, l))
+
+returns : tie.Need-returns Inv-loop μ-loop
+returns c =
+    let a = c .before in
+    marks-are _ _ _ (a .loop .inv .0) (omega (arith, a .loop .inv .1, c .loop-test .left)) (a .before .pre)
+
+pub marks-spec : {M : Type 1} → statement M
+marks-spec =
+    tie.close
+    (tie.spec
+    Inv-loop
+    μ-loop
+    loop-holds
+    is-picked-requires
+    array-write-marks
+    add-i
+    loop-less
+    loop-again
+    returns)
