@@ -2,25 +2,25 @@
 use Prim.Native.Nat.{ℕ, zero, suc, _+_, _-_, _*_, _≤_, _<_}
 use mathlib.Core.Path.{_≡_, refl, sym, ap, _∙_}
 use mathlib.Core.List.{List, [], _∷_, _++_, map}
-use mathlib.Core.Bool.{true, false, true≢false}
 use native.Mathlib.Omega.{arith}
 use lib.ListN.{length, getD, drop, length-append, length-take, List·getD-append}
 use lib.Seq.{take-append-seam, getD-take}
 use Rattle.facts.proofs.Counting.{listed-pass}
 use Rattle.fields.specs.Fields.{byte}
+use Rattle.table.specs.declared.Row.{Row}
 use Rattle.table.specs.Limits.{rowLimit, coreLimit}
 use Rattle.pd2.specs.Choice.{rowAt}
 use Rattle.trace.specs.Record.{withFront, withRecord}
 use Rattle.dispatcher.specs.declared.State.{State}
-use Rattle.dispatcher.specs.State.{rowsIn}
+use Rattle.dispatcher.specs.State.{rowsIn, timeOf}
 use Rattle.dispatcher.specs.Slot.{picksIn, recordIn}
 use Rattle.dispatcher.proofs.Kept.{done-makes-the-step, done-keeps-whole}
-use Rattle.printer.specs.declared.Shown.{Shown}
+use Rattle.printer.specs.declared.Told.{Told}
 use Rattle.printer.specs.Limits.{recordRoom, runLimit, lineLimit, lastLimit}
 use Rattle.printer.specs.Input.{slotsAsked, freeIn}
 use Rattle.printer.specs.Lines.{slotLine, endLine, lateLine, refusedLine}
 use Rattle.printer.specs.Text.{emptyRecord, askedOf, tankOf, tanksIn, slotText, slotsText, allSlots}
-use Rattle.printer.specs.Writing.{Wrote, WroteFew, rowsInEntry, tanksOf, Readable, Shows}
+use Rattle.printer.specs.Writing.{Wrote, WroteFew, rowsInEntry, tanksOf, Readable, saidBy, Tellable, ownText, ownLimit}
 use Rattle.printer.proofs.Writing.{wrote-on, wrote-as}
 
 -- What is the same at each element is the same of all.
@@ -91,55 +91,107 @@ module _ (s : State) (k : ℕ) where
       let done : askedOf s k .said .number < 2 = omega (arith, one) in
       rw (done-makes-the-step s k emptyRecord 0 done .0) at (done-keeps-whole s k emptyRecord 0 done .is-row one)
 
-  -- What a slot shows: where it is refused,
-  module _ {slot : ℕ} {b c : List ℕ} {at : ℕ} where
-    pub shows-refused : (shown : Shown) {number : ℕ} → number ≡ askedOf s k .said .number → 1 < number → shown .more ≡ false →
-        WroteFew lastLimit b at (refusedLine number) c (shown .past) → Shows s slot k b at c shown
-    shows-refused shown {number = zero} e h no-more w = absurd (omega arith)
-    shows-refused shown {number = suc zero} e h no-more w = absurd (omega arith)
-    shows-refused shown {number = suc (suc number)} e h no-more w =
+  -- What a slot left that was run: its answer, the state after it, and its record, in arrays of their lengths.
+  pub record Ran (told : Told) (after : State) (entry : List ℕ) : Type 0 where
+    pub said : saidBy told ≡ askedOf s k .said
+    pub state : after ≡ askedOf s k .state
+    pub bytes : entry ≡ askedOf s k .bytes
+    pub long : length entry ≡ recordRoom
+    pub places : length (s .table .rows) ≡ rowLimit
+
+  module _ {told : Told} {after : State} {entry : List ℕ} (ran : Ran told after entry) where
+    pub number-is : told .number ≡ askedOf s k .said .number
+    number-is = ap (λ x. x .number) (ran .said)
+
+    row-is : told .row ≡ askedOf s k .said .row
+    row-is = ap (λ x. x .row) (ran .said)
+
+    is-done : told .number < 2 → askedOf s k .said .number < 2
+    is-done h = omega (arith, number-is)
+
+    tanks-are : told .number < 2 → tanksOf (s .table .rows) (rowsInEntry entry) ≡ tanksIn s k
+    tanks-are h = tanks-are-picked (is-done h) (ran .bytes) (ran .long) (ran .places)
+
+    late-row : told .number ≡ 1 → told .row < length (rowsIn s)
+    late-row one = omega (arith, late-is-row (sym number-is ∙ one), row-is)
+
+    -- Its text can be written of it.
+    pub is-tellable : Tellable told entry
+    is-tellable =
         record {
-          next = λ m. absurd (true≢false (sym m ∙ no-more));
-          state = λ m. absurd (true≢false (sym m ∙ no-more));
-          line = λ m. absurd (true≢false (sym m ∙ no-more));
-          last = λ m rest. rw (sym e) record { wrote = w .wrote; few = omega (arith, w .few) };
+          readable = λ h. record-is-readable (is-done h) (ran .bytes) (ran .long) (ran .places);
+          row = λ one. omega (arith, late-row one, length-take (s .table .count) (s .table .rows), ran .places);
         }
 
-    -- where it is done,
-    pub shows-done : (shown : Shown) → askedOf s k .said .number ≡ 0 → shown .more ≡ true → shown .state ≡ askedOf s k .state →
-        {tanks : List ℕ} → tanks ≡ tanksIn s k → WroteFew lineLimit b at (slotLine slot k tanks) c (shown .past) → Shows s slot k b at c shown
-    shows-done shown e more state tanks w =
-        record {
-          next = λ m. e;
-          state = λ m. state;
-          line = λ m. rw (sym tanks) w;
-          last = λ m rest. absurd (true≢false (sym more ∙ m));
-        }
+    -- Where slots follow, its own text comes before theirs,
+    own-text-first : (slot : ℕ) (rest : List ℕ) → told .number ≡ 0 →
+        slotText (askedOf s k .said .number) slot k s (askedOf s k .said) rest ≡ slotLine slot k (tanksOf (s .table .rows) (rowsInEntry entry)) ++ rest
+    own-text-first slot rest none =
+        rw (sym number-is ∙ none) (ap (λ l. slotLine slot k l ++ rest) (sym (tanks-are (omega (arith, none)))))
 
-    -- and where a row is late.
-    pub shows-late : (shown : Shown) → askedOf s k .said .number ≡ 1 → shown .more ≡ false → {tanks : List ℕ} → tanks ≡ tanksIn s k →
-        {d : List ℕ} {mid time tank : ℕ} → WroteFew lineLimit b at (slotLine slot k tanks) d mid → WroteFew lastLimit d mid (lateLine time tank) c (shown .past) →
-        time ≡ askedOf s k .said .time → tank ≡ tankOf s (askedOf s k .said .row) → Shows s slot k b at c shown
-    shows-late shown e no-more tanks first second time tank =
-        record {
-          next = λ m. absurd (true≢false (sym m ∙ no-more));
-          state = λ m. absurd (true≢false (sym m ∙ no-more));
-          line = λ m. absurd (true≢false (sym m ∙ no-more));
-          last = λ m rest.
-              rw (e, sym tanks, sym time, sym tank)
-              record { wrote = wrote-on (first .wrote) (second .wrote); few = rw (length-append _ _) (omega (arith, first .few, second .few)) };
-        }
+    -- and where none follows it is all.
+    own-text-last : (slot : ℕ) (rest : List ℕ) → (told .number ≡ 0 → ⊥) →
+        ownText (told .number) slot k (s .table .rows) entry told ≡ slotText (askedOf s k .said .number) slot k s (askedOf s k .said) rest
+    own-text-last slot rest some = rw (sym number-is) (go (told .number) refl some)
+      where
+        go : (number : ℕ) → number ≡ told .number → (number ≡ 0 → ⊥) →
+            ownText number slot k (s .table .rows) entry told ≡ slotText number slot k s (askedOf s k .said) rest
+        go zero e h = absurd (h refl)
+        go (suc zero) e h =
+            ap (λ l. slotLine slot k l ++ lateLine (told .time) (rowAt (s .table .rows) (told .row) .tank)) (tanks-are (omega (arith, e)))
+            ∙ (ap (λ t. slotLine slot k (tanksIn s k) ++ lateLine t (rowAt (s .table .rows) (told .row) .tank)) (ap (λ x. x .time) (ran .said))
+            ∙ ap (λ t. slotLine slot k (tanksIn s k) ++ lateLine (askedOf s k .said .time) t) (tank-in-array (told .row) (late-row (sym e)) ∙ ap (tankOf s) row-is))
+        go (suc (suc number)) e h = refl
 
--- For the loop over the slots: what is left gives the text of all.
+    -- With 0 its time is one higher, and its table the same.
+    time-after : told .number ≡ 0 → timeOf after ≡ timeOf s + 1
+    time-after none = ap timeOf (ran .state ∙ done-makes-the-step s k emptyRecord 0 (is-done (omega (arith, none))) .0)
+
+    table-after : told .number ≡ 0 → after .table ≡ s .table
+    table-after none = ap (λ x. x .table) (ran .state ∙ done-makes-the-step s k emptyRecord 0 (is-done (omega (arith, none))) .0)
+
+-- A slot's own text, by the number that it answered: what is written where it is refused,
+module _ (slot k : ℕ) (rows : List Row) (entry : List ℕ) (told : Told) {b c : List ℕ} {at past : ℕ} where
+  pub own-refused : {number : ℕ} → 1 < number → WroteFew lastLimit b at (refusedLine number) c past →
+      WroteFew (ownLimit number) b at (ownText number slot k rows entry told) c past
+  own-refused {number = zero} h w = absurd (omega arith)
+  own-refused {number = suc zero} h w = absurd (omega arith)
+  own-refused {number = suc (suc number)} h w = record { wrote = w .wrote; few = omega (arith, w .few) }
+
+  -- where it is done,
+  pub own-done : {number : ℕ} → number ≡ 0 → WroteFew lineLimit b at (slotLine slot k (tanksOf rows (rowsInEntry entry))) c past →
+      WroteFew (ownLimit number) b at (ownText number slot k rows entry told) c past
+  own-done none w = rw none w
+
+  -- and where a row is late.
+  pub own-late : {number : ℕ} → number ≡ 1 → {d : List ℕ} {mid : ℕ} → WroteFew lineLimit b at (slotLine slot k (tanksOf rows (rowsInEntry entry))) d mid →
+      WroteFew lastLimit d mid (lateLine (told .time) (rowAt rows (told .row) .tank)) c past →
+      WroteFew (ownLimit number) b at (ownText number slot k rows entry told) c past
+  own-late one first second =
+      rw one record { wrote = wrote-on (first .wrote) (second .wrote); few = rw (length-append _ _) (omega (arith, first .few, second .few)) }
+
+own-is-short : (number : ℕ) → ownLimit number ≤ lineLimit + lastLimit
+own-is-short zero = omega arith
+own-is-short (suc number) = omega arith
+
+-- For the loop over the slots: what is left gives the text of all. A slot's number is the time of its state.
 module _ (free : ℕ → ℕ) (n : ℕ) (start : State) (b₀ : List ℕ) (at₀ : ℕ) where
-  pub record SlotsSoFar (b : List ℕ) (at : ℕ) (s : State) (slot left : ℕ) : Type 0 where
-    pub rest : {c : List ℕ} {past : ℕ} → Wrote b at (slotsText free slot s left) c past → Wrote b₀ at₀ (slotsText free 0 start n) c past
-    pub count : slot + left ≡ n
-    pub near : at ≤ at₀ + lineLimit * slot
+  pub record SlotsSoFar (b : List ℕ) (at : ℕ) (s : State) (left : ℕ) : Type 0 where
+    pub rest : {c : List ℕ} {past : ℕ} → Wrote b at (slotsText free (timeOf s) s left) c past → Wrote b₀ at₀ (slotsText free 0 start n) c past
+    pub count : timeOf s + left ≡ n
+    pub near : at ≤ at₀ + lineLimit * timeOf s
     pub long : length b ≡ length b₀
+    pub table : s .table ≡ start .table
 
-  pub slots-begin : SlotsSoFar b₀ at₀ start 0 n
-  slots-begin = record { rest = λ w. w; count = omega arith; near = omega arith; long = refl }
+  pub slots-begin : timeOf start ≡ 0 → SlotsSoFar b₀ at₀ start n
+  slots-begin none =
+      record {
+        rest = λ w. wrote-as (ap (λ t. slotsText free t start n) none) w;
+        count = omega (arith, none);
+        near = omega arith;
+        long = refl;
+        table = refl;
+      }
 
   one-slot : (slot left : ℕ) (s : State) → 0 < left →
       slotsText free slot s left ≡ slotText (askedOf s (free slot) .said .number) slot (free slot) s (askedOf s (free slot) .said) (slotsText free (slot + 1) (askedOf s (free slot) .state) (left - 1))
@@ -147,28 +199,38 @@ module _ (free : ℕ → ℕ) (n : ℕ) (start : State) (b₀ : List ℕ) (at₀
   one-slot slot zero s h = absurd (omega arith)
   one-slot slot (suc left) s h = ap (λ l. slotText (askedOf s (free slot) .said .number) slot (free slot) s (askedOf s (free slot) .said) (slotsText free (slot + 1) (askedOf s (free slot) .state) l)) {x = left} {y = suc left - 1} (omega arith)
 
-  module _ {b c : List ℕ} {at slot left k : ℕ} {s : State} {shown : Shown} (so : SlotsSoFar b at s slot left) (h : 0 < left) (e : k ≡ free slot)
-      (shows : Shows s slot k b at c shown) (keeps : length c ≡ length b) where
-    pub slots-go-on : shown .more ≡ true → {next : ℕ} → next ≡ slot + 1 → SlotsSoFar c (shown .past) (shown .state) next (left - 1)
-    slots-go-on more {next} one =
-        let line = shows .line more in
-        let text : slotsText free slot s left ≡ slotLine slot k (tanksIn s k) ++ slotsText free next (shown .state) (left - 1) =
-        one-slot slot left s h ∙ rw (sym e, shows .next more, shows .state more, one) in
+  module _ {b c : List ℕ} {at left k past : ℕ} {s after : State} {told : Told} {entry : List ℕ} (so : SlotsSoFar b at s left) (h : 0 < left) (e : k ≡ free (timeOf s))
+      (ran : Ran s k told after entry) (wrote : WroteFew (ownLimit (told .number)) b at (ownText (told .number) (timeOf s) k (start .table .rows) entry told) c past)
+      (keeps : length c ≡ length b) where
+    own : WroteFew (ownLimit (told .number)) b at (ownText (told .number) (timeOf s) k (s .table .rows) entry told) c past
+    own = rw (so .table) wrote
+
+    pub slots-go-on : told .number ≡ 0 → SlotsSoFar c past after (left - 1)
+    slots-go-on none =
+        let line : WroteFew lineLimit b at (slotLine (timeOf s) k (tanksOf (s .table .rows) (rowsInEntry entry))) c past = rw none at own in
+        let later = time-after s k ran none in
+        let tail : slotsText free (timeOf s + 1) (askedOf s k .state) (left - 1) ≡ slotsText free (timeOf after) after (left - 1) =
+        ap (λ t. slotsText free t (askedOf s k .state) (left - 1)) (sym later) ∙ ap (λ x. slotsText free (timeOf after) x (left - 1)) (sym (ran .state)) in
+        let text : slotsText free (timeOf s) s left ≡ slotLine (timeOf s) k (tanksOf (s .table .rows) (rowsInEntry entry)) ++ slotsText free (timeOf after) after (left - 1) =
+        one-slot (timeOf s) left s h
+        ∙ (rw (sym e) (own-text-first s k ran (timeOf s) _ none) ∙ ap (λ l. slotLine (timeOf s) k (tanksOf (s .table .rows) (rowsInEntry entry)) ++ l) tail) in
         record {
           rest = λ w. so .rest (wrote-as (sym text) (wrote-on (line .wrote) w));
-          count = omega (arith, so .count, one);
-          near = omega (arith, so .near, line .wrote .place, line .few, one);
+          count = omega (arith, so .count, later);
+          near = omega (arith, so .near, line .wrote .place, line .few, later);
           long = keeps ∙ so .long;
+          table = table-after s k ran none ∙ so .table;
         }
 
-    pub slots-end-early : shown .more ≡ false → n ≤ runLimit → WroteFew (runLimit * lineLimit + lastLimit) b₀ at₀ (slotsText free 0 start n) c (shown .past)
-    slots-end-early no-more few =
-        let last = shows .last no-more (slotsText free (slot + 1) (askedOf s (free slot) .state) (left - 1)) in
-        let all = so .rest (wrote-as (sym (one-slot slot left s h ∙ rw (sym e))) (last .wrote)) in
-        record { wrote = all; few = omega (arith, all .place, last .wrote .place, last .few, so .near, so .count, few) }
+    pub slots-end-early : (told .number ≡ 0 → ⊥) → n ≤ runLimit → WroteFew (runLimit * lineLimit + lastLimit) b₀ at₀ (slotsText free 0 start n) c past
+    slots-end-early some few =
+        let text : slotsText free (timeOf s) s left ≡ ownText (told .number) (timeOf s) k (s .table .rows) entry told =
+        one-slot (timeOf s) left s h ∙ rw (sym e) (sym (own-text-last s k ran (timeOf s) (slotsText free (timeOf s + 1) (askedOf s k .state) (left - 1)) some)) in
+        let all = so .rest (wrote-as (sym text) (own .wrote)) in
+        record { wrote = all; few = omega (arith, all .place, own .wrote .place, own .few, own-is-short (told .number), so .near, so .count, few) }
 
-  pub slots-end : {b c : List ℕ} {at slot left past : ℕ} {s : State} → SlotsSoFar b at s slot left → left ≤ 0 → n ≤ runLimit →
-      WroteFew lastLimit b at (endLine slot) c past → WroteFew (runLimit * lineLimit + lastLimit) b₀ at₀ (slotsText free 0 start n) c past
+  pub slots-end : {b c : List ℕ} {at left past : ℕ} {s : State} → SlotsSoFar b at s left → left ≤ 0 → n ≤ runLimit →
+      WroteFew lastLimit b at (endLine (timeOf s)) c past → WroteFew (runLimit * lineLimit + lastLimit) b₀ at₀ (slotsText free 0 start n) c past
   unfolding slotsText
   slots-end {left = zero} so h few last =
       let all = so .rest (last .wrote) in

@@ -1,76 +1,75 @@
 // The slots: each is run by the dispatcher, and its text written.
-use crate::Shown;
+use crate::Told;
 use crate::answer;
 use crate::line;
 use crate::parts;
 use counts::Slot;
+use dispatcher::Answer;
+use dispatcher::Outcome;
 use dispatcher::State;
+use table::Row;
+use table::Table;
+ghost use mathlib.Core.Path.{_≡_};
 ghost use Prim.Native.Nat.{_+_, _*_, _≤_, _<_};
+ghost use Rattle.dispatcher.specs.State.{freshOf};
 ghost use Rattle.printer.specs.Limits.{runLimit, lineLimit, lastLimit};
 ghost use Rattle.printer.specs.Input.{slotsAsked};
 ghost use Rattle.printer.specs.Text.{allSlots};
-ghost use Rattle.printer.specs.Writing.{WroteFew, linePlace, slotBelow, Shows};
+ghost use Rattle.printer.specs.Writing.{WroteFew, linePlace, slotBelow, Tellable, ownLimit, ownText};
 
-// The text of all slots that are to be run, from this state on.
-pub(crate) fn all(out: &mut [u8], at: usize, input: &[u8], mut state: State) -> usize
+// The text of all slots that are to be run, from the fresh state of a table on.
+pub(crate) fn all(out: &mut [u8], at: usize, input: &[u8], table: Table) -> usize
     requires { ⌜ (at ≤ 16) × (slotsAsked (now input) ≤ runLimit) ⌝ }
-    ensures { λ r. ⌜ WroteFew (runLimit * lineLimit + lastLimit) (now (out .entry)) at (allSlots (now (input .entry)) state) (now (out .exit)) r ⌝ }
+    ensures { λ r. ⌜ WroteFew (runLimit * lineLimit + lastLimit) (now (out .entry)) at (allSlots (now (input .entry)) (freshOf table)) (now (out .exit)) r ⌝ }
 {
-    let table = state.table;
-    let cores = table.cores;
-    let mut slot = Slot::at(0);
+    let rows = table.rows;
+    let mut last = begun(table);
     let mut left = parts::slots(input);
     let mut next = at;
     while 0 < left {
-        let k = parts::free(input, cores, slot);
-        let shown = one(out, next, state, slot, k);
-        next = shown.past;
-        if !shown.more {
+        let slot = last.state.time;
+        let k = parts::free(input, table.cores, slot);
+        // Room for the record of 8 rows, one for each core.
+        let mut entry = [0u8; 10];
+        last = last.state.slot(k, &mut entry, 0);
+        let told = answer::told(last);
+        next = one(out, next, told, slot, k, rows, entry);
+        if told.number != 0 {
             return next;
         }
-        let after = shown.state;
-        state = after;
-        slot = slot.later(1);
         left -= 1;
     }
-    line::end(out, next, slot.time())
+    line::end(out, next, last.state.time.time())
 }
 
-// One slot: it is run, and its line written, or why there is none.
-fn one(out: &mut [u8], at: usize, state: State, slot: Slot, k: u8) -> Shown
-    requires { ⌜ (at + lineLimit < linePlace) × (slot .0 < slotBelow) ⌝ }
-    ensures { λ r. ⌜ Shows state (slot .0) k (now (out .entry)) at (now (out .exit)) r ⌝ }
+// What stands before the first slot, as a slot would leave it: the loop over the slots then keeps one outcome and no state beside it.
+fn begun(table: Table) -> Outcome
+    ensures { λ r. ⌜ r .state ≡ freshOf table ⌝ }
 {
-    // Room for the record of 8 rows, one for each core.
-    let mut entry = [0u8; 10];
-    let outcome = state.slot(k, &mut entry, 0);
-    let answer = outcome.answer;
-    let after = outcome.state;
-    let number = answer::number(answer);
-    if 1 < number {
-        let past = line::refused(out, at, number);
-        return Shown {
-            past,
-            more: false,
-            state: after,
-        };
+    let answer = Answer::Done;
+    let state = State::fresh(table);
+    Outcome { answer, state }
+}
+
+// What is written of one slot, by what it answered: its line, and behind it that of a late row, or why there is none.
+fn one(
+    out: &mut [u8],
+    at: usize,
+    told: Told,
+    slot: Slot,
+    k: u8,
+    rows: [Row; 32],
+    entry: [u8; 10],
+) -> usize
+    requires { ⌜ (at + lineLimit < linePlace) × ((slot .0 < slotBelow) × Tellable told entry) ⌝ }
+    ensures { λ r. ⌜ WroteFew (ownLimit (told .number)) (now (out .entry)) at (ownText (told .number) (slot .0) k rows entry told) (now (out .exit)) r ⌝ }
+{
+    if 1 < told.number {
+        return line::refused(out, at, told.number);
     }
-    let table = state.table;
-    let rows = table.rows;
     let next = line::slot(out, at, slot.time(), k, rows, entry);
-    if number == 0 {
-        return Shown {
-            past: next,
-            more: true,
-            state: after,
-        };
+    if told.number == 0 {
+        return next;
     }
-    let late = answer::row(answer) as usize;
-    let row = rows[late];
-    let past = line::late(out, next, answer::time(answer), row);
-    Shown {
-        past,
-        more: false,
-        state: after,
-    }
+    line::late(out, next, told, rows)
 }

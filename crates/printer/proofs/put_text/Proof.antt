@@ -86,27 +86,22 @@ slice-aggregate-word-2 c = search needs
 word-requires-2 : tie.Need-word-requires-2
 word-requires-2 c κs = search needs
 
-fresh-requires : tie.Need-fresh-requires
-fresh-requires c κs = search needs
-
 all-requires : tie.Need-all-requires
-all-requires c κs =
-    let e = c .before .before .before .before .before .before .before .before .before .before .before .before in
-    (omega (arith, c .before .before .before .before .word2 .ensures .place), is-fit _ (fit e) .slots)
+all-requires c κs = (omega (arith, c .before .before .before .word2 .ensures .place), is-fit _ (fit (c .before .before .before .before .before .before .before .before .before .before .before)) .slots)
 
 same-length-3 : tie.Need-same-length-3
 same-length-3 c = search needs
 
 returns-3 : tie.Need-returns-3
 returns-3 c =
-    let e = c .before .before .before .before .before .before .before .before .before .before .before .before .before .before .before in
-    let s = c .before .before .before .before .before .before .before .before .before .before .before .before .before .before .before .before .before .before .before .args .input .now in
-    let read = table-is (c .before .before .before .before .before .before .before .before .before .before .before .before) in
-    let none = sym (ap (λ r. r .number) read) ∙ c .before .before .before .before .before .before .before .before .before .before .if2 .left in
+    let e = c .before .before .before .before .before .before .before .before .before .before .before .before .before .before in
+    let s = c .before .before .before .before .before .before .before .before .before .before .before .before .before .before .before .before .before .before .args .input .now in
+    let read = c .before .before .before .before .before .before .before .before .before .before .before in
+    let none = sym (ap (λ r. r .number) (table-is read)) ∙ c .before .before .before .before .before .before .before .before .before .if2 .left in
     let all = c .before .before .all .ensures in
-    let state = c .before .before .before .before .fresh .ensures ∙ ap (λ r. freshOf (r .table)) read in
-    wrote-few-as (ap (λ l. l ++ allSlots s (c .before .before .before .before .fresh .result)) header-words ∙ (ap (λ x. header ++ allSlots s x) state ∙ text-of-taken s (fit e) none))
-    (wrote-on (c .before .before .before .before .before .before .before .word2 .ensures) (all .wrote)) (rw (length-append _ _) (omega (arith, all .few)))
+    let state = ap (λ r. freshOf (r .table)) (table-is read) in
+    wrote-few-as (ap (λ l. l ++ allSlots s (freshOf (read .read .result .table))) header-words ∙ (ap (λ x. header ++ allSlots s x) state ∙ text-of-taken s (fit e) none))
+    (wrote-on (c .before .before .before .before .before .before .word2 .ensures) (all .wrote)) (rw (length-append _ _) (omega (arith, all .few)))
 
 pub put-text-spec : {M : Type 1} → statement M
 put-text-spec =
@@ -129,7 +124,6 @@ put-text-spec =
     returns-2
     slice-aggregate-word-2
     word-requires-2
-    fresh-requires
     all-requires
     same-length-3
     returns-3)

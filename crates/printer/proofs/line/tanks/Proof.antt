@@ -1,12 +1,16 @@
 use Prim.Native.Nat.{_+_, _-_, _<_, _≤_}
-use mathlib.Core.Path.{_≡_, refl}
+use mathlib.Core.Path.{_≡_, refl, ap, _∙_}
+use mathlib.Core.List.{_∷_}
 use native.Mathlib.Nat.{add-comm}
 use native.Mathlib.Omega.{arith}
 use lib.ListN.{length}
 use Rattle.fields.specs.Fields.{byte}
 use Rattle.table.specs.Causes.{zeroRow}
 use Rattle.facts.proofs.Filling.{getD-any}
+use Rattle.printer.specs.Lines.{space, decimal}
+use Rattle.printer.specs.Writing.{WroteFew}
 use Rattle.printer.proofs.Writing.{wrote-keeps-length}
+use Rattle.printer.proofs.Decimal.{few-digits}
 use Rattle.printer.proofs.Lines.{TanksSoFar, tanks-begin, tanks-go-on, tanks-end}
 use borrow.Author.Needs.{needs}
 use Rattle.printer.proofs.line.tanks.Statement.{statement}
@@ -53,16 +57,19 @@ array-read-number c = in-entry c
 cast-number : tie.Need-cast-number Inv-loop μ-loop
 cast-number c = search needs
 
-mul-row : tie.Need-mul-row Inv-loop μ-loop
-mul-row c =
-    let row = is-row c in
+mul-wide : tie.Need-mul-wide Inv-loop μ-loop
+mul-wide c =
+    let row = is-row (c .before) in
     record { fits = omega arith }
 
-array-copy-out-row : tie.Need-array-copy-out-row Inv-loop μ-loop
-array-copy-out-row c = is-row c
+element-copy-out-wide : tie.Need-element-copy-out-wide Inv-loop μ-loop
+element-copy-out-wide c = is-row (c .before)
 
-tank-requires : tie.Need-tank-requires Inv-loop μ-loop
-tank-requires c κs =
+wide-requires : tie.Need-wide-requires Inv-loop μ-loop
+wide-requires c κs = search needs
+
+spaced-requires : tie.Need-spaced-requires Inv-loop μ-loop
+spaced-requires c κs =
     let so = c .before .before .before .loop .inv .1 in
     let l = in-entry (c .before .before) in
     omega (arith, so .wrote .place, so .few, l, c .before .before .before .before .before .pre .0)
@@ -79,7 +86,10 @@ loop-again c =
     let a = l .before .before .before in
     let rows = a .args .t3 in
     let long : length rows ≡ 32 = search needs in
-    (refl, tanks-go-on rows (a .args .t4) (enough a) (l .before .loop .inv .1) (l .loop-test .taken) (getD-any rows _ zeroRow _ (omega (arith, long, is-row l))) (c .before .before .tank .ensures))
+    let wide = c .before .before .before .wide in
+    let tank = wide .ensures .0 ∙ ap (λ row. row .tank) (getD-any rows _ _ zeroRow (omega (arith, long, is-row l))) in
+    let wrote : WroteFew 6 _ _ (space ∷ decimal (wide .result)) _ _ = record { wrote = c .before .before .spaced .ensures; few = omega (arith, few-digits 4 (wide .result) (omega (arith, wide .ensures .1))) } in
+    (refl, tanks-go-on rows (a .args .t4) (enough a) (l .before .loop .inv .1) (l .loop-test .taken) refl (rw tank at wrote))
 
 same-length : tie.Need-same-length Inv-loop μ-loop
 same-length c = wrote-keeps-length (c .before .loop .inv .1 .wrote)
@@ -101,9 +111,10 @@ tanks-spec =
     add-number
     array-read-number
     cast-number
-    mul-row
-    array-copy-out-row
-    tank-requires
+    mul-wide
+    element-copy-out-wide
+    wide-requires
+    spaced-requires
     add-j
     loop-less
     loop-again
