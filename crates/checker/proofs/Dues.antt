@@ -2,14 +2,12 @@
 use Prim.Native.Nat.{ℕ, _+_, _≤_, _<_}
 use mathlib.Core.Path.{_≡_, sym, ap, _∙_}
 use mathlib.Core.List.{List}
-use mathlib.Core.Bool.{Bool, true, false}
 use native.Mathlib.Decide.{ℕ-discrete}
 use native.Mathlib.Omega.{arith}
 use lib.ListN.{length, getD, set, length-set}
 use lib.Seq.{getD-set-same, getD-set-other}
 use Rattle.facts.proofs.Filling.{Filled}
 use Rattle.windows.specs.declared.Due.{Due}
-use Rattle.windows.specs.declared.Due.the-variants as due-is
 use Rattle.windows.specs.declared.Due.the-variants.{By}
 use Rattle.windows.specs.Windows.{bit}
 use Rattle.windows.specs.Next.{nextDue}
@@ -21,18 +19,9 @@ use Rattle.table.specs.Value.{rowsOf}
 use Rattle.pd2.specs.Ready.{origin}
 use Rattle.pd2.specs.Choice.{rowAt}
 use Rattle.pd2.proofs.Share.{row-can-be}
+use Rattle.pd2.proofs.Choice.{row-there}
 use Rattle.checker.specs.Passes.{due}
 use Rattle.checker.specs.Walking.{givenTo, CanCheck, CanBeDue, DueAre}
-use Rattle.checker.proofs.Asked.{row-there}
-
--- What an answer holds.
-abbrev pub dueTime : Due → ℕ
-dueTime (By deadline bit) = deadline .0
-dueTime due-is.Unanswered = 0
-
-abbrev pub isDue : Due → Bool
-isDue (By deadline bit) = true
-isDue due-is.Unanswered = false
 
 -- A row that can be asked is answered.
 pub due-is-said : (row : Row) (q : ℕ) → CanBeDue row q → row .phase < 65_536 → {o : ℕ} → o ≡ origin row → {r : Due} → r ≡ nextDue (row .cost) (row .period) o q →
@@ -43,7 +32,7 @@ due-is-said row q can small same e =
 
 -- A row of the table can be asked.
 pub can-be-due : (table : Table) → CanCheck table → (i : ℕ) → i < length (rowsOf table) → (d : Row) {q : ℕ} → q ≤ 70_368_744_177_664 → CanBeDue (getD (table .rows) i d) q
-can-be-due table can i l d few = record { can = rw (row-there table i d l) (row-can-be table (can .sound) i l); few = few }
+can-be-due table can i l d few = record { can = rw (row-there (table .rows) (table .count) i d l) (row-can-be table (can .sound) i l); few = few }
 
 -- An array that is filled with what is due, row after row,
 pub dues-are-filled : (table : Table) (dues : List ℕ) {i : ℕ} → Filled (λ j. due (rowAt (rowsOf table) j) 1) 0 0 rowLimit i dues → length (rowsOf table) ≤ i → DueAre table (λ _. 0) dues

@@ -8,10 +8,8 @@ use native.Mathlib.Omega.{arith}
 use borrow.Author.Tests.{eq-eqb, ne-eqb}
 use Rattle.counts.specs.Limits.{most}
 use Rattle.windows.specs.declared.Due.{Due}
-use Rattle.windows.specs.declared.Due.the-variants as due
 use Rattle.windows.specs.declared.Due.the-variants.{By}
 use Rattle.windows.specs.declared.Moment.{Moment}
-use Rattle.windows.specs.declared.Moment.the-variants as moment
 use Rattle.windows.specs.declared.Moment.the-variants.{At}
 use Rattle.windows.specs.Next.{InReach, nextDue, next}
 use Rattle.windows.specs.Group.{groupDeadline}
@@ -25,27 +23,6 @@ use Rattle.pd2.specs.Choice.{rowAt, quantaAt}
 use Rattle.pd2.proofs.Verdicts.{in-reach, yes-is-answered}
 use Rattle.choice.specs.Choice.{saysReady}
 use Rattle.choice.specs.Classes.{keyOf, keyIn, KeysAre, groupOf, Told, ClassTold}
-
--- What an answer holds.
-abbrev pub dueTime : Due → ℕ
-dueTime (By deadline bit) = deadline .0
-dueTime due.Unanswered = 0
-
-abbrev pub dueBit : Due → ℕ
-dueBit (By deadline bit) = bit
-dueBit due.Unanswered = 0
-
-abbrev pub isDue : Due → Bool
-isDue (By deadline bit) = true
-isDue due.Unanswered = false
-
-abbrev pub momentTime : Moment → ℕ
-momentTime (At time) = time .0
-momentTime moment.Unanswered = 0
-
-abbrev pub isMoment : Moment → Bool
-isMoment (At time) = true
-isMoment moment.Unanswered = false
 
 -- The windows of a row that is answered to be ready are told,
 pub told-if-ready : (row : Row) (q t : ℕ) → saysReady row q t ≡ true → Told row q

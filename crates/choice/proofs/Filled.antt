@@ -20,7 +20,8 @@ use Rattle.trace.specs.Record.{marked}
 use Rattle.choice.specs.Arrays.{numbersOf, InPlace}
 use Rattle.choice.specs.Choice.{saysReady, readyAt}
 use Rattle.choice.specs.Classes.{keyOf, keyIn, KeysAre, groupOf, Told, GroupsAre, tied, inCut}
-use Rattle.choice.proofs.Arrays.{row-there, quanta-there}
+use Rattle.pd2.proofs.Choice.{row-there}
+use Rattle.choice.proofs.Arrays.{quanta-there}
 
 -- Whether a row is in the cut: its key lies before the class,
 module _ (key group : ℕ → ℕ) (n class left i : ℕ) where

@@ -10,8 +10,8 @@ use lib.Seq.{length-take-le, getD-take, getD-drop, getD-append-add}
 use Rattle.table.specs.declared.Table.{Table}
 use Rattle.table.specs.Value.{rowsOf}
 use Rattle.trace.specs.Records.{freeAt, countAt, pastRecord, placeOf, firstPlace, slotsIn, placeIn, timesNamed, count}
-use Rattle.trace.proofs.Records.{places-rise}
-use Rattle.trace.proofs.Agree.{stand-from, ends-before, Agree, place-agrees, count-agrees}
+use Rattle.trace.proofs.Records.{places-rise, stand-from, ends-before}
+use Rattle.trace.proofs.Agree.{Agree, place-agrees, count-agrees}
 use Rattle.dispatcher.proofs.Written.{sound-there, Written}
 use Rattle.checker.specs.Causes.{slotLimit, badRows}
 use Rattle.checker.specs.WellFormed.{SoundRecord, WellFormed}

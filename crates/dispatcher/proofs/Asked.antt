@@ -13,7 +13,8 @@ use Rattle.pd2.specs.declared.Verdict.{Verdict}
 use Rattle.pd2.specs.Verdict.{isYes, answered, verdict}
 use Rattle.pd2.proofs.Verdicts.{yes-when-answered}
 use Rattle.choice.specs.Arrays.{numbersOf, InPlace}
-use Rattle.choice.proofs.Arrays.{row-there, quanta-there}
+use Rattle.pd2.proofs.Choice.{row-there}
+use Rattle.choice.proofs.Arrays.{quanta-there}
 use Rattle.choice.specs.Choice.{chosen}
 use Rattle.choice.proofs.Chosen.{chosen-as-pd2}
 use Rattle.dispatcher.specs.declared.State.{State}

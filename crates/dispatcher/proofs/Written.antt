@@ -18,8 +18,8 @@ use Rattle.pd2.proofs.Picks.{picks-are-best}
 use Rattle.pd2.proofs.Choice.{pd2-is-strict}
 use Rattle.trace.specs.Record.{recordOf, withRecord}
 use Rattle.trace.specs.Records.{freeAt, countAt, rowsAt, pastRecord, placeOf, count}
-use Rattle.trace.proofs.Records.{places-rise}
-use Rattle.trace.proofs.Agree.{stand-from, ends-at-next, ends-before, Agree, rows-agree, place-agrees, count-agrees, still-as-long, agrees-before, free-written, count-written, rows-written}
+use Rattle.trace.proofs.Records.{places-rise, stand-from, ends-at-next, ends-before}
+use Rattle.trace.proofs.Agree.{Agree, rows-agree, place-agrees, count-agrees, still-as-long, agrees-before, free-written, count-written, rows-written}
 use Rattle.dispatcher.specs.declared.State.{State}
 use Rattle.dispatcher.specs.State.{rowsIn, quantaIn, timeOf}
 use Rattle.dispatcher.specs.Slot.{picksIn, recordIn, slotOf}

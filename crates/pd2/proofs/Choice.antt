@@ -1,15 +1,18 @@
--- PD2's order is strict among the rows of a table, and what giving does. Assumes nothing.
+-- PD2's order is strict among the rows of a table; what giving does; where rows stand. Assumes nothing.
 use Prim.Native.Nat.{ℕ, zero, suc, _+_, _≤_, _<_}
-use mathlib.Core.Path.{_≡_, refl, ap, _∙_}
+use mathlib.Core.Path.{_≡_, refl, sym, ap, _∙_}
 use mathlib.Core.List.{List, [], _∷_}
 use mathlib.Core.Bool.{Bool, true, false, cond}
 use mathlib.Core.Logic.{_⊎_, inl, inr, ⊎-elim}
 use native.Mathlib.Nat.{le-of-suc-le-suc, not-suc-le-zero}
 use native.Mathlib.Omega.{arith}
-use lib.ListN.{length}
+use lib.ListN.{length, getD, take, length-take}
+use lib.Seq.{getD-take}
+use Rattle.facts.proofs.Filling.{getD-any}
 use Rattle.windows.specs.Windows.{bit}
 use Rattle.windows.proofs.Windows.{bit-is-0-or-1}
 use Rattle.table.specs.declared.Row.{Row}
+use Rattle.table.specs.Causes.{zeroRow}
 use Rattle.pd2.specs.Order.{Rank, rankOf, before}
 use Rattle.pd2.specs.Choice.{rowAt, quantaAt, given, Pd2IsStrict}
 use Rattle.pd2.proofs.Order.{order-is-irreflexive, order-is-transitive, order-is-total, before-means-rule}
@@ -58,3 +61,8 @@ given-at isPicked i (q ∷ quanta) zero h = ap (λ k. q + cond (isPicked k) 1 0)
 given-at isPicked i (q ∷ quanta) (suc j) h =
     given-at isPicked (i + 1) quanta j (le-of-suc-le-suc h)
     ∙ ap (λ k. quantaAt quanta j + cond (isPicked k) 1 0) {x = i + 1 + j} {y = i + suc j} (omega arith)
+
+-- The first n rows stand in their array.
+pub row-there : (rows : List Row) (n i : ℕ) (d : Row) → i < length (take n rows) → getD rows i d ≡ rowAt (take n rows) i
+row-there rows n i d l =
+    getD-any rows i d zeroRow (omega (arith, length-take n rows)) ∙ sym (getD-take n rows i zeroRow (omega (arith, length-take n rows)))

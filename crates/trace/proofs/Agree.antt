@@ -10,23 +10,9 @@ use Rattle.fields.specs.Fields.{byte}
 use Rattle.trace.specs.Record.{recordOf, withFront, withRecord}
 use Rattle.trace.specs.Records.{freeAt, countAt, rowsAt, pastRecord, placeOf, names, namedIn, count}
 use Rattle.trace.proofs.Writing.{front-fits}
-use Rattle.trace.proofs.Records.{places-rise, count-found, rows-found}
+use Rattle.trace.proofs.Records.{stand-from, ends-before, count-found, rows-found}
 
 -- for callers
-
--- The records stand from a place on,
-pub stand-from : (s : List ℕ) (from t : ℕ) → from ≤ placeOf s from t
-unfolding placeOf
-stand-from s from t = places-rise s from 0 t (omega arith)
-
--- that of slot t ends where the next begins,
-pub ends-at-next : (s : List ℕ) (from t : ℕ) → pastRecord s (placeOf s from t) ≡ placeOf s from (suc t)
-unfolding placeOf
-ends-at-next s from t = refl
-
--- and so before any later one.
-pub ends-before : (s : List ℕ) (from j t : ℕ) → j < t → pastRecord s (placeOf s from j) ≤ placeOf s from t
-ends-before s from j t l = rw (ends-at-next s from j) (places-rise s from (suc j) t l)
 
 -- Two byte lists have the same bytes from a place up to an end, and both reach it.
 pub record Agree (from end : ℕ) (a b : List ℕ) : Type 0 where

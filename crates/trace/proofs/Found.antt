@@ -11,18 +11,14 @@ use lib.ListN.{length, take, drop, length-drop}
 use lib.Seq.{drop-cons, length-take-le}
 use Rattle.facts.proofs.Tests.{both, hold-both}
 use Rattle.trace.specs.Record.{recordOf}
-use Rattle.trace.specs.Records.{freeAt, countAt, pastRecord, slotsIn, placeOf, placeIn, rowsOfSlot}
+use Rattle.trace.specs.Records.{freeAt, countAt, pastRecord, firstPlace, slotsIn, placeOf, placeIn, rowsOfSlot}
 use Rattle.trace.specs.Found.{isFound, partFound, partBegins, Found, FoundIfAllInside}
-use Rattle.trace.proofs.Records.{places-rise}
+use Rattle.trace.proofs.Records.{ends-before}
 
 -- The next record begins where this one ends.
 pub next-begins : (s : List ℕ) (t : ℕ) → placeIn s (t + 1) ≡ pastRecord s (placeIn s t)
 unfolding placeOf
 next-begins s t = rw (add-one t)
-
--- No record of slots 0 to t ends behind the place where the record after them begins.
-pub ends-before : (s : List ℕ) (j t : ℕ) → j ≤ t → pastRecord s (placeIn s j) ≤ placeIn s (t + 1)
-ends-before s j t h = omega (arith, next-begins s j, places-rise s 4 (j + 1) (t + 1) (omega arith))
 
 -- The record of slot t is found exactly if the count bytes are there, t is below the count, and each record of slots 0 to t lies wholly inside.
 pub found-if-all-inside : FoundIfAllInside
@@ -37,7 +33,7 @@ found-if-all-inside s t = (to, from)
         record {
           count-there = leb-true 4 (length s) (a .0);
           below-count = ltb-true t (slotsIn s) (b .0);
-          all-inside = λ j l. record { front = omega (arith, ends-before s j t l, end); whole = omega (arith, ends-before s j t l, end) };
+          all-inside = λ j l. record { front = omega (arith, ends-before s firstPlace j (t + 1) (omega arith), end); whole = omega (arith, ends-before s firstPlace j (t + 1) (omega arith), end) };
         }
 
     from : Found s t → isFound s t ≡ true

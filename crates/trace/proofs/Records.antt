@@ -76,6 +76,20 @@ places-rise s from j (suc t) h = go (decLt t j) (places-rise s from j t)
     go (yes l) rest = let e : j ≡ suc t = omega arith in rw e (omega arith)
     go (no l) rest = let r = rest (omega arith) in omega arith
 
+-- The records stand from that place on,
+pub stand-from : (s : List ℕ) (from t : ℕ) → from ≤ placeOf s from t
+unfolding placeOf
+stand-from s from t = places-rise s from 0 t (omega arith)
+
+-- that of slot t ends where the next begins,
+pub ends-at-next : (s : List ℕ) (from t : ℕ) → pastRecord s (placeOf s from t) ≡ placeOf s from (suc t)
+unfolding placeOf
+ends-at-next s from t = refl
+
+-- and so before any later one.
+pub ends-before : (s : List ℕ) (from j t : ℕ) → j < t → pastRecord s (placeOf s from j) ≤ placeOf s from t
+ends-before s from j t l = rw (ends-at-next s from j) (places-rise s from (suc j) t l)
+
 -- Records that lie wholly in the front of the bytes are the same, whatever comes behind it.
 module _ (front x y : List ℕ) where
   -- each byte of the front,

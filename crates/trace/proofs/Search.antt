@@ -9,10 +9,11 @@ use borrow.Author.Tests.{le-leb, lt-leb, lt-ltb, le-ltb}
 use lib.Dec.{leb}
 use lib.ListN.{length, take, drop}
 use Rattle.trace.specs.declared.Place.the-variants.{Between, Nowhere}
-use Rattle.trace.specs.Records.{countAt, pastRecord, slotsIn, placeOf, placeIn}
+use Rattle.trace.specs.Records.{countAt, pastRecord, firstPlace, slotsIn, placeOf, placeIn}
 use Rattle.trace.specs.Found.{isFound, partFound, partBegins}
 use Rattle.trace.specs.Search.{lengthInside, placeIf, placeInside, placeFound}
-use Rattle.trace.proofs.Found.{next-begins, ends-before, found-if-all-inside}
+use Rattle.trace.proofs.Records.{ends-before}
+use Rattle.trace.proofs.Found.{next-begins, found-if-all-inside}
 
 -- The record that begins at a place.
 module _ (s : List ℕ) (place : ℕ) where
@@ -119,7 +120,7 @@ module _ (s : List ℕ) (t : ℕ) where
     pub walk-cut : n ≡ 0 → Nowhere ≡ placeInside s t
     unfolding placeInside
     walk-cut h =
-        let past : length s < placeIn s (t + 1) = omega (arith, cut-ends s start (sym e ∙ h), ap (pastRecord s) (so .place), ends-before s i t (so .within)) in
+        let past : length s < placeIn s (t + 1) = omega (arith, cut-ends s start (sym e ∙ h), ap (pastRecord s) (so .place), ends-before s firstPlace i (t + 1) (omega (arith, so .within))) in
         simp (lt-leb _ _ past)
 
     -- a whole one lies inside,

@@ -1,6 +1,6 @@
 -- What the answers about a next window mean. Assumes nothing.
 use mathlib.Core.Path.{_≡_, ap, _∙_}
-use mathlib.Core.Bool.{true, false, _&&_}
+use mathlib.Core.Bool.{Bool, true, false, _&&_}
 use Prim.Native.Nat.{ℕ, _+_, _<_}
 use native.Mathlib.Omega.{arith}
 use borrow.Author.Tests.{ltb-true, leb-true, lt-ltb, le-leb}
@@ -46,6 +46,27 @@ next-in-reach time r = rw (in-reach-is-answered r)
 pub due-in-reach : {e p o q : ℕ} → InReach e p o q → nextDue e p o q ≡ due.By (record { 0 = deadline e p o (q + 1) }) (bit e p (q + 1))
 unfolding nextDue
 due-in-reach r = rw (in-reach-is-answered r)
+
+-- What an answer holds.
+abbrev pub dueTime : Due → ℕ
+dueTime (due.By deadline bit) = deadline .0
+dueTime due.Unanswered = 0
+
+abbrev pub dueBit : Due → ℕ
+dueBit (due.By deadline bit) = bit
+dueBit due.Unanswered = 0
+
+abbrev pub isDue : Due → Bool
+isDue (due.By deadline bit) = true
+isDue due.Unanswered = false
+
+abbrev pub momentTime : Moment → ℕ
+momentTime (moment.At time) = time .0
+momentTime moment.Unanswered = 0
+
+abbrev pub isMoment : Moment → Bool
+isMoment (moment.At time) = true
+isMoment moment.Unanswered = false
 
 -- for the functions: i is the number that the code makes of q
 module _ (e p o q i : ℕ) (number : i ≡ kept (q + 1)) (y : nextAnswered e p o q ≡ true) where

@@ -39,7 +39,7 @@ loop-holds c =
     check-begins (a .args .table) (a .args .trace .now) (c .before .before .before .if1 .left) (c .before .before .word .ensures) (c .before .if2 .left) (c .first-dues .ensures)
 
 cast-at : tie.Need-cast-at Inv-loop μ-loop
-cast-at c = search needs
+cast-at c = omega arith
 
 at-requires : tie.Need-at-requires Inv-loop μ-loop
 at-requires c κs = search needs
@@ -62,10 +62,10 @@ returns-3 c =
     record-says (a .args .table) (a .args .trace .now) (c .before .before .before .before .before .before .loop .inv) (c .before .before .before .before .before .loop-test .taken) (subst (λ t. FirstFound (recordFindings (a .args .table) (a .args .trace .now) t) (saidOf (judged .result .answer))) (c .before .before .at .ensures) (judged .ensures .found (c .if3 .taken)))
 
 add-slot : tie.Need-add-slot Inv-loop μ-loop
-add-slot c = search needs
+add-slot c = omega arith
 
 loop-less : tie.Need-loop-less Inv-loop μ-loop
-loop-less c = search needs
+loop-less c = omega arith
 
 loop-again : tie.Need-loop-again Inv-loop μ-loop
 loop-again c =

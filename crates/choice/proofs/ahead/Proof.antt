@@ -15,31 +15,31 @@ abbrev μ-loop : tie.MeasureT-loop
 μ-loop keys groups n i own-key own-group own count₀ j₀ count j = n - j
 
 mul-own-key : tie.Need-mul-own-key Inv-loop μ-loop
-mul-own-key c = search needs
+mul-own-key c = omega arith
 
 element-copy-out-own-key : tie.Need-element-copy-out-own-key Inv-loop μ-loop
-element-copy-out-own-key c = search needs
+element-copy-out-own-key c = omega arith
 
 mul-own-group : tie.Need-mul-own-group Inv-loop μ-loop
-mul-own-group c = search needs
+mul-own-group c = omega arith
 
 element-copy-out-own-group : tie.Need-element-copy-out-own-group Inv-loop μ-loop
-element-copy-out-own-group c = search needs
+element-copy-out-own-group c = omega arith
 
 loop-holds : tie.Need-loop-holds Inv-loop μ-loop
 loop-holds c = counting-begins _ _
 
 mul-key : tie.Need-mul-key Inv-loop μ-loop
-mul-key c = search needs
+mul-key c = omega arith
 
 element-copy-out-key : tie.Need-element-copy-out-key Inv-loop μ-loop
-element-copy-out-key c = search needs
+element-copy-out-key c = omega arith
 
 mul-group : tie.Need-mul-group Inv-loop μ-loop
-mul-group c = search needs
+mul-group c = omega arith
 
 element-copy-out-group : tie.Need-element-copy-out-group Inv-loop μ-loop
-element-copy-out-group c = search needs
+element-copy-out-group c = omega arith
 
 goes-first-requires : tie.Need-goes-first-requires Inv-loop μ-loop
 goes-first-requires c κs = search needs
@@ -50,10 +50,10 @@ add-count c =
     omega (arith, c .before .before .before .before .before .before .before .before .pre .0, c .before .before .before .before .loop-test .taken)
 
 add-j : tie.Need-add-j Inv-loop μ-loop
-add-j c = search needs
+add-j c = omega arith
 
 loop-less : tie.Need-loop-less Inv-loop μ-loop
-loop-less c = search needs
+loop-less c = omega arith
 
 loop-again : tie.Need-loop-again Inv-loop μ-loop
 loop-again c =

@@ -3,8 +3,9 @@ use mathlib.Core.Bool.{true≢false}
 use Prim.Native.Nat.{_+_, _<_}
 use Rattle.windows.specs.declared.Moment.the-variants.{At}
 use Rattle.windows.specs.Group.{groupDeadline}
+use Rattle.windows.proofs.Next.{momentTime, isMoment}
 use Rattle.pd2.specs.Ready.{origin}
-use Rattle.choice.proofs.Asked.{group-is-said, group-asked, no-group-outside, no-group-at-bit-0, momentTime, isMoment}
+use Rattle.choice.proofs.Asked.{group-is-said, group-asked, no-group-outside, no-group-at-bit-0}
 use borrow.Author.Needs.{needs}
 use Rattle.choice.proofs.group.Statement.{statement}
 use Rattle.choice.proofs.group.Tie as tie

@@ -1,6 +1,5 @@
 use Prim.Native.Nat.{_-_, _<_}
 use native.Mathlib.Omega.{arith}
-use borrow.Author.Needs.{needs}
 use lib.ListN.{length, take}
 use Rattle.choice.specs.Arrays.{numbersOf}
 use Rattle.choice.proofs.Filled.{Grouped, told-there, one-more-grouped, all-grouped}
@@ -18,22 +17,22 @@ loop-holds : tie.Need-loop-holds Inv-loop μ-loop
 loop-holds c = filling-begins _ _ _ _
 
 mul-row : tie.Need-mul-row Inv-loop μ-loop
-mul-row c = search needs
+mul-row c = omega arith
 
 array-copy-out-row : tie.Need-array-copy-out-row Inv-loop μ-loop
-array-copy-out-row c = search needs
+array-copy-out-row c = omega arith
 
 mul-given : tie.Need-mul-given Inv-loop μ-loop
-mul-given c = search needs
+mul-given c = omega arith
 
 array-copy-out-given : tie.Need-array-copy-out-given Inv-loop μ-loop
-array-copy-out-given c = search needs
+array-copy-out-given c = omega arith
 
 mul-key : tie.Need-mul-key Inv-loop μ-loop
-mul-key c = search needs
+mul-key c = omega arith
 
 element-copy-out-key : tie.Need-element-copy-out-key Inv-loop μ-loop
-element-copy-out-key c = search needs
+element-copy-out-key c = omega arith
 
 -- the row in question is one of the first n
 row-is : (c : tie.In-loop Inv-loop μ-loop) → let a = c .before .before in c .before .loop .i < length (take (a .args .n) (a .args .t1))
@@ -43,16 +42,16 @@ group-requires : tie.Need-group-requires Inv-loop μ-loop
 group-requires c κs = let start = c .before .before .before .before .before in told-there (start .pre .0) _ _ (row-is (c .before .before .before)) (start .pre .1 _ (row-is (c .before .before .before)))
 
 mul-groups : tie.Need-mul-groups Inv-loop μ-loop
-mul-groups c = search needs
+mul-groups c = omega arith
 
 array-write-groups : tie.Need-array-write-groups Inv-loop μ-loop
-array-write-groups c = search needs
+array-write-groups c = omega arith
 
 add-i : tie.Need-add-i Inv-loop μ-loop
-add-i c = search needs
+add-i c = omega arith
 
 loop-less : tie.Need-loop-less Inv-loop μ-loop
-loop-less c = search needs
+loop-less c = omega arith
 
 loop-again : tie.Need-loop-again Inv-loop μ-loop
 loop-again c =

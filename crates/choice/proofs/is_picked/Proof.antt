@@ -1,13 +1,14 @@
+use native.Mathlib.Omega.{arith}
 use Rattle.choice.proofs.Filled.{inside, outside, by-class}
 use borrow.Author.Needs.{needs}
 use Rattle.choice.proofs.is_picked.Statement.{statement}
 use Rattle.choice.proofs.is_picked.Tie as tie
 
 mul-key : tie.Need-mul-key
-mul-key c = search needs
+mul-key c = omega arith
 
 element-copy-out-key : tie.Need-element-copy-out-key
-element-copy-out-key c = search needs
+element-copy-out-key c = omega arith
 
 returns : tie.Need-returns
 returns c = inside _ _ _ _ _ _ (c .if1 .taken)

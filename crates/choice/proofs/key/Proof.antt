@@ -5,12 +5,13 @@ use Prim.Native.Nat.{_+_, _≤_, _<_}
 use borrow.Author.Tests.{not-true, not-false}
 use Rattle.windows.specs.Windows.{deadline, bit}
 use Rattle.windows.proofs.Windows.{bit-is-0-or-1}
+use Rattle.windows.proofs.Next.{dueTime, dueBit, isDue}
 use Rattle.pd2.specs.Ready.{origin}
 use Rattle.pd2.specs.Verdict.{isYes}
 use native.Mathlib.Omega.{arith}
 use Rattle.choice.specs.Choice.{saysReady}
 use Rattle.choice.specs.Classes.{Told}
-use Rattle.choice.proofs.Asked.{told-if-ready, due-is-said, deadline-is-small, dueTime, dueBit, isDue, unready-key, ready-key}
+use Rattle.choice.proofs.Asked.{told-if-ready, due-is-said, deadline-is-small, unready-key, ready-key}
 use borrow.Author.Needs.{needs}
 use Rattle.choice.proofs.key.Statement.{statement}
 use Rattle.choice.proofs.key.Tie as tie
@@ -87,7 +88,7 @@ sub-result : tie.Need-sub-result
 sub-result c = small-due c .1
 
 cast-result : tie.Need-cast-result
-cast-result c = search needs
+cast-result c = omega arith
 
 add-result : tie.Need-add-result
 add-result c = let small = small-due c in omega arith

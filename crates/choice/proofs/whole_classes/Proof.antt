@@ -2,7 +2,6 @@ use mathlib.Core.Path.{refl}
 use mathlib.Core.Bool.{false}
 use Prim.Native.Nat.{_-_, _≤_}
 use native.Mathlib.Omega.{arith}
-use borrow.Author.Needs.{needs}
 use lib.Dec.{ltb}
 use Rattle.facts.proofs.Filling.{Filled, filling-begins, fills-one-more}
 use Rattle.choice.specs.Classes.{keyIn}
@@ -20,19 +19,19 @@ loop-holds : tie.Need-loop-holds Inv-loop μ-loop
 loop-holds c = (filling-begins _ _ _ _, omega arith)
 
 mul-key : tie.Need-mul-key Inv-loop μ-loop
-mul-key c = search needs
+mul-key c = omega arith
 
 element-copy-out-key : tie.Need-element-copy-out-key Inv-loop μ-loop
-element-copy-out-key c = search needs
+element-copy-out-key c = omega arith
 
 array-write-marks : tie.Need-array-write-marks Inv-loop μ-loop
-array-write-marks c = search needs
+array-write-marks c = omega arith
 
 add-i : tie.Need-add-i Inv-loop μ-loop
-add-i c = search needs
+add-i c = omega arith
 
 loop-less : tie.Need-loop-less Inv-loop μ-loop
-loop-less c = search needs
+loop-less c = omega arith
 
 loop-again : tie.Need-loop-again Inv-loop μ-loop
 loop-again c =

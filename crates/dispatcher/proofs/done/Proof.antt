@@ -1,11 +1,11 @@
+use native.Mathlib.Omega.{arith}
 use mathlib.Core.Path.{refl}
-use borrow.Author.Needs.{needs}
 use borrow.Author.Tests.{lt-ltb, le-ltb}
 use Rattle.dispatcher.proofs.done.Statement.{statement}
 use Rattle.dispatcher.proofs.done.Tie as tie
 
 cast-row : tie.Need-cast-row
-cast-row c = search needs
+cast-row c = omega arith
 
 returns : tie.Need-returns
 returns c = rw (lt-ltb (c .before .args .late) (c .before .args .n) (c .if1 .taken)) refl

@@ -1,3 +1,4 @@
+use native.Mathlib.Omega.{arith}
 use mathlib.Core.Path.{sym}
 use borrow.Author.Needs.{needs}
 use Rattle.fields.proofs.Fields.{no-half}
@@ -11,22 +12,22 @@ byte-requires : tie.Need-byte-requires
 byte-requires c κs = search needs
 
 cast-low : tie.Need-cast-low
-cast-low c = search needs
+cast-low c = omega arith
 
 add-byte : tie.Need-add-byte
-add-byte c = search needs
+add-byte c = omega arith
 
 byte-requires-2 : tie.Need-byte-requires-2
 byte-requires-2 c κs = search needs
 
 cast-high : tie.Need-cast-high
-cast-high c = search needs
+cast-high c = omega arith
 
 mul-result : tie.Need-mul-result
-mul-result c = search needs
+mul-result c = omega arith
 
 add-result : tie.Need-add-result
-add-result c = search needs
+add-result c = omega arith
 
 returns-2 : tie.Need-returns-2
 returns-2 c = search needs

@@ -1,3 +1,4 @@
+use native.Mathlib.Omega.{arith}
 use mathlib.Core.Path.{_≡_, sym, _∙_}
 use mathlib.Core.Bool.{false}
 use Rattle.facts.specs.Faults.{firstMet}
@@ -35,7 +36,7 @@ returns-2 : tie.Need-returns-2
 returns-2 c = cores-are-fault _ (cycle-passed (c .before .before)) (sym (c .before .cores-are-outside .ensures) ∙ c .if2 .taken)
 
 cast-fault : tie.Need-cast-fault
-cast-fault c = search needs
+cast-fault c = omega arith
 
 fault-requires : tie.Need-fault-requires
 fault-requires c κs = not-outside (cores-passed (c .before)) .1
@@ -52,7 +53,7 @@ returns-4 c =
     count-is-fault _ (cycle-passed (cores .before .before)) (cores-passed cores) (boards-passed boards) (c .if4 .taken)
 
 cast-n : tie.Need-cast-n
-cast-n c = search needs
+cast-n c = omega arith
 
 judge-requires : tie.Need-judge-requires
 judge-requires c κs = search needs

@@ -29,7 +29,7 @@ byte-requires : tie.Need-byte-requires
 byte-requires c κs = search needs
 
 cast-m : tie.Need-cast-m
-cast-m c = search needs
+cast-m c = omega arith
 
 read-requires : tie.Need-read-requires
 read-requires c κs =
@@ -47,7 +47,7 @@ returns-2 c =
     c .refused2 .ensures ∙ boards-refused _ (head first) (read .before .before .word .ensures) (read .before .byte .ensures) (read .read .ensures) (c .before .if2 .taken)
 
 add-at : tie.Need-add-at
-add-at c = search needs
+add-at c = omega arith
 
 refused-requires-3 : tie.Need-refused-requires-3
 refused-requires-3 c κs = search needs

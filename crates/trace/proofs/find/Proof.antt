@@ -12,7 +12,7 @@ word-requires : tie.Need-word-requires
 word-requires c κs = search needs
 
 cast-slots : tie.Need-cast-slots
-cast-slots c = search needs
+cast-slots c = omega arith
 
 returns-2 : tie.Need-returns-2
 returns-2 c = past-count _ _ (omega arith)

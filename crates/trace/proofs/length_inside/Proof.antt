@@ -8,13 +8,13 @@ returns : tie.Need-returns
 returns c = is-cut _ _ (omega arith)
 
 sub-rest : tie.Need-sub-rest
-sub-rest c = search needs
+sub-rest c = omega arith
 
 returns-2 : tie.Need-returns-2
 returns-2 c = is-cut _ _ (omega arith)
 
 add-count : tie.Need-add-count
-add-count c = search needs
+add-count c = omega arith
 
 shared-slice-read-count : tie.Need-shared-slice-read-count
 shared-slice-read-count c = search needs

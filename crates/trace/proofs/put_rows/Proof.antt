@@ -32,10 +32,10 @@ loop-holds : tie.Need-loop-holds Inv-loop μ-loop
 loop-holds c = writing-begins _ _
 
 array-read-if1 : tie.Need-array-read-if1 Inv-loop μ-loop
-array-read-if1 c = search needs
+array-read-if1 c = omega arith
 
 cast-part : tie.Need-cast-part Inv-loop μ-loop
-cast-part c = search needs
+cast-part c = omega arith
 
 slice-write-part : tie.Need-slice-write-part Inv-loop μ-loop
 slice-write-part c =
@@ -50,10 +50,10 @@ add-at c =
     omega (arith, a .loop .inv .place, place-of c, short)
 
 add-i : tie.Need-add-i Inv-loop μ-loop
-add-i c = search needs
+add-i c = omega arith
 
 loop-less : tie.Need-loop-less Inv-loop μ-loop
-loop-less c = search needs
+loop-less c = omega arith
 
 loop-again : tie.Need-loop-again Inv-loop μ-loop
 loop-again c =

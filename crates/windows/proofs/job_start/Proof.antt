@@ -14,7 +14,7 @@ count-requires : tie.Need-count-requires
 count-requires c κs = search needs
 
 div-jobs : tie.Need-div-jobs
-div-jobs c = search needs
+div-jobs c = omega arith
 
 product-requires : tie.Need-product-requires
 product-requires c κs = omega (arith, div-le-self (c .count .result) (c .before .before .args .e))

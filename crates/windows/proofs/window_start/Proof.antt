@@ -1,3 +1,4 @@
+use native.Mathlib.Omega.{arith}
 use mathlib.Core.Path.{ap, _∙_}
 use Prim.Native.Nat.{_*_}
 use Rattle.windows.proofs.Fits.{start-is}
@@ -15,7 +16,7 @@ product-requires : tie.Need-product-requires
 product-requires c κs = search needs
 
 div-later : tie.Need-div-later
-div-later c = search needs
+div-later c = omega arith
 
 later-requires : tie.Need-later-requires
 later-requires c κs = search needs

@@ -7,7 +7,7 @@ use Rattle.facts.proofs.Filling.{Filled, filling-begins, fills-one-more}
 use Rattle.table.specs.Value.{rowsOf}
 use Rattle.pd2.specs.Choice.{rowAt}
 use Rattle.checker.specs.Passes.{due}
-use Rattle.checker.proofs.Asked.{row-there}
+use Rattle.pd2.proofs.Choice.{row-there}
 use Rattle.checker.proofs.Dues.{can-be-due, dues-are-filled}
 use Rattle.checker.proofs.giving.first_dues.Statement.{statement}
 use Rattle.checker.proofs.giving.first_dues.Tie as tie
@@ -19,16 +19,16 @@ abbrev μ-loop : tie.MeasureT-loop
 μ-loop table dues₀ n i₀ dues i = n - i
 
 cast-n : tie.Need-cast-n Inv-loop μ-loop
-cast-n c = search needs
+cast-n c = omega arith
 
 loop-holds : tie.Need-loop-holds Inv-loop μ-loop
 loop-holds c = filling-begins _ _ _ _
 
 mul-row : tie.Need-mul-row Inv-loop μ-loop
-mul-row c = search needs
+mul-row c = omega arith
 
 element-copy-out-row : tie.Need-element-copy-out-row Inv-loop μ-loop
-element-copy-out-row c = search needs
+element-copy-out-row c = omega arith
 
 of-requires : tie.Need-of-requires Inv-loop μ-loop
 of-requires c κs = search needs
@@ -41,16 +41,16 @@ next-due-requires : tie.Need-next-due-requires Inv-loop μ-loop
 next-due-requires c κs = can-be-due _ (c .before .before .before .before .pre) _ (row-is (c .before .before)) _ (omega (arith, c .of .ensures))
 
 mul-dues : tie.Need-mul-dues Inv-loop μ-loop
-mul-dues c = search needs
+mul-dues c = omega arith
 
 array-write-dues : tie.Need-array-write-dues Inv-loop μ-loop
-array-write-dues c = search needs
+array-write-dues c = omega arith
 
 add-i : tie.Need-add-i Inv-loop μ-loop
-add-i c = search needs
+add-i c = omega arith
 
 loop-less : tie.Need-loop-less Inv-loop μ-loop
-loop-less c = search needs
+loop-less c = omega arith
 
 loop-again : tie.Need-loop-again Inv-loop μ-loop
 loop-again c =
@@ -59,7 +59,7 @@ loop-again c =
     let at = c .before .before .before .before in
     let l = row-is (c .before .before .before) in
     fills-one-more _ _ _ _ (at .loop .inv) (omega (arith, l, a .pre .few, a .pre .all))
-    (c .next-due .ensures ∙ rw (row-there table (at .loop .i) _ l, c .before .of .ensures) refl)
+    (c .next-due .ensures ∙ rw (row-there (table .rows) (table .count) (at .loop .i) _ l, c .before .of .ensures) refl)
 
 returns : tie.Need-returns Inv-loop μ-loop
 returns c =

@@ -12,7 +12,8 @@ use Rattle.pd2.specs.Choice.{rowAt}
 use Rattle.checker.specs.Passes.{due}
 use Rattle.checker.specs.Walking.{givenTo, DueAre, isEarly}
 use Rattle.checker.proofs.Named.{PassSoFar, passing-begins, passes-on, fails-first, none-fails, GaveSoFar, giving-begins, not-given-yet, gives-one-more, all-given, named-is-below, how-many-rows, row-at}
-use Rattle.checker.proofs.Asked.{row-there, ready-as-read}
+use Rattle.pd2.proofs.Choice.{row-there}
+use Rattle.checker.proofs.Asked.{ready-as-read}
 use Rattle.checker.proofs.Dues.{can-be-due, one-due-later}
 use Rattle.checker.proofs.giving.give.Statement.{statement}
 use Rattle.checker.proofs.giving.give.Tie as tie
@@ -28,7 +29,7 @@ abbrev μ-loop : tie.MeasureT-loop
 μ-loop trace first c counts₀ dues₀ slot table n j₀ counts dues j = c - j
 
 cast-n : tie.Need-cast-n Inv-loop μ-loop
-cast-n c = search needs
+cast-n c = omega arith
 
 loop-holds : tie.Need-loop-holds Inv-loop μ-loop
 loop-holds c = let pre = c .before .pre in (passing-begins _ _ (pre .rise) _, giving-begins _ _ (pre .rise) _, pre .due)
@@ -67,7 +68,7 @@ had : (c : tie.After-byte Inv-loop μ-loop) → givenTo (c .before .before .loop
 had c = not-given-yet _ _ (c .before .before .before .before .pre .rise) _ (c .before .before .loop .inv .1) (inside (c .before)) (is-row c)
 
 cast-i : tie.Need-cast-i Inv-loop μ-loop
-cast-i c = search needs
+cast-i c = omega arith
 
 mul-row : tie.Need-mul-row Inv-loop μ-loop
 mul-row c =
@@ -152,10 +153,10 @@ element-write-dues c =
     search needs
 
 add-j : tie.Need-add-j Inv-loop μ-loop
-add-j c = search needs
+add-j c = omega arith
 
 loop-less : tie.Need-loop-less Inv-loop μ-loop
-loop-less c = search needs
+loop-less c = omega arith
 
 loop-again : tie.Need-loop-again Inv-loop μ-loop
 loop-again c =
@@ -170,7 +171,7 @@ loop-again c =
       gives-one-more _ _ (a .pre .rise) _ (inv .1) (inside (c .before .before .before .before .before .before .before .before .before .before)) (is-row byte) (omega (arith, fits byte, long)) _ given,
       one-due-later (a .args .t4) (at .loop .counts) (at .loop .dues) (inv .2) long (byte .byte .result) (fits byte) (count .result)
           (c .next-due .ensures
-          ∙ (ap (λ row. due row (c .before .before .one-more .result .0 + 1)) (row-there (a .args .t4) (byte .byte .result) _ (is-there byte))
+          ∙ (ap (λ row. due row (c .before .before .one-more .result .0 + 1)) (row-there (a .args .t4 .rows) (a .args .t4 .count) (byte .byte .result) _ (is-there byte))
           ∙ ap (λ q. due (rowAt (rowsOf (a .args .t4)) (byte .byte .result)) (q + 1)) (sym (count .ensures)))),
     )
 

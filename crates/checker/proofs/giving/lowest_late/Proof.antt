@@ -1,3 +1,4 @@
+use native.Mathlib.Omega.{arith}
 use Prim.Native.Nat.{_-_}
 use borrow.Author.Needs.{needs}
 use borrow.Author.Tests.{le-leb, lt-leb}
@@ -20,10 +21,10 @@ loop-holds : tie.Need-loop-holds Inv-loop μ-loop
 loop-holds c = looking-begins _ _
 
 mul-due : tie.Need-mul-due Inv-loop μ-loop
-mul-due c = search needs
+mul-due c = omega arith
 
 element-copy-out-due : tie.Need-element-copy-out-due Inv-loop μ-loop
-element-copy-out-due c = search needs
+element-copy-out-due c = omega arith
 
 returns : tie.Need-returns Inv-loop μ-loop
 returns c =
@@ -31,10 +32,10 @@ returns c =
     rw (← a .before .time .ensures) (found-lowest _ _ (a .loop .inv) (c .before .before .loop-test .taken) (le-leb _ _ (c .if1 .taken)))
 
 add-i : tie.Need-add-i Inv-loop μ-loop
-add-i c = search needs
+add-i c = omega arith
 
 loop-less : tie.Need-loop-less Inv-loop μ-loop
-loop-less c = search needs
+loop-less c = omega arith
 
 loop-again : tie.Need-loop-again Inv-loop μ-loop
 loop-again c = looks-on _ _ (c .before .before .before .loop .inv) (c .before .before .loop-test .taken) (lt-leb _ _ (c .if1 .left))

@@ -5,7 +5,8 @@ use borrow.Author.Needs.{needs}
 use Rattle.windows.specs.declared.Due.the-variants.{By}
 use Rattle.windows.specs.Windows.{bit}
 use Rattle.checker.specs.Passes.{due}
-use Rattle.checker.proofs.Dues.{dueTime, isDue, due-is-said}
+use Rattle.windows.proofs.Next.{dueTime, isDue}
+use Rattle.checker.proofs.Dues.{due-is-said}
 use Rattle.checker.proofs.giving.next_due.Statement.{statement}
 use Rattle.checker.proofs.giving.next_due.Tie as tie
 

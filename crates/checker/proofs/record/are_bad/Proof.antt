@@ -38,13 +38,13 @@ returns-2 : tie.Need-returns-2 Inv-loop μ-loop
 returns-2 c = bad-not-rising _ _ (c .before .before .before .before .loop .inv) (inside (c .before .before .before)) (is-row (c .before .before)) (c .before .if1 .left) (c .if2 .taken)
 
 add-least : tie.Need-add-least Inv-loop μ-loop
-add-least c = search needs
+add-least c = omega arith
 
 add-j : tie.Need-add-j Inv-loop μ-loop
-add-j c = search needs
+add-j c = omega arith
 
 loop-less : tie.Need-loop-less Inv-loop μ-loop
-loop-less c = search needs
+loop-less c = omega arith
 
 loop-again : tie.Need-loop-again Inv-loop μ-loop
 loop-again c = rises-on _ _ (c .before .before .before .before .loop .inv) (inside (c .before .before .before)) (is-row (c .before .before)) (c .before .if1 .left) (c .if2 .left)

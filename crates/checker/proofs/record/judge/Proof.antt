@@ -37,7 +37,7 @@ later-is : (c : tie.After-later) → c .later .result .0 ≡ c .before .before .
 later-is c = omega (arith, c .later .ensures, c .before .before .before .before .before .before .before .before .before .before .pre .time)
 
 cast-n : tie.Need-cast-n
-cast-n c = search needs
+cast-n c = omega arith
 
 give-requires : tie.Need-give-requires
 give-requires c κs =

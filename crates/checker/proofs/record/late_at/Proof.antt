@@ -1,3 +1,4 @@
+use native.Mathlib.Omega.{arith}
 use mathlib.Core.Path.{ap}
 use Rattle.checker.specs.Answer.{saidOf}
 use borrow.Author.Needs.{needs}
@@ -5,7 +6,7 @@ use Rattle.checker.proofs.record.late_at.Statement.{statement}
 use Rattle.checker.proofs.record.late_at.Tie as tie
 
 cast-t3 : tie.Need-cast-t3
-cast-t3 c = search needs
+cast-t3 c = omega arith
 
 ended-requires : tie.Need-ended-requires
 ended-requires c κs = search needs

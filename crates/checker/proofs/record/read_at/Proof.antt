@@ -10,7 +10,7 @@ use Rattle.checker.proofs.record.read_at.Statement.{statement}
 use Rattle.checker.proofs.record.read_at.Tie as tie
 
 sub-if1 : tie.Need-sub-if1
-sub-if1 c = search needs
+sub-if1 c = omega arith
 
 found-requires : tie.Need-found-requires
 found-requires c κs = search needs
@@ -43,7 +43,7 @@ byte-requires : tie.Need-byte-requires
 byte-requires c κs = search needs
 
 add-byte : tie.Need-add-byte
-add-byte c = search needs
+add-byte c = omega arith
 
 byte-requires-2 : tie.Need-byte-requires-2
 byte-requires-2 c κs = search needs
@@ -65,13 +65,13 @@ returns-3 c =
     refuses (a .args .cores) (a .args .n) (a .args .trace .now) (a .args .at) 42 (c .found3 .ensures) (omega arith) (omega arith) (rows-are-too-many (a .args .cores) (a .args .n) (a .args .trace .now) (a .args .at) (head (c .before .before .before .before .before)) (cores (c .before .before)) (omega (arith, c .before .if3 .taken, c .before .before .before .before .byte .ensures, c .before .before .before .byte2 .ensures)))
 
 cast-c : tie.Need-cast-c
-cast-c c = search needs
+cast-c c = omega arith
 
 add-first : tie.Need-add-first
-add-first c = search needs
+add-first c = omega arith
 
 sub-if4 : tie.Need-sub-if4
-sub-if4 c = search needs
+sub-if4 c = omega arith
 
 found-requires-4 : tie.Need-found-requires-4
 found-requires-4 c κs = search needs

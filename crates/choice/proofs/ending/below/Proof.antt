@@ -2,7 +2,6 @@ use mathlib.Core.Logic.{⊎-elim}
 use Prim.Native.Nat.{_-_}
 use native.Mathlib.Omega.{arith}
 use lib.Dec.{ltb}
-use borrow.Author.Needs.{needs}
 use borrow.Author.Tests.{lt-ltb, le-ltb}
 use Rattle.facts.proofs.Counting.{Counted, counting-begins, counts-passed, skips-failed, counted-all}
 use Rattle.choice.specs.Classes.{keyIn}
@@ -19,10 +18,10 @@ loop-holds : tie.Need-loop-holds Inv-loop μ-loop
 loop-holds c = counting-begins _ _
 
 mul-key : tie.Need-mul-key Inv-loop μ-loop
-mul-key c = search needs
+mul-key c = omega arith
 
 element-copy-out-key : tie.Need-element-copy-out-key Inv-loop μ-loop
-element-copy-out-key c = search needs
+element-copy-out-key c = omega arith
 
 add-count : tie.Need-add-count Inv-loop μ-loop
 add-count c =
@@ -30,10 +29,10 @@ add-count c =
     omega (arith, c .before .before .before .before .pre, c .before .before .loop-test .taken)
 
 add-j : tie.Need-add-j Inv-loop μ-loop
-add-j c = search needs
+add-j c = omega arith
 
 loop-less : tie.Need-loop-less Inv-loop μ-loop
-loop-less c = search needs
+loop-less c = omega arith
 
 loop-again : tie.Need-loop-again Inv-loop μ-loop
 loop-again c =

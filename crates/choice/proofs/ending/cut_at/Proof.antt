@@ -18,13 +18,13 @@ smallest-requires : tie.Need-smallest-requires
 smallest-requires c κs = search needs
 
 sub-last : tie.Need-sub-last
-sub-last c = search needs
+sub-last c = omega arith
 
 mul-class : tie.Need-mul-class
-mul-class c = search needs
+mul-class c = omega arith
 
 array-read-class : tie.Need-array-read-class
-array-read-class c = search needs
+array-read-class c = omega arith
 
 -- of the smallest, those up to the one behind the picks
 kept : (c : tie.After-smallest) → Smallest (keyIn (c .before .before .args .keys .now)) (c .before .before .args .n) (c .before .before .args .k + 1) (c .smallest .result)
@@ -35,10 +35,10 @@ returns-2 c =
     all-picked _ _ (kept (c .before)) (omega (arith, c .before .before .if1 .left)) refl (c .if2 .taken)
 
 mul-behind : tie.Need-mul-behind
-mul-behind c = search needs
+mul-behind c = omega arith
 
 array-read-behind : tie.Need-array-read-behind
-array-read-behind c = search needs
+array-read-behind c = omega arith
 
 -- past the second test the class is one of rows that are ready
 low : (c : tie.Else2) → getD (c .before .smallest .result) (c .before .before .before .args .k - 1) 0 < most
@@ -57,7 +57,7 @@ below-requires : tie.Need-below-requires
 below-requires c κs = search needs
 
 sub-left : tie.Need-sub-left
-sub-left c = search needs
+sub-left c = omega arith
 
 returns-4 : tie.Need-returns-4
 returns-4 c =

@@ -1,7 +1,6 @@
 use mathlib.Core.Path.{_≡_}
 use Prim.Native.Nat.{_-_, _≤_}
 use native.Mathlib.Omega.{arith}
-use borrow.Author.Needs.{needs}
 use Rattle.choice.specs.Classes.{keyIn, Smallest}
 use Rattle.choice.proofs.Cuts.{smallest-of-none, smallest-of-more}
 use Rattle.choice.proofs.ending.smallest.Statement.{statement}
@@ -17,19 +16,19 @@ loop-holds : tie.Need-loop-holds Inv-loop μ-loop
 loop-holds c = (smallest-of-none _ 9, omega arith)
 
 mul-key : tie.Need-mul-key Inv-loop μ-loop
-mul-key c = search needs
+mul-key c = omega arith
 
 element-copy-out-key : tie.Need-element-copy-out-key Inv-loop μ-loop
-element-copy-out-key c = search needs
+element-copy-out-key c = omega arith
 
 with-key-requires : tie.Need-with-key-requires Inv-loop μ-loop
 with-key-requires c κs = c .before .before .before .loop .inv .0 .rises
 
 add-i : tie.Need-add-i Inv-loop μ-loop
-add-i c = search needs
+add-i c = omega arith
 
 loop-less : tie.Need-loop-less Inv-loop μ-loop
-loop-less c = search needs
+loop-less c = omega arith
 
 loop-again : tie.Need-loop-again Inv-loop μ-loop
 loop-again c =

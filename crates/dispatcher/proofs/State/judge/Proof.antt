@@ -1,3 +1,4 @@
+use native.Mathlib.Omega.{arith}
 use mathlib.Core.Path.{sym, ap, _∙_}
 use Rattle.dispatcher.proofs.Ran.{by-lowest}
 use borrow.Author.Needs.{needs}
@@ -8,7 +9,7 @@ lowest-late-requires : tie.Need-lowest-late-requires
 lowest-late-requires c κs = search needs
 
 cast-n : tie.Need-cast-n
-cast-n c = search needs
+cast-n c = omega arith
 
 done-requires : tie.Need-done-requires
 done-requires c κs = search needs

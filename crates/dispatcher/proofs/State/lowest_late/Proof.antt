@@ -1,10 +1,11 @@
+use native.Mathlib.Omega.{arith}
 use Rattle.dispatcher.proofs.Ran.{lowest-of-state}
 use borrow.Author.Needs.{needs}
 use Rattle.dispatcher.proofs.State.lowest_late.Statement.{statement}
 use Rattle.dispatcher.proofs.State.lowest_late.Tie as tie
 
 cast-n : tie.Need-cast-n
-cast-n c = search needs
+cast-n c = omega arith
 
 lowest-late-requires : tie.Need-lowest-late-requires
 lowest-late-requires c κs = search needs

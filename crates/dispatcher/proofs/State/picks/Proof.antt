@@ -1,3 +1,4 @@
+use native.Mathlib.Omega.{arith}
 use mathlib.Core.Path.{_∙_}
 use Rattle.dispatcher.proofs.Asked.{state-chosen-as-pd2}
 use borrow.Author.Needs.{needs}
@@ -5,7 +6,7 @@ use Rattle.dispatcher.proofs.State.picks.Statement.{statement}
 use Rattle.dispatcher.proofs.State.picks.Tie as tie
 
 cast-n : tie.Need-cast-n
-cast-n c = search needs
+cast-n c = omega arith
 
 picks-requires : tie.Need-picks-requires
 picks-requires c κs = search needs

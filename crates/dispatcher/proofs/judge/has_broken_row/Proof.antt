@@ -1,7 +1,6 @@
 use mathlib.Core.Path.{_≡_, sym, _∙_}
 use Prim.Native.Nat.{_-_, _<_}
 use native.Mathlib.Omega.{arith}
-use borrow.Author.Needs.{needs}
 use lib.ListN.{length, take}
 use Rattle.facts.proofs.Counting.{NoneYet, looking-begins, looks-on, some-if, none-at-all}
 use Rattle.choice.specs.Arrays.{numbersOf}
@@ -20,16 +19,16 @@ loop-holds : tie.Need-loop-holds Inv-loop μ-loop
 loop-holds c = looking-begins _ _
 
 mul-row : tie.Need-mul-row Inv-loop μ-loop
-mul-row c = search needs
+mul-row c = omega arith
 
 array-copy-out-row : tie.Need-array-copy-out-row Inv-loop μ-loop
-array-copy-out-row c = search needs
+array-copy-out-row c = omega arith
 
 mul-given : tie.Need-mul-given Inv-loop μ-loop
-mul-given c = search needs
+mul-given c = omega arith
 
 array-copy-out-given : tie.Need-array-copy-out-given Inv-loop μ-loop
-array-copy-out-given c = search needs
+array-copy-out-given c = omega arith
 
 -- the row in question is one of the first n,
 row-is : (c : tie.In-loop Inv-loop μ-loop) → let a = c .before .before in c .before .loop .i < length (take (a .args .n) (a .args .t1))
@@ -53,10 +52,10 @@ returns : tie.Need-returns Inv-loop μ-loop
 returns c = sym (some-if _ _ _ (row-is (c .before .before .before .before)) (sym (met (c .before)) ∙ c .if1 .taken))
 
 add-i : tie.Need-add-i Inv-loop μ-loop
-add-i c = search needs
+add-i c = omega arith
 
 loop-less : tie.Need-loop-less Inv-loop μ-loop
-loop-less c = search needs
+loop-less c = omega arith
 
 loop-again : tie.Need-loop-again Inv-loop μ-loop
 loop-again c = looks-on _ _ (c .before .before .before .before .before .loop .inv) (row-is (c .before .before .before .before)) (sym (met (c .before)) ∙ c .if1 .left)

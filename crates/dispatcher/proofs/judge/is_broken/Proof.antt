@@ -30,7 +30,7 @@ returns-2 : tie.Need-returns-2
 returns-2 c = by-time _ (no-fault (c .before .before)) (omega (arith, c .if2 .taken, c .before .time .ensures))
 
 cast-n : tie.Need-cast-n
-cast-n c = search needs
+cast-n c = omega arith
 
 -- the arrays of a state have 32 places
 has-broken-row-requires : tie.Need-has-broken-row-requires

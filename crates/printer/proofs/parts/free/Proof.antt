@@ -11,13 +11,13 @@ slots-place-requires : tie.Need-slots-place-requires
 slots-place-requires c κs = search needs
 
 add-half : tie.Need-add-half
-add-half c = search needs
+add-half c = omega arith
 
 half-requires : tie.Need-half-requires
 half-requires c κs = search needs
 
 cast-count : tie.Need-cast-count
-cast-count c = search needs
+cast-count c = omega arith
 
 time-requires : tie.Need-time-requires
 time-requires c κs = search needs
@@ -30,10 +30,10 @@ returns c =
     free-past s (a .before .before .before .before .args .cores) (omega (arith, c .if1 .taken, count, a .time .ensures))
 
 add-byte : tie.Need-add-byte
-add-byte c = search needs
+add-byte c = omega arith
 
 add-byte-2 : tie.Need-add-byte-2
-add-byte-2 c = search needs
+add-byte-2 c = omega arith
 
 byte-requires : tie.Need-byte-requires
 byte-requires c κs = search needs

@@ -20,10 +20,10 @@ loop-holds : tie.Need-loop-holds Inv-loop μ-loop
 loop-holds c = (omega arith, nothing-read _ _ _ _ (search needs))
 
 mul-long : tie.Need-mul-long Inv-loop μ-loop
-mul-long c = search needs
+mul-long c = omega arith
 
 add-long : tie.Need-add-long Inv-loop μ-loop
-add-long c = search needs
+add-long c = omega arith
 
 long-requires : tie.Need-long-requires Inv-loop μ-loop
 long-requires c κs = search needs
@@ -32,16 +32,16 @@ of-requires-2 : tie.Need-of-requires-2 Inv-loop μ-loop
 of-requires-2 c κs = search needs
 
 mul-quanta : tie.Need-mul-quanta Inv-loop μ-loop
-mul-quanta c = search needs
+mul-quanta c = omega arith
 
 array-set-from-quanta : tie.Need-array-set-from-quanta Inv-loop μ-loop
 array-set-from-quanta c = search needs
 
 add-i : tie.Need-add-i Inv-loop μ-loop
-add-i c = search needs
+add-i c = omega arith
 
 loop-less : tie.Need-loop-less Inv-loop μ-loop
-loop-less c = search needs
+loop-less c = omega arith
 
 loop-again : tie.Need-loop-again Inv-loop μ-loop
 loop-again c =

@@ -1,3 +1,4 @@
+use native.Mathlib.Omega.{arith}
 use mathlib.Core.Path.{ap}
 use lib.Dec.{eqb}
 use borrow.Author.Needs.{needs}
@@ -8,7 +9,7 @@ table-requires : tie.Need-table-requires
 table-requires c κs = search needs
 
 add-long : tie.Need-add-long
-add-long c = search needs
+add-long c = omega arith
 
 long-requires : tie.Need-long-requires
 long-requires c κs = search needs
@@ -17,13 +18,13 @@ at-requires : tie.Need-at-requires
 at-requires c κs = search needs
 
 add-byte : tie.Need-add-byte
-add-byte c = search needs
+add-byte c = omega arith
 
 byte-requires : tie.Need-byte-requires
 byte-requires c κs = search needs
 
 add-quanta : tie.Need-add-quanta
-add-quanta c = search needs
+add-quanta c = omega arith
 
 quanta-requires : tie.Need-quanta-requires
 quanta-requires c κs = search needs

@@ -1,3 +1,4 @@
+use native.Mathlib.Omega.{arith}
 use mathlib.Core.Path.{_≡_}
 use Prim.Native.Nat.{_+_, _*_, _-_, _≤_}
 use lib.ListN.{length}
@@ -15,10 +16,10 @@ loop-holds : tie.Need-loop-holds Inv-loop μ-loop
 loop-holds c = search needs
 
 mul-given : tie.Need-mul-given Inv-loop μ-loop
-mul-given c = search needs
+mul-given c = omega arith
 
 array-copy-out-given : tie.Need-array-copy-out-given Inv-loop μ-loop
-array-copy-out-given c = search needs
+array-copy-out-given c = omega arith
 
 count-requires : tie.Need-count-requires Inv-loop μ-loop
 count-requires c κs = search needs
@@ -27,10 +28,10 @@ long-requires : tie.Need-long-requires Inv-loop μ-loop
 long-requires c κs = search needs
 
 add-i : tie.Need-add-i Inv-loop μ-loop
-add-i c = search needs
+add-i c = omega arith
 
 loop-less : tie.Need-loop-less Inv-loop μ-loop
-loop-less c = search needs
+loop-less c = omega arith
 
 loop-again : tie.Need-loop-again Inv-loop μ-loop
 loop-again c = search needs

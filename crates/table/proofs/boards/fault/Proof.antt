@@ -27,7 +27,7 @@ loop-holds : tie.Need-loop-holds Inv-loop μ-loop
 loop-holds c = none-passed _ _ _
 
 array-read-wide : tie.Need-array-read-wide Inv-loop μ-loop
-array-read-wide c = search needs
+array-read-wide c = omega arith
 
 wide-requires : tie.Need-wide-requires Inv-loop μ-loop
 wide-requires c κs = search needs
@@ -43,13 +43,13 @@ returns c =
     ∙ low)
 
 add-least : tie.Need-add-least Inv-loop μ-loop
-add-least c = search needs
+add-least c = omega arith
 
 add-i : tie.Need-add-i Inv-loop μ-loop
-add-i c = search needs
+add-i c = omega arith
 
 loop-less : tie.Need-loop-less Inv-loop μ-loop
-loop-less c = search needs
+loop-less c = omega arith
 
 loop-again : tie.Need-loop-again Inv-loop μ-loop
 loop-again c =

@@ -23,7 +23,7 @@ loop-holds : tie.Need-loop-holds Inv-loop μ-loop
 loop-holds c = reading-begins _ _ _ _ _ _ _ _ refl
 
 add-at : tie.Need-add-at Inv-loop μ-loop
-add-at c = search needs
+add-at c = omega arith
 
 returns : tie.Need-returns Inv-loop μ-loop
 returns c =
@@ -47,10 +47,10 @@ returns-2 c =
     (sym (board-there (at .before .before .args .bytes .now) (at .loop .least) (6 + at .loop .i) (there .if1 .left) ∙ board-too-low _ _ low)) (λ z. omega arith)
 
 array-write-boards : tie.Need-array-write-boards Inv-loop μ-loop
-array-write-boards c = search needs
+array-write-boards c = omega arith
 
 add-least : tie.Need-add-least Inv-loop μ-loop
-add-least c = search needs
+add-least c = omega arith
 
 add-i : tie.Need-add-i Inv-loop μ-loop
 add-i c = omega (arith, c .before .before .before .before .loop-test .taken, c .before .before .before .before .before .before .before .pre)

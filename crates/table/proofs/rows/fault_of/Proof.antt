@@ -1,10 +1,10 @@
+use native.Mathlib.Omega.{arith}
 use mathlib.Core.Path.{_≡_}
 use Prim.Native.Nat.{ℕ, _%_, _≤_, _<_}
 use borrow.Author.Tests.{eq-eqb, ne-eqb, lt-ltb, le-ltb}
 use Rattle.facts.specs.Faults.{firstMet}
 use Rattle.table.specs.declared.Row.{Row}
 use Rattle.table.specs.Causes.{rowTests}
-use borrow.Author.Needs.{needs}
 use Rattle.table.proofs.rows.fault_of.Statement.{statement}
 use Rattle.table.proofs.rows.fault_of.Tie as tie
 
@@ -39,7 +39,7 @@ module _ (cycle least : ℕ) (row : Row) where
           has-none h = simp (le-ltb _ _ rises, ne-eqb _ _ costs, lt-ltb _ _ below, eq-eqb _ _ divides, le-ltb _ _ h)
 
 cast-if1 : tie.Need-cast-if1
-cast-if1 c = search needs
+cast-if1 c = omega arith
 
 returns : tie.Need-returns
 returns c = let x = c .before .before .args in is-low (x .cycle) (x .least) (x .row) (c .if1 .taken)
@@ -58,10 +58,10 @@ returns-3 c =
     costs-all (x .cycle) (x .least) (x .row) (first .if1 .left) (second .if2 .left) (c .if3 .taken)
 
 cast-if4 : tie.Need-cast-if4
-cast-if4 c = search needs
+cast-if4 c = omega arith
 
 rem-if4 : tie.Need-rem-if4
-rem-if4 c = search needs
+rem-if4 c = omega arith
 
 returns-4 : tie.Need-returns-4
 returns-4 c =

@@ -30,10 +30,10 @@ loop-holds c =
     (none-passed _ _ _, added-none _ _ _ (omega (arith, c .pre)))
 
 mul-row : tie.Need-mul-row Inv-loop μ-loop
-mul-row c = search needs
+mul-row c = omega arith
 
 array-copy-out-row : tie.Need-array-copy-out-row Inv-loop μ-loop
-array-copy-out-row c = search needs
+array-copy-out-row c = omega arith
 
 fault-of-requires : tie.Need-fault-of-requires Inv-loop μ-loop
 fault-of-requires c κs = search needs
@@ -52,16 +52,16 @@ quanta-of-requires : tie.Need-quanta-of-requires Inv-loop μ-loop
 quanta-of-requires c κs = search needs
 
 add-sum : tie.Need-add-sum Inv-loop μ-loop
-add-sum c = search needs
+add-sum c = omega arith
 
 above-requires : tie.Need-above-requires Inv-loop μ-loop
 above-requires c κs = search needs
 
 add-i : tie.Need-add-i Inv-loop μ-loop
-add-i c = search needs
+add-i c = omega arith
 
 loop-less : tie.Need-loop-less Inv-loop μ-loop
-loop-less c = search needs
+loop-less c = omega arith
 
 loop-again : tie.Need-loop-again Inv-loop μ-loop
 loop-again c =

@@ -2,7 +2,6 @@ use mathlib.Core.Path.{_≡_, sym, ap, _∙_}
 use Prim.Native.Nat.{ℕ, _*_, _/_, _≤_, _<_}
 use native.Mathlib.Nat.{div-le-self, div-zero, mul-zero, mul-le-mul}
 use native.Mathlib.Omega.{arith}
-use borrow.Author.Needs.{needs}
 use Rattle.table.specs.Limits.{loadLimit}
 use Rattle.table.proofs.rows.quanta_of.Statement.{statement}
 use Rattle.table.proofs.rows.quanta_of.Tie as tie
@@ -20,13 +19,13 @@ returns c =
     (sym (ap (λ jobs. x .row .cost * jobs) none ∙ mul-zero (x .row .cost)), omega arith)
 
 cast-jobs : tie.Need-cast-jobs
-cast-jobs c = search needs
+cast-jobs c = omega arith
 
 div-jobs : tie.Need-div-jobs
-div-jobs c = search needs
+div-jobs c = omega arith
 
 cast-result : tie.Need-cast-result
-cast-result c = search needs
+cast-result c = omega arith
 
 cast-result-2 : tie.Need-cast-result-2
 cast-result-2 c =

@@ -8,7 +8,7 @@ use Rattle.table.proofs.rows.read_one.Statement.{statement}
 use Rattle.table.proofs.rows.read_one.Tie as tie
 
 sub-if1 : tie.Need-sub-if1
-sub-if1 c = search needs
+sub-if1 c = omega arith
 
 returns : tie.Need-returns
 returns c =
@@ -29,7 +29,7 @@ returns-2 c =
     (c .before .fault-of .ensures ∙ ap (λ r. firstMet (rowTests (x .cycle) (x .least) r)) row) (c .if2 .taken)
 
 add-t8 : tie.Need-add-t8
-add-t8 c = search needs
+add-t8 c = omega arith
 
 returns-3 : tie.Need-returns-3
 returns-3 c =
