@@ -6,7 +6,7 @@ use lib.ListN.{length, getD, List·getD-map}
 use Rattle.facts.proofs.Filling.{getD-any}
 use Rattle.counts.specs.declared.Quanta.{Quanta}
 use Rattle.pd2.specs.Choice.{quantaAt}
-use Rattle.choice.specs.Arrays.{numbersOf}
+use Rattle.choice.specs.Choice.{numbersOf}
 
 -- The quanta of the rows stand among the counts.
 pub quanta-there : (quanta : List Quanta) (i : ℕ) (d : Quanta) → i < length quanta → getD quanta i d .0 ≡ quantaAt (numbersOf quanta) i

@@ -17,8 +17,8 @@ use Rattle.counts.specs.Limits.{most}
 use Rattle.table.specs.declared.Row.{Row}
 use Rattle.pd2.specs.Choice.{rowAt, quantaAt}
 use Rattle.trace.specs.Record.{marked}
-use Rattle.choice.specs.Arrays.{numbersOf, InPlace}
-use Rattle.choice.specs.Choice.{saysReady, readyAt}
+use Rattle.choice.specs.Arrays.{InPlace}
+use Rattle.choice.specs.Choice.{numbersOf, saysReady, readyAt}
 use Rattle.choice.specs.Classes.{keyOf, keyIn, KeysAre, groupOf, Told, GroupsAre, tied, inCut}
 use Rattle.pd2.proofs.Choice.{row-there}
 use Rattle.choice.proofs.Arrays.{quanta-there}

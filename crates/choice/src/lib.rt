@@ -15,8 +15,8 @@ ghost use lib.ListN.{length, take};
 ghost use Rattle.trace.specs.Record.{marked};
 ghost use Rattle.facts.specs.Counting.{howMany, those};
 ghost use Rattle.counts.specs.Limits.{most};
-ghost use Rattle.choice.specs.Arrays.{numbersOf, InPlace};
-ghost use Rattle.choice.specs.Choice.{saysReady, chosen};
+ghost use Rattle.choice.specs.Arrays.{InPlace};
+ghost use Rattle.choice.specs.Choice.{numbersOf, saysReady, chosen};
 ghost use Rattle.choice.specs.Classes.{
   keyOf,
   keyIn,
@@ -68,6 +68,7 @@ fn at_most_8(k: u8) -> u8
     if k < 8 { k } else { 8 }
 }
 
+// The same of n rows that stand in their array, and with no more than 8 cores.
 fn choose(rows: [Row; 32], quanta: [Quanta; 32], n: usize, time: Slot, k: u8) -> [bool; 32]
     requires { ⌜ InPlace rows quanta n × (k ≤ 8) ⌝ }
     ensures { λ r. ⌜ (length r ≡ 32) × (marked r ≡ chosen (take n rows) (numbersOf quanta) (time .0) k) ⌝ }

@@ -32,8 +32,7 @@ use Rattle.pd2.specs.Rows.{GaveMarked, isLate}
 use Rattle.trace.specs.declared.Stored.{Stored}
 use Rattle.trace.specs.Record.{recordOf, marked, hasRoom, storedWhere, partAfter}
 use Rattle.trace.specs.Found.{partFound, partBegins}
-use Rattle.choice.specs.Arrays.{numbersOf}
-use Rattle.choice.specs.Choice.{chosen}
+use Rattle.choice.specs.Choice.{numbersOf, chosen}
 use Rattle.dispatcher.specs.declared.State.{State}
 use Rattle.dispatcher.specs.declared.Outcome.{Outcome}
 use Rattle.dispatcher.specs.State.{timeOf, freshOf}

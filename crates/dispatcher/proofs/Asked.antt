@@ -12,10 +12,10 @@ use Rattle.pd2.specs.Share.{CanBe}
 use Rattle.pd2.specs.declared.Verdict.{Verdict}
 use Rattle.pd2.specs.Verdict.{isYes, answered, verdict}
 use Rattle.pd2.proofs.Verdicts.{yes-when-answered}
-use Rattle.choice.specs.Arrays.{numbersOf, InPlace}
+use Rattle.choice.specs.Arrays.{InPlace}
+use Rattle.choice.specs.Choice.{numbersOf, chosen}
 use Rattle.pd2.proofs.Choice.{row-there}
 use Rattle.choice.proofs.Arrays.{quanta-there}
-use Rattle.choice.specs.Choice.{chosen}
 use Rattle.choice.proofs.Chosen.{chosen-as-pd2}
 use Rattle.dispatcher.specs.declared.State.{State}
 use Rattle.dispatcher.specs.State.{rowsIn, quantaIn, timeOf}
