@@ -22,22 +22,22 @@ use Rattle.pd2.specs.Verdict.{answered}
 use Rattle.pd2.specs.Choice.{rowAt, quantaAt}
 use Rattle.pd2.proofs.Verdicts.{in-reach, yes-is-answered}
 use Rattle.choice.specs.Choice.{saysReady}
-use Rattle.choice.specs.Classes.{keyOf, keyIn, KeysAre, groupOf, Told, ClassTold}
+use Rattle.choice.specs.Classes.{keyOf, keyIn, KeysAre, groupOf, HasWindow, ClassHasWindows}
 
--- The windows of a row that is answered to be ready are told,
-pub told-if-ready : (row : Row) (q t : ℕ) → saysReady row q t ≡ true → Told row q
-told-if-ready row q t h =
+-- A row that is answered to be ready has a window,
+pub window-if-ready : (row : Row) (q t : ℕ) → saysReady row q t ≡ true → HasWindow row q
+window-if-ready row q t h =
     let numbers = in-reach row q t (yes-is-answered (answered row q t) (ready row q t) h) in
     record { cost = numbers .0; weight = numbers .1; quanta = numbers .2 }
 
--- and so are those of a row with a key below the largest number.
-pub class-is-told : {rows : List Row} {quanta : List ℕ} {t : ℕ} {keys : List ℕ} → KeysAre rows quanta t keys → {class : ℕ} → class < most →
-    ClassTold rows quanta keys class
+-- and so has one with a key below the largest number.
+pub class-has-windows : {rows : List Row} {quanta : List ℕ} {t : ℕ} {keys : List ℕ} → KeysAre rows quanta t keys → {class : ℕ} → class < most →
+    ClassHasWindows rows quanta keys class
 unfolding keyOf
-class-is-told {rows} {quanta} {t} {keys} keyed {class} low i l same = go (saysReady (rowAt rows i) (quantaAt quanta i) t) refl
+class-has-windows {rows} {quanta} {t} {keys} keyed {class} low i l same = go (saysReady (rowAt rows i) (quantaAt quanta i) t) refl
   where
-    go : (b : Bool) → saysReady (rowAt rows i) (quantaAt quanta i) t ≡ b → Told (rowAt rows i) (quantaAt quanta i)
-    go true e = told-if-ready (rowAt rows i) (quantaAt quanta i) t e
+    go : (b : Bool) → saysReady (rowAt rows i) (quantaAt quanta i) t ≡ b → HasWindow (rowAt rows i) (quantaAt quanta i)
+    go true e = window-if-ready (rowAt rows i) (quantaAt quanta i) t e
     go false e =
         let largest : keyIn keys i ≡ most = keyed .each i l ∙ rw e refl in
         absurd (omega arith)
@@ -47,7 +47,7 @@ pub unready-key : (row : Row) (q t : ℕ) → saysReady row q t ≡ false → (m
 unfolding keyOf
 unready-key row q t h = rw h (refl, λ e. absurd (false≢true e))
 
-module _ (row : Row) (q : ℕ) (u : Told row q) where
+module _ (row : Row) (q : ℕ) (u : HasWindow row q) where
   -- Its windows are within reach, since a phase is.
   pub row-in-reach : row .phase < 65_536 → InReach (row .cost) (row .period) (origin row) q
   row-in-reach small = record { cost = u .cost; weight = u .weight; origin = omega arith; quanta = u .quanta }

@@ -19,7 +19,7 @@ use Rattle.pd2.specs.Choice.{rowAt, quantaAt}
 use Rattle.trace.specs.Record.{marked}
 use Rattle.choice.specs.Arrays.{InPlace}
 use Rattle.choice.specs.Choice.{numbersOf, saysReady, readyAt}
-use Rattle.choice.specs.Classes.{keyOf, keyIn, KeysAre, groupOf, Told, GroupsAre, tied, inCut}
+use Rattle.choice.specs.Classes.{keyOf, keyIn, KeysAre, groupOf, HasWindow, GroupsAre, tied, inCut}
 use Rattle.pd2.proofs.Choice.{row-there}
 use Rattle.choice.proofs.Arrays.{quanta-there}
 
@@ -91,9 +91,9 @@ module _ {rows : List Row} {quanta : List Quanta} {n : ℕ} (place : InPlace row
           let same : j ≡ i = omega arith in
           rw (same, getD-set-same keys i v 0 (omega (arith, so .keyed .long, room))) (own (rw same at h))
 
-  -- what is told of row i is told of it as the code reads it,
-  pub told-there : {key class : ℕ} → (key ≡ class → Told (rowAt (take n rows) i) (quantaAt (numbersOf quanta) i)) → key ≡ class → Told (getD rows i r) (getD quanta i q .0)
-  told-there told same = rw (row-there rows n i r l, quanta-there quanta i q there) (told same)
+  -- row i has a window as the code reads it,
+  pub window-there : {key class : ℕ} → (key ≡ class → HasWindow (rowAt (take n rows) i) (quantaAt (numbersOf quanta) i)) → key ≡ class → HasWindow (getD rows i r) (getD quanta i q .0)
+  window-there told same = rw (row-there rows n i r l, quanta-there quanta i q there) (told same)
 
   -- one group deadline more.
   pub one-more-grouped : (keys : List ℕ) (class : ℕ) {groups : List ℕ} {v : ℕ} → Grouped (take n rows) (numbersOf quanta) keys class groups i →

@@ -58,15 +58,15 @@ groupOf row q key class = cond (eqb key class && not (eqb (class % 2) 1)) (rankO
 abbrev pub groupIn : List ℕ → ℕ → ℕ
 groupIn groups i = getD groups i 0
 
--- A row whose next window windows tells, if its phase is that of a row.
-pub record Told (row : Row) (q : ℕ) : Type 0 where
+-- A row with a next window: windows answers, if the phase is that of a row.
+pub record HasWindow (row : Row) (q : ℕ) : Type 0 where
   pub cost : 0 < row .cost
   pub weight : row .cost ≤ row .period
   pub quanta : q ≤ reach
 
 -- The rows of the class are such rows.
-abbrev pub ClassTold : List Row → List ℕ → List ℕ → ℕ → Type 0
-ClassTold rows quanta keys class = (i : ℕ) → i < length rows → keyIn keys i ≡ class → Told (rowAt rows i) (quantaAt quanta i)
+abbrev pub ClassHasWindows : List Row → List ℕ → List ℕ → ℕ → Type 0
+ClassHasWindows rows quanta keys class = (i : ℕ) → i < length rows → keyIn keys i ≡ class → HasWindow (rowAt rows i) (quantaAt quanta i)
 
 pub record GroupsAre (rows : List Row) (quanta keys : List ℕ) (class : ℕ) (groups : List ℕ) : Type 0 where
   pub each : (i : ℕ) → i < length rows → groupIn groups i ≡ groupOf (rowAt rows i) (quantaAt quanta i) (keyIn keys i) class

@@ -23,8 +23,8 @@ ghost use Rattle.choice.specs.Classes.{
   KeysAre,
   groupOf,
   groupIn,
-  Told,
-  ClassTold,
+  HasWindow,
+  ClassHasWindows,
   GroupsAre,
   goesFirst,
   tied,
@@ -136,7 +136,7 @@ fn groups(
     keys: &[u64; 32],
     class: u64,
 ) -> [u64; 32]
-    requires { ⌜ InPlace rows quanta n × ClassTold (take n rows) (numbersOf quanta) (now keys) class ⌝ }
+    requires { ⌜ InPlace rows quanta n × ClassHasWindows (take n rows) (numbersOf quanta) (now keys) class ⌝ }
     ensures { λ r. ⌜ GroupsAre (take n rows) (numbersOf quanta) (now (keys .entry)) class r ⌝ }
 {
     let mut groups = [0u64; 32];
@@ -153,7 +153,7 @@ fn groups(
 
 // The group deadline of a row in the class. "If both have b = 1": a class with b = 0, whose key is odd, asks for none.
 fn group(row: Row, given: Quanta, key: u64, class: u64) -> u64
-    requires { ⌜ (key ≡ class → Told row (given .0)) ⌝ }
+    requires { ⌜ (key ≡ class → HasWindow row (given .0)) ⌝ }
     ensures { λ r. ⌜ r ≡ groupOf row (given .0) key class ⌝ }
 {
     if key != class {

@@ -20,7 +20,8 @@ use Rattle.choice.proofs.Chosen.{chosen-as-pd2}
 use Rattle.dispatcher.specs.declared.State.{State}
 use Rattle.dispatcher.specs.State.{rowsIn, quantaIn, timeOf}
 use Rattle.dispatcher.specs.Slot.{picksIn}
-use Rattle.dispatcher.specs.Usable.{UsableRow, ofRowAt, Testable, Usable, UsableState}
+use Rattle.dispatcher.specs.Broken.{ofRowAt}
+use Rattle.dispatcher.specs.Usable.{UsableRow, Testable, Usable, UsableState}
 
 -- A question about a usable row is answered.
 pub can-be-asked : {row : Row} {q t : ℕ} → UsableRow row q t → answered row q t ≡ true

@@ -1,5 +1,6 @@
 -- A broken state (01, "What comes back").
 use Prim.Native.Nat.{ℕ}
+use mathlib.Core.List.{List}
 use mathlib.Core.Bool.{Bool, not, _&&_, _||_}
 use lib.Dec.{ltb, eqb}
 use lib.ListN.{length}
@@ -12,9 +13,13 @@ use Rattle.pd2.specs.Choice.{rowAt, quantaAt}
 use Rattle.dispatcher.specs.declared.State.{State}
 use Rattle.dispatcher.specs.State.{rowsIn, quantaIn, timeOf}
 
--- A question about a row and its quanta, put to row i of a state.
+-- A question about a row and its quanta, put to row i,
+abbrev pub ofRowAt : List Row → List ℕ → (Row → ℕ → Bool) → ℕ → Bool
+ofRowAt rows quanta is i = is (rowAt rows i) (quantaAt quanta i)
+
+-- and to row i of a state.
 abbrev pub ofRow : State → (Row → ℕ → Bool) → ℕ → Bool
-ofRow s is i = is (rowAt (rowsIn s) i) (quantaAt (quantaIn s) i)
+ofRow s = ofRowAt (rowsIn s) (quantaIn s)
 
 -- Some row of the state is so.
 abbrev pub someRow : State → (Row → ℕ → Bool) → Bool

@@ -28,10 +28,6 @@ pub record UsableRow (row : Row) (q t : ℕ) : Type 0 where
   pub quanta : q ≤ t
   pub time : t ≤ timeLimit
 
--- A question about a row and its quanta, put to row i.
-abbrev pub ofRowAt : List Row → List ℕ → (Row → ℕ → Bool) → ℕ → Bool
-ofRowAt rows quanta is i = is (rowAt rows i) (quantaAt quanta i)
-
 -- Rows that can be asked whether they break a state: each can be, and the time is within the limit.
 pub record Testable (rows : List Row) (quanta : List Quanta) (n t : ℕ) : Type 0 where
   pub place : InPlace rows quanta n

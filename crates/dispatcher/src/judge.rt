@@ -9,9 +9,9 @@ ghost use lib.ListN.{length, take};
 ghost use Rattle.facts.specs.Counting.{some};
 ghost use Rattle.counts.specs.Limits.{timeLimit};
 ghost use Rattle.pd2.specs.Share.{CanBe};
-ghost use Rattle.dispatcher.specs.Broken.{broken};
+ghost use Rattle.dispatcher.specs.Broken.{ofRowAt, broken};
 ghost use Rattle.choice.specs.Choice.{numbersOf};
-ghost use Rattle.dispatcher.specs.Usable.{ofRowAt, Testable, brokenRow};
+ghost use Rattle.dispatcher.specs.Usable.{Testable, brokenRow};
 
 // Whether the state is broken. The state may be wild: only what passed is looked at further.
 pub(crate) fn is_broken(state: State) -> bool

@@ -3,7 +3,7 @@ use mathlib.Core.Path.{_≡_}
 use native.Mathlib.Decide.{decLt}
 use native.Mathlib.Omega.{arith}
 use Rattle.counts.specs.Limits.{most}
-use Rattle.choice.proofs.Asked.{class-is-told}
+use Rattle.choice.proofs.Asked.{class-has-windows}
 use Rattle.choice.proofs.Picked.{found-are-picks, whole-are-picks}
 use borrow.Author.Needs.{needs}
 use Rattle.choice.proofs.choose.Statement.{statement}
@@ -36,7 +36,7 @@ groups-requires : tie.Need-groups-requires
 groups-requires c κs =
     let cut = c .before .before .before in
     let a = cut .before .before .before in
-    (a .pre .0, class-is-told (cut .before .before .keys .ensures) (below-most _ _ (cut .cut-at .ensures .range) (cut .cut-at .ensures .none) (c .before .if1 .left)))
+    (a .pre .0, class-has-windows (cut .before .before .keys .ensures) (below-most _ _ (cut .cut-at .ensures .range) (cut .cut-at .ensures .none) (c .before .if1 .left)))
 
 marks-requires : tie.Need-marks-requires
 marks-requires c κs = search needs

@@ -2,7 +2,7 @@ use Prim.Native.Nat.{_-_, _<_}
 use native.Mathlib.Omega.{arith}
 use lib.ListN.{length, take}
 use Rattle.choice.specs.Choice.{numbersOf}
-use Rattle.choice.proofs.Filled.{Grouped, told-there, one-more-grouped, all-grouped}
+use Rattle.choice.proofs.Filled.{Grouped, window-there, one-more-grouped, all-grouped}
 use Rattle.facts.proofs.Filling.{filling-begins}
 use Rattle.choice.proofs.groups.Statement.{statement}
 use Rattle.choice.proofs.groups.Tie as tie
@@ -39,7 +39,7 @@ row-is : (c : tie.In-loop Inv-loop μ-loop) → let a = c .before .before in c .
 row-is c = omega (arith, c .loop-test .taken, c .before .before .pre .0 .all)
 
 group-requires : tie.Need-group-requires Inv-loop μ-loop
-group-requires c κs = let start = c .before .before .before .before .before in told-there (start .pre .0) _ _ (row-is (c .before .before .before)) (start .pre .1 _ (row-is (c .before .before .before)))
+group-requires c κs = let start = c .before .before .before .before .before in window-there (start .pre .0) _ _ (row-is (c .before .before .before)) (start .pre .1 _ (row-is (c .before .before .before)))
 
 mul-groups : tie.Need-mul-groups Inv-loop μ-loop
 mul-groups c = omega arith

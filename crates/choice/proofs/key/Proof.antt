@@ -10,8 +10,8 @@ use Rattle.pd2.specs.Ready.{origin}
 use Rattle.pd2.specs.Verdict.{isYes}
 use native.Mathlib.Omega.{arith}
 use Rattle.choice.specs.Choice.{saysReady}
-use Rattle.choice.specs.Classes.{Told}
-use Rattle.choice.proofs.Asked.{told-if-ready, due-is-said, deadline-is-small, unready-key, ready-key}
+use Rattle.choice.specs.Classes.{HasWindow}
+use Rattle.choice.proofs.Asked.{window-if-ready, due-is-said, deadline-is-small, unready-key, ready-key}
 use borrow.Author.Needs.{needs}
 use Rattle.choice.proofs.key.Statement.{statement}
 use Rattle.choice.proofs.key.Tie as tie
@@ -29,12 +29,12 @@ is-ready c = c .is-yes .ensures ∙ ap isYes (c .before .ready .ensures)
 returns : tie.Need-returns
 returns c = unready-key _ _ _ (sym (is-ready (c .before)) ∙ not-true _ (c .if1 .taken))
 
--- past the test it is, so its windows are told
+-- past the test it is, so it has a window
 ready-then : (c : tie.Else1) → let a = c .before .before .before in saysReady (a .args .row) (a .args .given .0) (a .args .slot .0) ≡ true
 ready-then c = sym (is-ready (c .before)) ∙ not-false _ (c .if1 .left)
 
-told : (c : tie.Else1) → let a = c .before .before .before in Told (a .args .row) (a .args .given .0)
-told c = let a = c .before .before .before in told-if-ready (a .args .row) (a .args .given .0) (a .args .slot .0) (ready-then c)
+windowed : (c : tie.Else1) → let a = c .before .before .before in HasWindow (a .args .row) (a .args .given .0)
+windowed c = let a = c .before .before .before in window-if-ready (a .args .row) (a .args .given .0) (a .args .slot .0) (ready-then c)
 
 origin-requires : tie.Need-origin-requires
 origin-requires c κs = search needs
@@ -52,7 +52,7 @@ returns-2 : tie.Need-returns-2
 returns-2 c =
     let a = c .before .before .before .before .before .before .before in
     let small : a .args .row .phase < 65_536 = search needs in
-    let said = due-is-said _ _ (told (c .before .before .before .before)) small (c .before .before .before .origin .ensures) (c .before .before .next-due .ensures) in
+    let said = due-is-said _ _ (windowed (c .before .before .before .before)) small (c .before .before .before .origin .ensures) (c .before .before .next-due .ensures) in
     absurd (true≢false (sym (ap isDue said) ∙ ap isDue (c .enum-told .given .1)))
 
 time-requires : tie.Need-time-requires
@@ -66,7 +66,7 @@ said : (c : tie.After-time) →
 said c =
     let a = c .before .before .before .before .before .before .before .before .before in
     let small : a .args .row .phase < 65_536 = search needs in
-    let is = sym (c .before .before .due .given .1) ∙ due-is-said _ _ (told (c .before .before .before .before .before .before)) small (c .before .before .before .before .before .origin .ensures) (c .before .before .before .before .next-due .ensures) in
+    let is = sym (c .before .before .due .given .1) ∙ due-is-said _ _ (windowed (c .before .before .before .before .before .before)) small (c .before .before .before .before .before .origin .ensures) (c .before .before .before .before .next-due .ensures) in
     (c .time .ensures ∙ ap dueTime is, ap dueBit is)
 
 -- they are small
@@ -77,7 +77,7 @@ small-due c =
     let period : a .args .row .period < 65_536 = search needs in
     let is = said c in
     let row = a .args .row in
-    let low = deadline-is-small row (a .args .given .0) (told (c .before .before .before .before .before .before)) phase period in
+    let low = deadline-is-small row (a .args .given .0) (windowed (c .before .before .before .before .before .before)) phase period in
     let one = bit-is-0-or-1 (row .cost) (row .period) (a .args .given .0 + 1) in
     (omega (arith, is .0, low), ⊎-elim (λ z. omega (arith, is .1, z)) (λ z. omega (arith, is .1, z)) one)
 
@@ -99,7 +99,7 @@ returns-3 c =
     let phase : a .args .row .phase < 65_536 = search needs in
     let period : a .args .row .period < 65_536 = search needs in
     let is = said c in
-    ready-key _ _ (told (c .before .before .before .before .before .before)) phase period _ (ready-then (c .before .before .before .before .before .before)) (is .0) (is .1)
+    ready-key _ _ (windowed (c .before .before .before .before .before .before)) phase period _ (ready-then (c .before .before .before .before .before .before)) (is .0) (is .1)
 
 pub key-spec : {M : Type 1} → statement M
 key-spec =

@@ -4,7 +4,8 @@ use native.Mathlib.Omega.{arith}
 use lib.ListN.{length, take}
 use Rattle.facts.proofs.Counting.{NoneYet, looking-begins, looks-on, some-if, none-at-all}
 use Rattle.choice.specs.Choice.{numbersOf}
-use Rattle.dispatcher.specs.Usable.{ofRowAt, brokenRow}
+use Rattle.dispatcher.specs.Broken.{ofRowAt}
+use Rattle.dispatcher.specs.Usable.{brokenRow}
 use Rattle.dispatcher.proofs.Asked.{can-be-there, as-read}
 use Rattle.dispatcher.proofs.judge.has_broken_row.Statement.{statement}
 use Rattle.dispatcher.proofs.judge.has_broken_row.Tie as tie
