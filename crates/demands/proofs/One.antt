@@ -5,10 +5,12 @@ use mathlib.Core.List.{List}
 use mathlib.Core.Logic.{_⊎_, inl, inr, ⊎-elim}
 use native.Mathlib.Decide.{ℕ-discrete}
 use Rattle.windows.proofs.Question.{windows-are-answered}
+use Rattle.windows.proofs.Windows.{next-start-is-d-less-b}
+use Rattle.windows.proofs.LeastTime.{walk-gives-least-time}
 use Rattle.table.specs.Bytes.{tableNumber, tableIn}
-use Rattle.table.proofs.Taken.{numbers-are-first-causes, numbers-are-10-to-22, taken-where-no-cause, no-table-read}
+use Rattle.table.proofs.Taken.{number-read, table-read, numbers-are-first-causes, numbers-are-10-to-22, taken-where-no-cause, no-table-read, past-is-zero}
 use Rattle.trace.specs.Said.{bare}
-use Rattle.trace.proofs.Found.{found-if-all-inside}
+use Rattle.trace.proofs.Found.{found-if-all-inside, part-is-record}
 use Rattle.dispatcher.proofs.Kept.{refusals-are-first-causes, refusal-changes-nothing, fault-answers-30}
 use Rattle.dispatcher.proofs.Places.{slot-numbers, bare-unless-late, past-is-returned, past-is-ignored}
 use Rattle.checker.specs.Check.{traceSaid, checkOf}
@@ -18,7 +20,7 @@ use Rattle.demands.specs.One.{Tables, Slots, Checks, HandsBack, DemandOn
 use Rattle.demands.proofs.Determined.{every-promise-determines}
 
 tables : Tables
-tables = record { numbers = numbers-are-10-to-22; refused = numbers-are-first-causes; taken = taken-where-no-cause; no-table = no-table-read }
+tables = record { numbers = numbers-are-10-to-22; refused = numbers-are-first-causes; taken = taken-where-no-cause; number = number-read; table = table-read; past = past-is-zero; no-table = no-table-read }
 
 slots : Slots
 slots =
@@ -80,10 +82,10 @@ pub demand-one : DemandOne
 demand-one =
     record {
       determined = every-promise-determines;
-      windows = windows-are-answered;
+      windows = record { answered = windows-are-answered; next-start = next-start-is-d-less-b; group = walk-gives-least-time };
       tables = tables;
       slots = slots;
       checks = checks;
-      records = found-if-all-inside;
+      records = record { found = found-if-all-inside; itself = part-is-record; begins = λ trace s h. rw h refl; nothing = λ trace s h. (rw h, rw h) };
       hands-back = hands-back;
     }

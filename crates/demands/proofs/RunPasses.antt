@@ -1,12 +1,15 @@
 -- The trace of a run passes the check, or the check names the row and the time that the run named. Assumes nothing.
-use Prim.Native.Nat.{ℕ, zero, suc, _+_, _≤_, _<_}
+use Prim.Native.Nat.{ℕ, zero, suc, _+_, _≤_, _<_, zero-le}
 use mathlib.Core.Path.{_≡_, refl, sym, ap, _∙_, subst}
-use mathlib.Core.List.{List}
+use mathlib.Core.List.{List, [], _∷_}
 use mathlib.Core.Bool.{true}
+use mathlib.Core.Logic.{_⊎_, inl, inr}
+use native.Mathlib.Decide.{ℕ-discrete, decLe, decLt}
 use native.Mathlib.Numerals.{add-one}
 use native.Mathlib.Omega.{arith}
-use lib.ListN.{length}
+use lib.ListN.{length, take, drop}
 use Rattle.facts.specs.First.{Lowest}
+use Rattle.facts.specs.Findings.{firstFound}
 use Rattle.facts.proofs.First.{same-lowest}
 use Rattle.table.specs.declared.Table.{Table}
 use Rattle.table.specs.Value.{faultOf, rowsOf}
@@ -14,22 +17,25 @@ use Rattle.pd2.specs.Ready.{ready, late}
 use Rattle.pd2.specs.Share.{upper, within}
 use Rattle.pd2.specs.Choice.{rowAt}
 use Rattle.pd2.proofs.Share.{row-can-be, upper-after-quantum-means-ready}
-use Rattle.trace.specs.Records.{firstPlace, names, rowsOfSlot, timesNamed, count}
-use Rattle.trace.specs.Said.{named}
+use Rattle.trace.specs.Records.{firstPlace, placeOf, names, rowsOfSlot, timesNamed, count}
+use Rattle.trace.specs.Said.{bare, named}
 use Rattle.trace.proofs.Records.{counted-if-named}
-use Rattle.dispatcher.specs.State.{timeOf}
-use Rattle.dispatcher.specs.Run.{Run, run}
+use Rattle.dispatcher.specs.State.{timeOf, freshOf}
+use Rattle.dispatcher.specs.Slot.{slotOf}
+use Rattle.dispatcher.specs.Run.{Run, run, oneMore}
 use Rattle.dispatcher.specs.RunKept.{quantaNow}
 use Rattle.dispatcher.proofs.Whole.{is-whole}
+use Rattle.dispatcher.proofs.Kept.{done-is-not-refused, goes, fault-answers-30}
 use Rattle.dispatcher.proofs.RunKept.{going, one-on, first-late-is-owed, first-late-is-lowest, quanta-are-records}
 use Rattle.dispatcher.proofs.Written.{Written, written-going, written-last, shares-written, shares-before, ends-late}
 use Rattle.checker.specs.Causes.{slotLimit, tooLate}
-use Rattle.checker.specs.Check.{traceSaid}
+use Rattle.checker.specs.Check.{recordsFindings, traceSaid}
+use Rattle.checker.specs.WellFormed.{WellFormed}
 use Rattle.checker.proofs.Sound.{InTime}
 use Rattle.checker.proofs.Rows.{within-was-ready, within-not-late}
 use Rattle.checker.proofs.Passes.{passes-in-shares, checked-as-table}
 use Rattle.checker.proofs.Late.{late-is-said}
-use Rattle.demands.specs.RunPasses.{withCount, traceOf, SaysTheSame, IsTrace, RunPasses}
+use Rattle.demands.specs.RunPasses.{wordBytes, withCount, traceOf, SaysTheSame, IsTrace, RunPasses}
 use Rattle.demands.proofs.WithCount.{slots-are, count-is, is-well-formed}
 
 -- What is known of a run is known of its trace, if it is of its records with the count in front.
@@ -148,9 +154,10 @@ module _ (table : Table) (free : ℕ → ℕ) (buffer : List ℕ) (sound : fault
           late = λ z. said ∙ ap (named 45 (last .said .row)) (sym (first .time));
         }
 
--- D5: the trace of a run passes the check, or the check names the row and the time that the run named.
-pub run-passes : RunPasses
-run-passes table free buffer m sound starts h = go (run table free buffer firstPlace m .said .number) refl h
+-- So of a table without fault, in a buffer with a place for the first record.
+run-of-sound-passes : (table : Table) (free : ℕ → ℕ) (buffer : List ℕ) → faultOf table ≡ 0 → firstPlace ≤ length buffer → (m : ℕ) →
+    run table free buffer firstPlace m .said .number < 2 → IsTrace table (run table free buffer firstPlace m)
+run-of-sound-passes table free buffer sound starts m h = go (run table free buffer firstPlace m .said .number) refl h
   where
     go : (number : ℕ) → run table free buffer firstPlace m .said .number ≡ number → number < 2 → IsTrace table (run table free buffer firstPlace m)
     go zero e l = passes-going table free buffer sound starts m e
@@ -158,3 +165,74 @@ run-passes table free buffer m sound starts h = go (run table free buffer firstP
         let ends = ends-late table free buffer firstPlace m e in
         rw (ends .same) (named-late table free buffer sound starts (ends .slots) (ends .before) (ends .late))
     go (suc (suc number)) e l = absurd (omega arith)
+
+-- A run of no slots has the empty trace, which passes for every table.
+module _ (table : Table) where
+  abbrev no-records : List ℕ
+  no-records = 0 ∷ 0 ∷ 0 ∷ 0 ∷ []
+
+  nothing-behind : (n : ℕ) (b : List ℕ) → drop n (take n b) ≡ []
+  nothing-behind zero b = refl
+  nothing-behind (suc n) [] = refl
+  nothing-behind (suc n) (x ∷ b) = nothing-behind n b
+
+  no-slots : (b : List ℕ) → withCount 0 b firstPlace ≡ no-records
+  unfolding wordBytes
+  no-slots b = ap (λ rest. 0 ∷ 0 ∷ 0 ∷ 0 ∷ rest) (nothing-behind firstPlace b)
+
+  nothing-is-found : traceSaid table no-records ≡ bare 0
+  unfolding traceSaid firstFound recordsFindings placeOf
+  nothing-is-found = refl
+
+  empty-is-well-formed : WellFormed table no-records
+  unfolding placeOf
+  empty-is-well-formed = record { count = refl; limit = refl; records = λ t l. absurd (omega arith); end = refl }
+
+  empty-is-trace : (free : ℕ → ℕ) (buffer : List ℕ) → IsTrace table (run table free buffer firstPlace 0)
+  unfolding run
+  empty-is-trace free buffer =
+      let same = no-slots buffer in
+      let said : SaysTheSame (bare 0) (traceSaid table no-records) = record { passes = λ z. nothing-is-found; late = λ z. absurd (omega (arith, z)) } in
+      record {
+        slots = rw same refl;
+        limit = zero-le;
+        well-formed = rw same empty-is-well-formed;
+        checked = rw same said;
+        checked-by-bytes = λ bytes e t. rw (same, checked-as-table table no-records bytes e t) said;
+      }
+
+-- The first slot is refused if the table has a fault, or if the place lies past the buffer,
+module _ (table : Table) (free : ℕ → ℕ) (buffer : List ℕ) where
+  first-refused : (faultOf table ≡ 0 → ⊥) ⊎ (length buffer < firstPlace) → 1 < slotOf (freshOf table) (free 0) buffer firstPlace .said .number
+  first-refused (inl bad) = omega (arith, ap (λ x. x .number) (fault-answers-30 table bad (free 0) buffer firstPlace))
+  first-refused (inr short) = go (decLt (slotOf (freshOf table) (free 0) buffer firstPlace .said .number) 2)
+    where
+      go : Dec (slotOf (freshOf table) (free 0) buffer firstPlace .said .number < 2) → 1 < slotOf (freshOf table) (free 0) buffer firstPlace .said .number
+      go (yes done) = absurd (omega (arith, goes (freshOf table) (free 0) buffer firstPlace (done-is-not-refused (freshOf table) (free 0) buffer firstPlace done) .room))
+      go (no refused) = omega arith
+
+  -- and then so is the last answer of every run with a slot.
+  all-refused : 1 < slotOf (freshOf table) (free 0) buffer firstPlace .said .number → (m : ℕ) → 1 < run table free buffer firstPlace (suc m) .said .number
+  unfolding run
+  all-refused h zero = h
+  all-refused h (suc m) = go (run table free buffer firstPlace (suc m)) (all-refused h m)
+    where
+      go : (r : Run) → 1 < r .said .number → 1 < oneMore (r .said .number) r (free (suc m)) .said .number
+      go r l = stays (r .said .number) refl l
+        where
+          stays : (number : ℕ) → r .said .number ≡ number → 1 < number → 1 < oneMore number r (free (suc m)) .said .number
+          stays zero e l = absurd (omega arith)
+          stays (suc number) e l = rw e l
+
+-- D5: the trace of a run passes the check, or the check names the row and the time that the run named.
+pub run-passes : RunPasses
+run-passes table free buffer m h = go m h (ℕ-discrete (faultOf table) 0) (decLe firstPlace (length buffer))
+  where
+    refused : (m : ℕ) → (faultOf table ≡ 0 → ⊥) ⊎ (length buffer < firstPlace) → run table free buffer firstPlace m .said .number < 2 → IsTrace table (run table free buffer firstPlace m)
+    refused zero why l = empty-is-trace table free buffer
+    refused (suc m) why l = absurd (omega (arith, all-refused table free buffer (first-refused table free buffer why) m))
+
+    go : (m : ℕ) → run table free buffer firstPlace m .said .number < 2 → Dec (faultOf table ≡ 0) → Dec (firstPlace ≤ length buffer) → IsTrace table (run table free buffer firstPlace m)
+    go m l (yes sound) (yes starts) = run-of-sound-passes table free buffer sound starts m l
+    go m l (no bad) starts = refused m (inl bad) l
+    go m l (yes sound) (no short) = refused m (inr (omega arith)) l

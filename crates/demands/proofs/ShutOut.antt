@@ -2,6 +2,7 @@
 use Prim.Native.Nat.{ℕ}
 use mathlib.Core.Path.{_≡_, refl, sym, ap, _∙_}
 use mathlib.Core.List.{List, [], _∷_}
+use mathlib.Core.Bool.{true}
 use native.Mathlib.Omega.{arith}
 use lib.ListN.{getD, replicate}
 use Rattle.facts.specs.Rounding.{ceilDiv}
@@ -31,6 +32,7 @@ use Rattle.dispatcher.specs.Slot.{Given, refusal, slotOf}
 use Rattle.checker.specs.Causes.{badRows}
 use Rattle.checker.specs.Check.{recordsFindings, traceSaid, checkOf}
 use Rattle.demands.specs.Bench.{exampleTrace}
+use Rattle.demands.specs.Inputs.{allBelow, Bytes, rowsFit, Possible}
 use Rattle.demands.specs.ShutOut.{Dispatcher, IsDispatcher, numberOf, rowsWritten, GivesAsRecorded, ShutOutOf, ShutOut}
 use Rattle.demands.proofs.Two.{picks-are-pd2s}
 
@@ -59,9 +61,15 @@ record Computed : Type 0 where
   rows1 : rowsAt (slot1 .bytes) 0 ≡ 0 ∷ 2 ∷ []
   passes : checkOf example exampleTrace ≡ bare 0
   late : checkOf example lateTrace ≡ named 45 2 2
+  bytes : Bytes example
+  trace-bytes : Bytes exampleTrace
+  late-bytes : Bytes lateTrace
+  can0 : Possible (freshOf (tableIn example)) 2 blank 0
+  can1 : Possible (slot0 .state) 2 blank 0
+  can-again : Possible (freshOf (slot0 .state .table)) 2 blank 0
 
 computed : Computed
-unfolding ceilDiv atFirst howMany those firstMet rising firstFound places padded start deadline bit windowLength jobStart heavy stops stopTime groupDeadline load faultOf tableNumber reading ready late lower upper before picked given withFront withRecord placeOf names broken refusal slotOf badRows recordsFindings traceSaid checkOf
+unfolding allBelow rowsFit ceilDiv atFirst howMany those firstMet rising firstFound places padded start deadline bit windowLength jobStart heavy stops stopTime groupDeadline load faultOf tableNumber reading ready late lower upper before picked given withFront withRecord placeOf names broken refusal slotOf badRows recordsFindings traceSaid checkOf
 computed =
     record {
       taken = refl;
@@ -74,6 +82,12 @@ computed =
       rows1 = refl;
       passes = refl;
       late = refl;
+      bytes = refl;
+      trace-bytes = refl;
+      late-bytes = refl;
+      can0 = record { boards = refl; rows = refl; quanta = refl; table = refl; counts = refl; free = refl; bytes = refl };
+      can1 = record { boards = refl; rows = refl; quanta = refl; table = refl; counts = refl; free = refl; bytes = refl };
+      can-again = record { boards = refl; rows = refl; quanta = refl; table = refl; counts = refl; free = refl; bytes = refl };
     }
 
 -- A dispatcher answers and writes in the example's slots 0 and 1 what the definition says.
@@ -82,52 +96,71 @@ module _ (slot : Dispatcher) (is : IsDispatcher slot) where
   fresh = freshOf (tableIn example)
 
   number0 : numberOf (slot fresh 2 blank 0) ≡ 0
-  number0 = ap (λ x. x .number) (is fresh 2 blank 0 .0 ∙ computed .said0)
+  number0 = ap (λ x. x .number) (is fresh 2 blank 0 (computed .can0) .0 ∙ computed .said0)
 
   rows0 : rowsWritten (slot fresh 2 blank 0) 0 ≡ 0 ∷ 1 ∷ []
-  rows0 = ap (λ b. rowsAt b 0) (is fresh 2 blank 0 .2) ∙ computed .rows0
+  rows0 = ap (λ b. rowsAt b 0) (is fresh 2 blank 0 (computed .can0) .2) ∙ computed .rows0
 
   number1 : numberOf (slot (slot0 .state) 2 blank 0) ≡ 0
-  number1 = ap (λ x. x .number) (is (slot0 .state) 2 blank 0 .0 ∙ computed .said1)
+  number1 = ap (λ x. x .number) (is (slot0 .state) 2 blank 0 (computed .can1) .0 ∙ computed .said1)
 
   rows1 : rowsWritten (slot (slot0 .state) 2 blank 0) 0 ≡ 0 ∷ 2 ∷ []
-  rows1 = ap (λ b. rowsAt b 0) (is (slot0 .state) 2 blank 0 .2) ∙ computed .rows1
+  rows1 = ap (λ b. rowsAt b 0) (is (slot0 .state) 2 blank 0 (computed .can1) .2) ∙ computed .rows1
 
   -- slot 0 once more, from a fresh state of the table that slot 0 gave back
   rows-again : rowsWritten (slot (freshOf (slot0 .state .table)) 2 blank 0) 0 ≡ 0 ∷ 1 ∷ []
-  rows-again = ap (λ b. rowsAt b 0) (is (freshOf (slot0 .state .table)) 2 blank 0 .2 ∙ computed .again) ∙ computed .rows0
+  rows-again = ap (λ b. rowsAt b 0) (is (freshOf (slot0 .state .table)) 2 blank 0 (computed .can-again) .2 ∙ computed .again) ∙ computed .rows0
+
+  names1 : names (0 ∷ 1 ∷ []) 1 ≡ true
+  unfolding names
+  names1 = refl
 
   -- Lists of rows are told apart by their second row, or 7 where there is none.
   second : List ℕ → ℕ
   second rows = getD rows 1 7
 
   gives-as-recorded : GivesAsRecorded slot
-  gives-as-recorded s k buffer place done long i =
-      let so = is s k buffer place in
+  gives-as-recorded s k buffer place can done i =
+      let so = is s k buffer place can in
       let picks = picks-are-pd2s s k buffer place (omega (arith, done, ap (λ x. x .number) (so .0))) in
-      rw (so .1, so .2) (picks .quanta long i)
+      rw (so .1, so .2) (picks .quanta (can .quanta) i)
 
   shut-out-of : ShutOutOf slot
   unfolding second
   shut-out-of =
       record {
-        refuses-all = λ h. omega (arith, number0, h fresh 2 blank 0);
-        picks-nobody = λ h. let z : _≡_ {A = ℕ} 1 7 = ap second (sym rows0 ∙ h fresh 2 blank 0 (omega (arith, number0))) in omega arith;
-        always-row-0 = λ h. let z : _≡_ {A = ℕ} 1 7 = ap second (sym rows0 ∙ h fresh 2 blank 0 (omega (arith, number0))) in omega arith;
+        refuses-all = λ h. omega (arith, number0, h fresh 2 blank 0 (computed .can0));
+        picks-nobody = λ h. let z : _≡_ {A = ℕ} 1 7 = ap second (sym rows0 ∙ h fresh 2 blank 0 (computed .can0) (omega (arith, number0))) in omega arith;
+        always-row-0 = λ h. let z : _≡_ {A = ℕ} 1 0 = h fresh 2 blank 0 (computed .can0) (omega (arith, number0)) 1 (ap (λ rows. names rows 1) rows0 ∙ names1) in omega arith;
         changes-nothing = λ h.
-            let z : _≡_ {A = ℕ} 1 0 = sym (ap timeOf (is fresh 2 blank 0 .1) ∙ computed .time0) ∙ ap timeOf (h fresh 2 blank 0 number0 .0) in
+            let z : _≡_ {A = ℕ} 1 0 = sym (ap timeOf (is fresh 2 blank 0 (computed .can0) .1) ∙ computed .time0) ∙ ap timeOf (h fresh 2 blank 0 (computed .can0) number0 .0) in
             omega arith;
-        repeats-slot-0 = λ h. let z : _≡_ {A = ℕ} 2 1 = ap second (sym rows1 ∙ (h (slot0 .state) 2 blank 0 (omega (arith, number1)) ∙ rows-again)) in omega arith;
+        repeats-slot-0 = λ h. let z : _≡_ {A = ℕ} 2 1 = ap second (sym rows1 ∙ (h (slot0 .state) 2 blank 0 (computed .can1) (omega (arith, number1)) ∙ rows-again)) in omega arith;
         gives-as-recorded = gives-as-recorded;
       }
 
+-- What the definitions say of the example and of the two traces, said of a number that is equal.
+module _ {number : ℕ} where
+  takes : number ≡ tableNumber example → number ≡ 0
+  takes e = e ∙ computed .taken
+
+  passes : number ≡ checkOf example exampleTrace .number → number ≡ 0
+  passes e = e ∙ ap (λ x. x .number) (computed .passes)
+
+  is-late : number ≡ checkOf example lateTrace .number → number ≡ 0 → ⊥
+  is-late e none = omega (arith, e ∙ ap (λ x. x .number) (computed .late), none)
+
 pub shut-out : ShutOut
 shut-out =
+    let b = computed .bytes in
+    let t = computed .trace-bytes in
+    let l = computed .late-bytes in
     record {
-      reader = λ read is none. none example (ap (λ r. r .number) (is example) ∙ computed .read);
+      reader = λ read is none. none example b (ap (λ r. r .number) (is example b) ∙ computed .read);
       dispatcher = shut-out-of;
-      always-passes = λ check is always.
-          let z : _≡_ {A = ℕ} 45 0 = ap (λ x. x .number) (sym (is example lateTrace ∙ computed .late)) ∙ always example lateTrace (computed .taken) in
-          omega arith;
-      never-passes = λ check is never. never example exampleTrace (ap (λ x. x .number) (is example exampleTrace ∙ computed .passes));
+      always-passes = λ check is always. is-late (ap (λ x. x .number) (is example lateTrace b l)) (always example lateTrace b l (computed .taken));
+      never-passes = λ check is never. never example exampleTrace b t (passes (ap (λ x. x .number) (is example exampleTrace b t)));
+      board-takes-none = λ check is none. none example b (takes (is example b));
+      board-always-passes = λ check is always. is-late (is example lateTrace b l) (always example lateTrace b l (computed .taken));
+      board-never-passes = λ check is never. never example exampleTrace b t (passes (is example exampleTrace b t));
     }

@@ -1,10 +1,11 @@
 -- Demand 3. Assumes nothing.
-use Prim.Native.Nat.{ℕ, _≤_, _<_}
+use Prim.Native.Nat.{ℕ, _*_, _≤_, _<_, zero-le}
 use mathlib.Core.Path.{_≡_, refl, sym, ap, _∙_, subst}
-use mathlib.Core.List.{[]}
+use mathlib.Core.List.{List, []}
 use mathlib.Core.Bool.{Bool, true, false, true≢false}
 use mathlib.Core.Logic.{_↔_}
-use native.Mathlib.Decide.{decLt}
+use native.Mathlib.Decide.{decLt, ℕ-discrete}
+use native.Mathlib.Nat.{mul-zero, div-le-self}
 use native.Mathlib.Omega.{arith}
 use lib.ListN.{length}
 use Rattle.table.specs.declared.Row.{Row}
@@ -13,18 +14,18 @@ use Rattle.table.specs.Value.{faultOf, rowsOf}
 use Rattle.table.specs.Bytes.{tableIn}
 use Rattle.table.proofs.Taken.{taken-value-has-no-fault}
 use Rattle.pd2.specs.Ready.{early, late}
-use Rattle.pd2.specs.Share.{upper, within, CanBe}
+use Rattle.pd2.specs.Share.{elapsed, upper, within, CanBe}
 use Rattle.pd2.specs.Choice.{rowAt, quantaAt}
 use Rattle.pd2.proofs.Share.{row-can-be, upper-means-share-rounded-up, upper-means-cost-of-jobs-released, plain-within-means-share, early-within-means-share, late-exactly-if-owed}
 use Rattle.trace.specs.Records.{timesNamed}
 use Rattle.trace.specs.Said.{Said}
 use Rattle.dispatcher.specs.declared.State.{State}
-use Rattle.dispatcher.specs.State.{rowsIn, quantaIn, timeOf}
+use Rattle.dispatcher.specs.State.{rowsIn, quantaIn, timeOf, freshOf}
 use Rattle.dispatcher.specs.Broken.{broken}
 use Rattle.dispatcher.specs.Slot.{slotOf}
 use Rattle.dispatcher.specs.Kept.{After}
-use Rattle.dispatcher.proofs.Whole.{is-whole}
-use Rattle.dispatcher.proofs.Kept.{refusal-changes-nothing, done-makes-the-step, done-keeps-whole, fresh-is-whole}
+use Rattle.dispatcher.proofs.Whole.{is-whole, nothing-given}
+use Rattle.dispatcher.proofs.Kept.{refusal-changes-nothing, done-makes-the-step, done-keeps-whole, fresh-is-whole, fault-answers-30}
 use Rattle.dispatcher.proofs.RunKept.{one-when-owed, quanta-are-records, records-stand-in-turn}
 use Rattle.checker.proofs.Passes.{passes-in-shares, checked-as-table}
 use Rattle.demands.specs.Three.{upperLimit, InLimits, PassesInLimits, FromFresh, KeepsLimits, IsOwed, Reports, ReportsLate, DemandThree}
@@ -92,12 +93,37 @@ kept table _ sound (FromFresh.slot s k buffer place from not-late) = go (decLt (
         }
     go (no refused) so = subst (Kept table) (sym (refusal-changes-nothing s k buffer place (omega arith) .0)) so
 
+-- A table with a fault stays fresh: each slot answers 30.
+stays-fresh : (table : Table) (s : State) → (faultOf table ≡ 0 → ⊥) → FromFresh table s → s ≡ freshOf table
+stays-fresh table _ bad FromFresh.start = refl
+stays-fresh table _ bad (FromFresh.slot s k buffer place from not-late) =
+    let same = stays-fresh table s bad from in
+    let said : slotOf s k buffer place .said .number ≡ 30 =
+    ap (λ x. slotOf x k buffer place .said .number) same ∙ ap (λ x. x .number) (fault-answers-30 table bad k buffer place) in
+    refusal-changes-nothing s k buffer place (omega (arith, said)) .0 ∙ same
+
+-- and at time 0 nothing is more or less than any row's limits.
+nothing-in-limits : (row : Row) → InLimits row 0 0
+nothing-in-limits row =
+    let none : row .cost * elapsed row 0 ≡ 0 = ap (λ a. row .cost * a) {x = elapsed row 0} {y = 0} (omega arith) ∙ mul-zero (row .cost) in
+    record { at-least = omega (arith, none, div-le-self (row .cost * elapsed row 0) (row .period)); at-most = zero-le }
+
 -- So every row is in its limits.
-keeps-limits : KeepsLimits
-keeps-limits table s sound from =
+keeps-sound : (table : Table) (s : State) → faultOf table ≡ 0 → FromFresh table s → (i : ℕ) → i < length (rowsOf table) →
+    InLimits (rowAt (rowsOf table) i) (quantaAt (quantaIn s) i) (timeOf s)
+keeps-sound table s sound from =
     let so = kept table s sound from in
     subst (λ x. (i : ℕ) → i < length (rowsOf x) → InLimits (rowAt (rowsOf x) i) (quantaAt (quantaIn s) i) (timeOf s)) (so .same)
     (λ i l. in-limits (rowAt (rowsIn s) i) (row-can-be (s .table) (is-whole s (so .whole) .table) i l) (quantaAt (quantaIn s) i) (timeOf s) .0 (is-whole s (so .whole) .shares (so .runs) i l))
+
+keeps-limits : KeepsLimits
+keeps-limits table s from i l = go (ℕ-discrete (faultOf table) 0)
+  where
+    go : Dec (faultOf table ≡ 0) → InLimits (rowAt (rowsOf table) i) (quantaAt (quantaIn s) i) (timeOf s)
+    go (yes sound) = keeps-sound table s sound from i l
+    go (no bad) =
+        subst (λ x. InLimits (rowAt (rowsOf table) i) (quantaAt (quantaIn x) i) (timeOf x)) (sym (stays-fresh table s bad from))
+        (rw (nothing-given table i) (nothing-in-limits (rowAt (rowsOf table) i)))
 
 -- What a slot that is done reports, of its own table.
 module _ (said : Said) (s : State) (after : After s said) (done : said .number < 2) where
@@ -126,10 +152,8 @@ module _ (said : Said) (s : State) (after : After s said) (done : said .number <
 
 -- And so of the table that it began with.
 reports-late : ReportsLate
-reports-late table s sound from k buffer place done =
-    let so = kept table s sound from in
-    let same = ap (λ x. x .table) (done-makes-the-step s k buffer place done .0) ∙ so .same in
-    subst (λ x. Reports x (slotOf s k buffer place .said) (slotOf s k buffer place .state)) same
+reports-late s k buffer place done =
+    subst (λ x. Reports x (slotOf s k buffer place .said) (slotOf s k buffer place .state)) (ap (λ x. x .table) (done-makes-the-step s k buffer place done .0))
     (reports (slotOf s k buffer place .said) (slotOf s k buffer place .state) (done-keeps-whole s k buffer place done) done)
 
 pub demand-three : DemandThree

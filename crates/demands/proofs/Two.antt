@@ -7,15 +7,16 @@ use Rattle.table.specs.Bytes.{tableNumber, tableIn}
 use Rattle.table.proofs.Taken.{taken-value-has-no-fault}
 use Rattle.pd2.specs.Order.{before}
 use Rattle.pd2.specs.Choice.{quantaAt, readyIn, firstBy}
+use Rattle.pd2.proofs.Order.{before-means-rule}
 use Rattle.pd2.proofs.Picks.{picks-are-best}
 use Rattle.pd2.proofs.Choice.{pd2-is-strict}
-use Rattle.trace.specs.Records.{freeAt, rowsAt}
+use Rattle.trace.specs.Records.{freeAt, rowsAt, names}
 use Rattle.trace.specs.Said.{bare}
 use Rattle.trace.proofs.Agree.{free-written, rows-written}
 use Rattle.dispatcher.specs.State.{rowsIn, quantaIn, timeOf}
 use Rattle.dispatcher.specs.Slot.{picksIn}
 use Rattle.dispatcher.proofs.Whole.{is-whole}
-use Rattle.dispatcher.proofs.Kept.{done-is-not-refused, goes, done-makes-the-step, quanta-after}
+use Rattle.dispatcher.proofs.Kept.{done-is-not-refused, goes, done-makes-the-step, named-is-ready, quanta-after, done-keeps-whole}
 use Rattle.dispatcher.proofs.Places.{at-most-one-quantum}
 use Rattle.checker.specs.Check.{checkOf}
 use Rattle.checker.specs.WellFormed.{WellFormed}
@@ -36,6 +37,9 @@ picks-are-pd2s s k buffer place done =
       best = picks-are-best (readyIn (rowsIn s) (quantaIn s) (timeOf s)) (firstBy before (rowsIn s) (quantaIn s)) (length (rowsIn s)) k (pd2-is-strict (rowsIn s) (quantaIn s) (timeOf s) (length (rowsIn s)));
       quanta = λ long i. ap (λ x. quantaAt (quantaIn x) i) (step .0) ∙ rw rows (quanta-after s k (is-whole s (so .whole)) long i);
       time = ap timeOf (step .0);
+      ready = λ i h. named-is-ready s k i (sym (ap (λ l. names l i) rows) ∙ h);
+      stops = done-keeps-whole s k buffer place done .stops;
+      runs-on = done-keeps-whole s k buffer place done .runs-on;
     }
 
 -- The bytes of a table that is taken are checked as the table is; where it is not taken, nothing passes.
@@ -56,4 +60,4 @@ passes-exactly bytes s = (
     taken passes (no n) = ap (λ x. x .number) (sym (judges-table-first bytes s .0 n) ∙ passes)
 
 pub demand-two : DemandTwo
-demand-two = record { picks = picks-are-pd2s; at-most-one = at-most-one-quantum; passes = passes-exactly }
+demand-two = record { order = before-means-rule; picks = picks-are-pd2s; at-most-one = at-most-one-quantum; passes = passes-exactly }

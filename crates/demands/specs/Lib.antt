@@ -6,5 +6,6 @@ pub mod RunPasses
 pub mod Three
 pub mod Bench
 pub mod Confession
+pub mod Inputs
 pub mod ShutOut
 pub mod NeverLate

@@ -2,17 +2,20 @@
 -- when that paper says. A refusal hands back the state as it came and writes no byte. Nobody has to check anything before calling."
 use Prim.Native.Nat.{ℕ, _≤_, _<_}
 use mathlib.Core.Path.{_≡_}
-use mathlib.Core.List.{List}
+use mathlib.Core.List.{List, []}
 use mathlib.Core.Logic.{_↔_, _⊎_}
 use lib.ListN.{length}
-use mathlib.Core.Bool.{Bool, false}
+use mathlib.Core.Bool.{Bool, true, false}
 use Rattle.facts.specs.Findings.{FirstFound}
 use Rattle.windows.specs.Question.{WindowsAreAnswered}
+use Rattle.windows.specs.Windows.{NextStartIsDLessB}
+use Rattle.windows.specs.LeastTime.{WalkGivesLeastTime}
 use Rattle.table.specs.Bytes.{tableNumber, tableIn, noTable, reading}
-use Rattle.table.specs.Taken.{NumbersAreFirstCauses, NumbersAre10To22, TakenWhereNoCause}
+use Rattle.table.specs.Taken.{NumbersAreFirstCauses, NumbersAre10To22, TakenWhereNoCause, PastIsZero}
 use Rattle.trace.specs.Record.{recordOf, marked, hasRoom, partAfter}
 use Rattle.trace.specs.Said.{Said, bare}
-use Rattle.trace.specs.Found.{FoundIfAllInside}
+use Rattle.trace.specs.Records.{freeAt, placeIn, rowsOfSlot}
+use Rattle.trace.specs.Found.{isFound, partFound, partBegins, FoundIfAllInside}
 use Rattle.dispatcher.specs.Kept.{RefusalsAreFirstCauses, RefusalChangesNothing, FaultAnswers30}
 use Rattle.dispatcher.specs.Places.{SlotNumbers, BareUnlessLate, PastIsReturned, PastIsIgnored}
 use Rattle.checker.specs.Check.{traceFindings, checkOf}
@@ -22,14 +25,22 @@ use Rattle.demands.specs.Determined.{EveryPromiseDetermines}
 
 -- "with one of the refusals in document 01, given exactly when that paper says", of a window: 50 exactly if e = 0, e is not below p, or i is not in 1
 -- to 1,000,000,001, and else the window;
-abbrev pub Windows : Type 0
-Windows = WindowsAreAnswered
+pub record Windows : Type 0 where
+  pub answered : WindowsAreAnswered
+  -- "Then the next start is d - b."
+  pub next-start : NextStartIsDLessB
+  -- D of a heavy row is "the smallest time at or after d that is the deadline of a subtask of this row with b = 0, or ..".
+  pub group : WalkGivesLeastTime
 
--- of a table: 10 to 22, each exactly if its cause is the first met, and 0 exactly if none is. "A table refusal yields no table";
+-- of a table: 10 to 22, each exactly if its cause is the first met, and 0 exactly if none is. With 0 the table that the bytes hold is handed back;
+-- "a table that is taken has 0 in every place past n and past M". "A table refusal yields no table";
 pub record Tables : Type 0 where
   pub numbers : NumbersAre10To22
   pub refused : NumbersAreFirstCauses
   pub taken : TakenWhereNoCause
+  pub number : (bytes : List ℕ) → reading bytes .number ≡ tableNumber bytes
+  pub table : (bytes : List ℕ) → tableNumber bytes ≡ 0 → reading bytes .table ≡ tableIn bytes
+  pub past : PastIsZero
   pub no-table : (bytes : List ℕ) → (tableNumber bytes ≡ 0 → ⊥) → reading bytes .table ≡ noTable
 
 -- of a slot: 30 to 34, each exactly if its cause is the first met. A fresh state of a table with a fault is answered 30. "Places past row n, and board
@@ -53,8 +64,13 @@ pub record Checks : Type 0 where
   pub parts : (bytes s : List ℕ) → let said = checkOf bytes s in (said .number ≡ 44 → ⊥) → (said .number ≡ 45 → ⊥) → said ≡ bare (said .number)
 
 -- of a record in a trace: it is found exactly if 01 says so.
-abbrev pub Records : Type 0
-Records = FoundIfAllInside
+pub record Records : Type 0 where
+  pub found : FoundIfAllInside
+  -- "the record itself, the very bytes inside the lent trace": its k, its c and its rows, from where the record of slot s begins
+  pub itself : (trace : List ℕ) (s : ℕ) → isFound trace s ≡ true → partFound trace s ≡ recordOf (freeAt trace (placeIn trace s)) (rowsOfSlot trace s)
+  pub begins : (trace : List ℕ) (s : ℕ) → isFound trace s ≡ true → partBegins trace s ≡ placeIn trace s
+  -- "Otherwise the part handed back has length 0 and begins at 0."
+  pub nothing : (trace : List ℕ) (s : ℕ) → isFound trace s ≡ false → (partFound trace s ≡ []) × (partBegins trace s ≡ 0)
 
 -- "A refusal hands back the state as it came and writes no byte": a slot's, the record writer's, and the printer's where its buffer is too short.
 pub record HandsBack : Type 0 where

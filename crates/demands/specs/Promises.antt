@@ -30,7 +30,7 @@ use Rattle.pd2.specs.Share.{within}
 use Rattle.pd2.specs.Verdict.{isYes, answered, verdict}
 use Rattle.pd2.specs.Rows.{GaveMarked, isLate}
 use Rattle.trace.specs.declared.Stored.{Stored}
-use Rattle.trace.specs.Record.{recordOf, marked, hasRoom, storedWhere, partAfter}
+use Rattle.trace.specs.Record.{recordOf, marked, storedNumber, writeNumber, partAfter}
 use Rattle.trace.specs.Found.{partFound, partBegins}
 use Rattle.choice.specs.Choice.{numbersOf, chosen}
 use Rattle.dispatcher.specs.declared.State.{State}
@@ -169,7 +169,7 @@ pd2·lowest-late rows quanta n time r = Lowest (isLate rows quanta (time .0)) (m
 
 -- trace::write
 abbrev pub trace·write : List ℕ → ℕ → List Bool → Stored → List ℕ → Type 0
-trace·write part free marks r part-after = (r ≡ storedWhere (hasRoom part (recordOf free (marked marks)))) × (part-after ≡ partAfter part (recordOf free (marked marks)))
+trace·write part free marks r part-after = (storedNumber r ≡ writeNumber part (recordOf free (marked marks))) × (part-after ≡ partAfter part (recordOf free (marked marks)))
 
 -- trace::record; `trace-ptr` is where the lent trace lies: a block of memory, and a place in it
 abbrev pub trace·record : List ℕ → ℕ × ℕ → Slot → RefT (List ℕ) → Type 0

@@ -2,11 +2,10 @@
 use Prim.Native.Nat.{ℕ, _/_, _%_, _^_, _≤_, _<_}
 use mathlib.Core.Path.{_≡_}
 use mathlib.Core.List.{List, [], _∷_, _++_}
-use lib.ListN.{length, take, drop}
+use lib.ListN.{take, drop}
 use Rattle.fields.specs.Fields.{word}
 use Rattle.table.specs.declared.Table.{Table}
 use Rattle.table.specs.Bytes.{tableNumber, tableIn}
-use Rattle.table.specs.Value.{faultOf}
 use Rattle.trace.specs.Records.{firstPlace, slotsIn}
 use Rattle.trace.specs.Said.{Said, bare, named}
 use Rattle.dispatcher.specs.State.{timeOf}
@@ -50,6 +49,6 @@ pub record IsTrace (table : Table) (r : Run) : Type 0 where
 -- row and time as the run's 1.
 abbrev pub RunPasses : Type 0
 RunPasses =
-    (table : Table) (free : ℕ → ℕ) (buffer : List ℕ) (m : ℕ) → faultOf table ≡ 0 → firstPlace ≤ length buffer →
+    (table : Table) (free : ℕ → ℕ) (buffer : List ℕ) (m : ℕ) →
     let r = run table free buffer firstPlace m in
     r .said .number < 2 → IsTrace table r

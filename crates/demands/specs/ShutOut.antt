@@ -1,11 +1,10 @@
--- What must be shut out (01, "What the statements must say"): no function that keeps the promise is so.
+-- What must be shut out (01, "What the statements must say"): no function that keeps the promise is so. A function is asked to keep its promise, and is
+-- said to be wrong, only on what it can be called with (specs/Inputs.antt): so one that is wrong on all of that is shut out, whatever it does elsewhere.
 use Prim.Native.Nat.{ℕ, _+_, _<_}
 use mathlib.Core.Path.{_≡_}
-use mathlib.Core.List.{List, [], _∷_}
-use mathlib.Core.Bool.{cond}
-use lib.ListN.{length}
+use mathlib.Core.List.{List, []}
+use mathlib.Core.Bool.{true, cond}
 use Rattle.table.specs.declared.Reading.{Reading}
-use Rattle.table.specs.Limits.{rowLimit}
 use Rattle.table.specs.Bytes.{tableNumber}
 use Rattle.pd2.specs.Choice.{quantaAt}
 use Rattle.trace.specs.Records.{rowsAt, names}
@@ -15,24 +14,28 @@ use Rattle.dispatcher.specs.State.{quantaIn, freshOf}
 use Rattle.dispatcher.specs.Answer.{saidOf}
 use Rattle.checker.specs.declared.Answer.{Answer as Checked}
 use Rattle.checker.specs.Answer as checked
-use Rattle.demands.specs.Promises.{table·read, dispatcher·State·slot, checker·check}
+use Rattle.demands.specs.Promises.{table·read, dispatcher·State·slot, checker·check, firmware·zb-table-check, firmware·zb-trace-check}
+use Rattle.demands.specs.Inputs.{Bytes, Possible}
 
--- A reader keeps the promise of `read`, a dispatcher that of `slot` (it gives back the outcome and the buffer), a checker that of `check`.
+-- A reader keeps the promise of `read`, and the board's table check that of `zb_table_check`.
 abbrev pub IsReader : (List ℕ → Reading) → Type 0
-IsReader read = (bytes : List ℕ) → table·read bytes (read bytes)
+IsReader read = (bytes : List ℕ) → Bytes bytes → table·read bytes (read bytes)
 
+abbrev pub IsTableCheck : (List ℕ → ℕ) → Type 0
+IsTableCheck check = (bytes : List ℕ) → Bytes bytes → firmware·zb-table-check bytes (check bytes)
+
+-- "a reader that takes no table": by the number that it answers
+abbrev pub TakesNoTable : (List ℕ → ℕ) → Type 0
+TakesNoTable number = (bytes : List ℕ) → Bytes bytes → number bytes ≡ 0 → ⊥
+
+-- A dispatcher keeps the promise of `slot`; it gives back the outcome and the buffer.
 abbrev pub Dispatcher : Type 0
 Dispatcher = State → ℕ → List ℕ → ℕ → Outcome × List ℕ
 
 abbrev pub IsDispatcher : Dispatcher → Type 0
-IsDispatcher slot = (s : State) (k : ℕ) (buffer : List ℕ) (place : ℕ) → dispatcher·State·slot s k buffer place (slot s k buffer place .0) (slot s k buffer place .1)
-
-abbrev pub IsChecker : (List ℕ → List ℕ → Checked) → Type 0
-IsChecker check = (bytes s : List ℕ) → checker·check bytes s (check bytes s)
-
--- "a reader that takes no table"
-abbrev pub TakesNoTable : (List ℕ → Reading) → Type 0
-TakesNoTable read = (bytes : List ℕ) → read bytes .number ≡ 0 → ⊥
+IsDispatcher slot =
+    (s : State) (k : ℕ) (buffer : List ℕ) (place : ℕ) → Possible s k buffer place →
+    dispatcher·State·slot s k buffer place (slot s k buffer place .0) (slot s k buffer place .1)
 
 -- the number that a dispatcher answers, and the rows of the record at the place
 abbrev pub numberOf : Outcome × List ℕ → ℕ
@@ -43,39 +46,36 @@ rowsWritten r place = rowsAt (r .1) place
 
 -- "a dispatcher that refuses all",
 abbrev pub RefusesAll : Dispatcher → Type 0
-RefusesAll slot = (s : State) (k : ℕ) (buffer : List ℕ) (place : ℕ) → 1 < numberOf (slot s k buffer place)
+RefusesAll slot = (s : State) (k : ℕ) (buffer : List ℕ) (place : ℕ) → Possible s k buffer place → 1 < numberOf (slot s k buffer place)
 
--- "or picks nobody, or always row 0",
+-- "or picks nobody, or always row 0": it never names another row,
 abbrev pub PicksNobody : Dispatcher → Type 0
-PicksNobody slot = (s : State) (k : ℕ) (buffer : List ℕ) (place : ℕ) → numberOf (slot s k buffer place) < 2 → rowsWritten (slot s k buffer place) place ≡ []
+PicksNobody slot =
+    (s : State) (k : ℕ) (buffer : List ℕ) (place : ℕ) → Possible s k buffer place → numberOf (slot s k buffer place) < 2 →
+    rowsWritten (slot s k buffer place) place ≡ []
 
 abbrev pub AlwaysRow0 : Dispatcher → Type 0
-AlwaysRow0 slot = (s : State) (k : ℕ) (buffer : List ℕ) (place : ℕ) → numberOf (slot s k buffer place) < 2 → rowsWritten (slot s k buffer place) place ≡ 0 ∷ []
+AlwaysRow0 slot =
+    (s : State) (k : ℕ) (buffer : List ℕ) (place : ℕ) → Possible s k buffer place → numberOf (slot s k buffer place) < 2 → (i : ℕ) →
+    names (rowsWritten (slot s k buffer place) place) i ≡ true → i ≡ 0
 
 -- "one that leaves state and buffer as found and says 0",
 abbrev pub ChangesNothing : Dispatcher → Type 0
 ChangesNothing slot =
-    (s : State) (k : ℕ) (buffer : List ℕ) (place : ℕ) → numberOf (slot s k buffer place) ≡ 0 →
+    (s : State) (k : ℕ) (buffer : List ℕ) (place : ℕ) → Possible s k buffer place → numberOf (slot s k buffer place) ≡ 0 →
     (slot s k buffer place .0 .state ≡ s) × (slot s k buffer place .1 ≡ buffer)
 
 -- "one that does slot 0 properly and repeats it"
 abbrev pub RepeatsSlot0 : Dispatcher → Type 0
 RepeatsSlot0 slot =
-    (s : State) (k : ℕ) (buffer : List ℕ) (place : ℕ) → numberOf (slot s k buffer place) < 2 →
+    (s : State) (k : ℕ) (buffer : List ℕ) (place : ℕ) → Possible s k buffer place → numberOf (slot s k buffer place) < 2 →
     rowsWritten (slot s k buffer place) place ≡ rowsWritten (slot (freshOf (s .table)) k buffer place) place
-
--- "a checker that always passes or never": for tables that are taken
-abbrev pub AlwaysPasses : (List ℕ → List ℕ → Checked) → Type 0
-AlwaysPasses check = (bytes s : List ℕ) → tableNumber bytes ≡ 0 → checked.saidOf (check bytes s) .number ≡ 0
-
-abbrev pub NeverPasses : (List ℕ → List ℕ → Checked) → Type 0
-NeverPasses check = (bytes s : List ℕ) → checked.saidOf (check bytes s) .number ≡ 0 → ⊥
 
 -- "quanta counts that do not equal the records naming the row": each slot gives a quantum to the rows that its record names, and to no other. (Of a
 -- whole run: `quanta` of demand 3.)
 abbrev pub GivesAsRecorded : Dispatcher → Type 0
 GivesAsRecorded slot =
-    (s : State) (k : ℕ) (buffer : List ℕ) (place : ℕ) → numberOf (slot s k buffer place) < 2 → length (s .quanta) ≡ rowLimit → (i : ℕ) →
+    (s : State) (k : ℕ) (buffer : List ℕ) (place : ℕ) → Possible s k buffer place → numberOf (slot s k buffer place) < 2 → (i : ℕ) →
     quantaAt (quantaIn (slot s k buffer place .0 .state)) i ≡ quantaAt (quantaIn s) i + cond (names (rowsWritten (slot s k buffer place) place) i) 1 0
 
 -- A dispatcher is none of these.
@@ -87,8 +87,30 @@ pub record ShutOutOf (slot : Dispatcher) : Type 0 where
   pub repeats-slot-0 : RepeatsSlot0 slot → ⊥
   pub gives-as-recorded : GivesAsRecorded slot
 
+-- A checker keeps the promise of `check`, and the board's trace check that of `zb_trace_check`.
+abbrev pub IsChecker : (List ℕ → List ℕ → Checked) → Type 0
+IsChecker check = (bytes s : List ℕ) → Bytes bytes → Bytes s → checker·check bytes s (check bytes s)
+
+abbrev pub IsTraceCheck : (List ℕ → List ℕ → ℕ) → Type 0
+IsTraceCheck check = (bytes s : List ℕ) → Bytes bytes → Bytes s → firmware·zb-trace-check bytes s (check bytes s)
+
+-- the number that a checker answers
+abbrev pub numberChecked : (List ℕ → List ℕ → Checked) → List ℕ → List ℕ → ℕ
+numberChecked check bytes s = checked.saidOf (check bytes s) .number
+
+-- "a checker that always passes or never", by the number that it answers: always for tables that are taken
+abbrev pub AlwaysPasses : (List ℕ → List ℕ → ℕ) → Type 0
+AlwaysPasses number = (bytes s : List ℕ) → Bytes bytes → Bytes s → tableNumber bytes ≡ 0 → number bytes s ≡ 0
+
+abbrev pub NeverPasses : (List ℕ → List ℕ → ℕ) → Type 0
+NeverPasses number = (bytes s : List ℕ) → Bytes bytes → Bytes s → number bytes s ≡ 0 → ⊥
+
 pub record ShutOut : Type 0 where
-  pub reader : (read : List ℕ → Reading) → IsReader read → TakesNoTable read → ⊥
+  pub reader : (read : List ℕ → Reading) → IsReader read → TakesNoTable (λ bytes. read bytes .number) → ⊥
   pub dispatcher : (slot : Dispatcher) → IsDispatcher slot → ShutOutOf slot
-  pub always-passes : (check : List ℕ → List ℕ → Checked) → IsChecker check → AlwaysPasses check → ⊥
-  pub never-passes : (check : List ℕ → List ℕ → Checked) → IsChecker check → NeverPasses check → ⊥
+  pub always-passes : (check : List ℕ → List ℕ → Checked) → IsChecker check → AlwaysPasses (numberChecked check) → ⊥
+  pub never-passes : (check : List ℕ → List ℕ → Checked) → IsChecker check → NeverPasses (numberChecked check) → ⊥
+  -- the same of what the board calls
+  pub board-takes-none : (check : List ℕ → ℕ) → IsTableCheck check → TakesNoTable check → ⊥
+  pub board-always-passes : (check : List ℕ → List ℕ → ℕ) → IsTraceCheck check → AlwaysPasses check → ⊥
+  pub board-never-passes : (check : List ℕ → List ℕ → ℕ) → IsTraceCheck check → NeverPasses check → ⊥

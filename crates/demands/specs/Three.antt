@@ -11,7 +11,7 @@ use lib.ListN.{length}
 use Rattle.facts.specs.Rounding.{ceilDiv}
 use Rattle.table.specs.declared.Row.{Row}
 use Rattle.table.specs.declared.Table.{Table}
-use Rattle.table.specs.Value.{faultOf, rowsOf}
+use Rattle.table.specs.Value.{rowsOf}
 use Rattle.table.specs.Bytes.{tableNumber, tableIn}
 use Rattle.pd2.specs.Ready.{early}
 use Rattle.pd2.specs.Share.{elapsed, jobsReleased}
@@ -59,7 +59,7 @@ pub data FromFresh (table : Table) : State → Type 0 where
 -- "the dispatcher keeps every row within these limits until it first reports a row late"
 abbrev pub KeepsLimits : Type 0
 KeepsLimits =
-    (table : Table) (s : State) → faultOf table ≡ 0 → FromFresh table s → (i : ℕ) → i < length (rowsOf table) →
+    (table : Table) (s : State) → FromFresh table s → (i : ℕ) → i < length (rowsOf table) →
     InLimits (rowAt (rowsOf table) i) (quantaAt (quantaIn s) i) (timeOf s)
 
 -- Row i "is owed a whole quantum": "the named row has e·a - p·q at least p".
@@ -78,8 +78,8 @@ pub record Reports (table : Table) (said : Said) (after : State) : Type 0 where
 
 abbrev pub ReportsLate : Type 0
 ReportsLate =
-    (table : Table) (s : State) → faultOf table ≡ 0 → FromFresh table s → (k : ℕ) (buffer : List ℕ) (place : ℕ) →
-    slotOf s k buffer place .said .number < 2 → Reports table (slotOf s k buffer place .said) (slotOf s k buffer place .state)
+    (s : State) (k : ℕ) (buffer : List ℕ) (place : ℕ) → slotOf s k buffer place .said .number < 2 →
+    Reports (s .table) (slotOf s k buffer place .said) (slotOf s k buffer place .state)
 
 -- What the records say is what the state says, in a run: slot after slot into one buffer, one record behind the other. "quanta counts that do not equal the
 -- records naming the row" are shut out; and the trace of a run passes the check, or the check names the row and the time that the run named.

@@ -3,12 +3,12 @@
 use Prim.Native.Nat.{ℕ, _+_, _<_}
 use mathlib.Core.Path.{_≡_}
 use mathlib.Core.List.{List}
-use mathlib.Core.Bool.{cond}
+use mathlib.Core.Bool.{true, false, cond}
 use mathlib.Core.Logic.{_↔_}
 use lib.ListN.{length}
 use Rattle.table.specs.Limits.{rowLimit}
 use Rattle.table.specs.Bytes.{tableNumber, tableIn}
-use Rattle.pd2.specs.Order.{before}
+use Rattle.pd2.specs.Order.{Rank, Before, before}
 use Rattle.pd2.specs.Picks.{AreBest}
 use Rattle.pd2.specs.Choice.{quantaAt, readyIn, firstBy, pd2Picks}
 use Rattle.trace.specs.Record.{withRecord, recordOf}
@@ -28,12 +28,16 @@ pub record Picks (s : State) (k : ℕ) (buffer : List ℕ) (place : ℕ) (after 
   pub bytes : after .bytes ≡ withRecord buffer place (recordOf k (pd2Picks (rowsIn s) (quantaIn s) (timeOf s) k))
   pub free : freeAt (after .bytes) place ≡ k
   pub rows : rowsAt (after .bytes) place ≡ pd2Picks (rowsIn s) (quantaIn s) (timeOf s) k
-  -- they are "as many as there are free cores, or all that are ready if fewer, best first by its order",
+  -- they are ready, "as many as there are free cores, or all that are ready if fewer, best first by its order",
   pub best : AreBest (readyIn (rowsIn s) (quantaIn s) (timeOf s)) (firstBy before (rowsIn s) (quantaIn s)) (length (rowsIn s)) k
-  -- "each picked row has one quantum more", and no other, "time is one higher"
+  pub ready : (i : ℕ) → names (rowsAt (after .bytes) place) i ≡ true → (i < length (rowsIn s)) × (readyIn (rowsIn s) (quantaIn s) (timeOf s) i ≡ true)
+  -- "each picked row has one quantum more", and no other (a state has 32 quanta, always), "time is one higher",
   pub quanta : length (s .quanta) ≡ rowLimit → (i : ℕ) →
       quantaAt (quantaIn (after .state)) i ≡ quantaAt (quantaIn s) i + cond (names (rowsAt (after .bytes) place) i) 1 0
   pub time : timeOf (after .state) ≡ timeOf s + 1
+  -- "with 1 the state is also stopped", and with 0 it is not.
+  pub stops : after .said .number ≡ 1 → after .state .stopped ≡ true
+  pub runs-on : after .said .number ≡ 0 → after .state .stopped ≡ false
 
 abbrev pub PicksArePd2s : Type 0
 PicksArePd2s =
@@ -47,8 +51,13 @@ PassesExactly =
     (bytes s : List ℕ) →
     (checkOf bytes s ≡ bare 0) ↔ ((tableNumber bytes ≡ 0) × WellFormed (tableIn bytes) s × InWindows (tableIn bytes) s)
 
+-- "its order": x goes before y by one of the four rules, and not otherwise.
+abbrev pub OrderIsTheRules : Type 0
+OrderIsTheRules = (x y : Rank) → (before x y ≡ true) ↔ Before x y
+
 -- "A row gets at most one quantum a slot", whatever the state.
 pub record DemandTwo : Type 0 where
+  pub order : OrderIsTheRules
   pub picks : PicksArePd2s
   pub at-most-one : AtMostOneQuantum
   pub passes : PassesExactly

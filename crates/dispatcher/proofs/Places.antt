@@ -177,7 +177,7 @@ module _ (s s′ : State) (alike : AlikeBelow s s′) where
     unfolding refusal
     refusal-alike buffer place = rw (broken-alike, picks-alike, alike .stopped, alike .time, alike .cores)
 
--- Two such states get the same answer and the same bytes.
+-- Two such states get the same answer and the same bytes, and are alike afterwards.
 pub past-is-ignored : PastIsIgnored
 unfolding slotOf
 past-is-ignored s s′ k buffer place alike = rw (refusal-alike s s′ alike k buffer place) (go (refusal s′ k buffer place))
@@ -185,10 +185,28 @@ past-is-ignored s s′ k buffer place alike = rw (refusal-alike s s′ alike k b
     next : timeOf s + 1 ≡ timeOf s′ + 1
     next = ap (λ t. t + 1) (alike .time)
 
+    stopped-alike : someRow (oneOn s k) (lateAt (timeOf s + 1)) ≡ someRow (oneOn s′ k) (lateAt (timeOf s′ + 1))
+    stopped-alike = some-alike (oneOn s k) (oneOn s′ k) (alike-after s s′ alike k) (lateAt (timeOf s + 1)) ∙ ap (λ t. someRow (oneOn s′ k) (lateAt t)) next
+
+    stepped-alike : AlikeBelow (stepped s k) (stepped s′ k)
+    stepped-alike =
+        let after = alike-after s s′ alike k in
+        record {
+          cycle = after .cycle;
+          cores = after .cores;
+          boards = after .boards;
+          count = after .count;
+          rows = after .rows;
+          time = after .time;
+          stopped = stopped-alike;
+          quanta = after .quanta;
+        }
+
     go : (r : ℕ) → SameAnswer (slotBy r s k buffer place) (slotBy r s′ k buffer place)
     go zero =
         record {
           said = ap₂ doneSaid (late-alike (oneOn s k) (oneOn s′ k) (alike-after s s′ alike k) (timeOf s + 1) ∙ ap (lateIn (oneOn s′ k)) next) next;
           bytes = ap (λ picks. withRecord buffer place (recordOf k picks)) (picks-alike s s′ alike k);
+          state = stepped-alike;
         }
-    go (suc r) = record { said = refl; bytes = refl }
+    go (suc r) = record { said = refl; bytes = refl; state = alike }

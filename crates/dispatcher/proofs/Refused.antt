@@ -2,7 +2,7 @@
 use Prim.Native.Nat.{ℕ, zero, suc, _+_, _-_, _≤_, _<_}
 use mathlib.Core.Path.{_≡_, refl, sym, ap, _∙_}
 use mathlib.Core.List.{List, _++_}
-use mathlib.Core.Bool.{Bool, true, false, cond, true≢false}
+use mathlib.Core.Bool.{Bool, true, false, cond}
 use mathlib.Core.Logic.{_⊎_, inl, inr}
 use native.Mathlib.Decide.{decLe}
 use native.Mathlib.Omega.{arith}
@@ -13,7 +13,7 @@ use Rattle.facts.specs.Faults.{firstMet, _orElse_}
 use Rattle.counts.specs.Limits.{timeLimit}
 use Rattle.trace.specs.declared.Stored.{Stored}
 use Rattle.trace.specs.declared.Stored.the-variants.{Written, NoRoom}
-use Rattle.trace.specs.Record.{recordOf, hasRoom, withFront, withRecord, storedWhere, partAfter}
+use Rattle.trace.specs.Record.{recordOf, withFront, withRecord, storedNumber, writeNumber, partAfter}
 use Rattle.dispatcher.specs.declared.State.{State}
 use Rattle.dispatcher.specs.declared.Answer.{Answer}
 use Rattle.dispatcher.specs.declared.Answer.the-variants.{Done}
@@ -24,11 +24,6 @@ use Rattle.trace.specs.Said.{bare}
 use Rattle.dispatcher.specs.Answer.{saidOf, doneSaid}
 use Rattle.dispatcher.specs.Slot.{picksIn, recordIn, lateIn, lacksRoom, oneOn, stepped, refusal, slotOf}
 use Rattle.dispatcher.specs.Usable.{Admitted, CauseIs}
-
--- which of its two answers the writer gave
-abbrev isWritten : Stored → Bool
-isWritten Written = true
-isWritten NoRoom = false
 
 module _ (s : State) (k : ℕ) (buffer : List ℕ) (place : ℕ) where
   -- What a slot gives back, as its promise has it.
@@ -87,12 +82,12 @@ module _ (s : State) (k : ℕ) (buffer : List ℕ) (place : ℕ) where
           pub past-end : length buffer < place → refusal s k buffer place ≡ 34
           past-end h = by-room {lacks = true} (rw (lt-ltb (length buffer) place h) refl)
 
-          module _ (inside : place ≤ length buffer) {marks : List ℕ} (same : marks ≡ picksIn s k) {stored : Stored}
-              (wrote : stored ≡ storedWhere (hasRoom (drop place buffer) (recordOf k marks))) where
+          module _ (inside : place ≤ length buffer) {marks : List ℕ} (same : marks ≡ picksIn s k) (stored : Stored)
+              (wrote : storedNumber stored ≡ writeNumber (drop place buffer) (recordOf k marks)) where
             -- whether there is room, as the writer and as the definition tests it
             abbrev room : Bool → Type 0
             room has =
-                (stored ≡ storedWhere has) × (refusal s k buffer place ≡ cond has 0 34)
+                (storedNumber stored ≡ cond has 0 34) × (refusal s k buffer place ≡ cond has 0 34)
                 × (partAfter (drop place buffer) (recordOf k marks) ≡ cond has (withFront (drop place buffer) (recordOf k marks)) (drop place buffer))
 
             decided : room true ⊎ room false
@@ -111,11 +106,11 @@ module _ (s : State) (k : ℕ) (buffer : List ℕ) (place : ℕ) where
                 go (yes l) =
                     let fits = le-leb (length (recordOf k marks)) (length (drop place buffer)) (omega (arith, long)) in
                     let lacks : lacksRoom buffer place (length (picksIn s k)) ≡ false = rw (past, count) (le-ltb (length buffer - place) (2 + length marks) l) in
-                    inl (wrote ∙ ap storedWhere fits, by-room {lacks = false} lacks, rw fits refl)
+                    inl (wrote ∙ ap (λ has. cond has 0 34) fits, by-room {lacks = false} lacks, rw fits refl)
                 go (no l) =
                     let short = lt-leb (length (recordOf k marks)) (length (drop place buffer)) (omega (arith, long)) in
                     let lacks : lacksRoom buffer place (length (picksIn s k)) ≡ true = rw (past, count) (lt-ltb (length buffer - place) (2 + length marks) (omega arith)) in
-                    inr (wrote ∙ ap storedWhere short, by-room {lacks = true} lacks, rw short refl)
+                    inr (wrote ∙ ap (λ has. cond has 0 34) short, by-room {lacks = true} lacks, rw short refl)
 
             module _ {part : List ℕ} (left : part ≡ partAfter (drop place buffer) (recordOf k marks)) where
               -- or too little room is left behind it, and then the part is as it was;
@@ -123,7 +118,7 @@ module _ (s : State) (k : ℕ) (buffer : List ℕ) (place : ℕ) where
               no-room e = go decided
                 where
                   go : room true ⊎ room false → (refusal s k buffer place ≡ 34) × (take place buffer ++ part ≡ buffer)
-                  go (inl has) = absurd (true≢false (sym (ap isWritten (has .0)) ∙ ap isWritten e))
+                  go (inl has) = absurd (omega (arith, has .0, ap storedNumber e))
                   go (inr none) = (none .1, rw (left, none .2) (take-append-drop place buffer))
 
               -- else the slot is not refused, and the record stands at the place.
@@ -133,7 +128,7 @@ module _ (s : State) (k : ℕ) (buffer : List ℕ) (place : ℕ) where
                 where
                   go : room true ⊎ room false → (refusal s k buffer place ≡ 0) × (take place buffer ++ part ≡ take place buffer ++ withFront (drop place buffer) (recordIn s k))
                   go (inl has) = (has .1, rw (left, has .2, same) refl)
-                  go (inr none) = absurd (true≢false (sym (ap isWritten e) ∙ ap isWritten (none .0)))
+                  go (inr none) = absurd (omega (arith, none .0, ap storedNumber e))
 
 -- The tests before the choice look at the buffer's length alone.
 module _ (s : State) (k len place : ℕ) where

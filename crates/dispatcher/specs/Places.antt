@@ -38,7 +38,8 @@ PastIsReturned =
     let after = slotOf s k buffer place .state in
     (after .table ≡ s .table) × ((i : ℕ) → length (rowsIn s) ≤ i → quantaAt (quantaIn after) i ≡ quantaAt (quantaIn s) i)
 
--- "Places past row n, and board numbers past M, are ignored": two states that differ in nothing else get the same answer and the same bytes.
+-- "Places past row n, and board numbers past M, are ignored": two states that differ in nothing else get the same answer and the same bytes, and then
+-- again differ in nothing else.
 pub record AlikeBelow (s s′ : State) : Type 0 where
   pub cycle : s .table .cycle ≡ s′ .table .cycle
   pub cores : s .table .cores ≡ s′ .table .cores
@@ -52,6 +53,7 @@ pub record AlikeBelow (s s′ : State) : Type 0 where
 pub record SameAnswer (a b : Given) : Type 0 where
   pub said : a .said ≡ b .said
   pub bytes : a .bytes ≡ b .bytes
+  pub state : AlikeBelow (a .state) (b .state)
 
 abbrev pub PastIsIgnored : Type 0
 PastIsIgnored =

@@ -1,10 +1,10 @@
 -- The laws of reading one board number and one row. Assumes nothing.
 use mathlib.Core.Path.{_≡_, refl, sym, ap, _∙_}
 use mathlib.Core.List.{List}
-use Prim.Native.Nat.{ℕ, zero, suc, _+_, _≤_, _<_}
-use native.Mathlib.Decide.{decLt}
+use Prim.Native.Nat.{ℕ, _+_, _≤_, _<_}
+use native.Mathlib.Decide.{ℕ-discrete, decLt}
 use native.Mathlib.Omega.{arith}
-use borrow.Author.Tests.{lt-ltb, le-ltb}
+use borrow.Author.Tests.{lt-ltb, le-ltb, eq-eqb, ne-eqb}
 use lib.ListN.{length}
 use Rattle.facts.specs.Faults.{firstMet}
 use Rattle.fields.specs.Fields.{byte}
@@ -13,7 +13,7 @@ use Rattle.table.specs.declared.Cursor.{Cursor}
 use Rattle.table.specs.declared.RowRead as read
 use Rattle.table.specs.Causes.{rowTests, boardTests}
 use Rattle.table.specs.Bytes.{rowInBytes, boardTestsIn, rowTestsIn}
-use Rattle.table.specs.Parts.{rowReadOf, rowReadIn}
+use Rattle.table.specs.RowRead.{RowReply, rowReplyOf, rowReplyBy, rowReply}
 
 -- A board number is a fault if it is too low,
 pub board-too-low : (least board : ℕ) → board < least → firstMet (boardTests least board) ≡ 14
@@ -34,24 +34,34 @@ module _ (s : List ℕ) (least i : ℕ) where
   unfolding firstMet
   board-there h = let long : i + 1 ≤ length s = omega arith in simp (le-ltb _ _ long)
 
--- a row with no fault, a row with one
-row-or : (k : ℕ) (row : Row) (past : Cursor) → (k ≡ 0 → ⊥) → read.the-variants.Fault k ≡ rowReadOf k row past
-row-or zero row past h = absurd (h refl)
-row-or (suc k) row past h = refl
+-- An answer by its number,
+module _ (k : ℕ) (row : Row) (past : ℕ) where
+  -- without a fault the row, with one the number alone.
+  by-none : k ≡ 0 → rowReplyBy k row past ≡ record { number = 0; row = row; past = past }
+  by-none none = rw (eq-eqb k 0 none) refl
 
--- what was read tells the fault
-was-row : (k : ℕ) {row row′ : Row} {past past′ : Cursor} → read.the-variants.Row row past ≡ rowReadOf k row′ past′ → (k ≡ 0) × (row ≡ row′) × (past ≡ past′)
-was-row zero e = (refl, cc, cc)
-was-row (suc k) e = let z : _≡_ {A = ℕ} 0 1 = cc in absurd (omega arith)
+  by-fault : (k ≡ 0 → ⊥) → rowReplyBy k row past ≡ rowReplyOf (read.the-variants.Fault k)
+  by-fault some = rw (ne-eqb k 0 some) refl
 
-was-fault : (k j : ℕ) (row : Row) (past : Cursor) → read.the-variants.Fault j ≡ rowReadOf k row past → (j ≡ k) × (k ≡ 0 → ⊥)
-was-fault zero j row past e = let z : _≡_ {A = ℕ} 0 1 = cc in absurd (omega arith)
-was-fault (suc k) j row past e = (cc, λ z. omega arith)
+  -- So what was read tells the fault: a row comes with 0, and a fault with no place past it.
+  was-row : {row′ : Row} {past′ : Cursor} → rowReplyOf (read.the-variants.Row row′ past′) ≡ rowReplyBy k row past → (k ≡ 0) × (row′ ≡ row) × (past′ .at ≡ past)
+  was-row {row′} {past′} e = go (ℕ-discrete k 0)
+    where
+      go : Dec (k ≡ 0) → (k ≡ 0) × (row′ ≡ row) × (past′ .at ≡ past)
+      go (yes none) = let same = e ∙ by-none none in (none, ap (λ (x : RowReply). x .row) same, ap (λ (x : RowReply). x .past) same)
+      go (no some) = absurd (some (sym (ap (λ (x : RowReply). x .number) (e ∙ by-fault some))))
+
+  was-fault : {j : ℕ} → 0 < past → rowReplyOf (read.the-variants.Fault j) ≡ rowReplyBy k row past → (j ≡ k) × (k ≡ 0 → ⊥)
+  was-fault {j} above e = go (ℕ-discrete k 0)
+    where
+      go : Dec (k ≡ 0) → (j ≡ k) × (k ≡ 0 → ⊥)
+      go (yes none) = absurd (omega (arith, ap (λ (x : RowReply). x .past) (e ∙ by-none none)))
+      go (no some) = (ap (λ (x : RowReply). x .number) (e ∙ by-fault some), some)
 
 module _ (s : List ℕ) (cycle least i : ℕ) where
   -- A row is cut,
-  pub row-cut : length s < i + 9 → read.the-variants.Fault 10 ≡ rowReadIn s cycle least i
-  unfolding rowReadIn firstMet
+  pub row-cut : length s < i + 9 → rowReplyOf (read.the-variants.Fault 10) ≡ rowReply s cycle least i
+  unfolding rowReply firstMet
   row-cut h = simp (lt-ltb _ _ h)
 
   row-there : i + 9 ≤ length s → firstMet (rowTestsIn s cycle least i) ≡ firstMet (rowTests cycle least (rowInBytes s i))
@@ -59,22 +69,22 @@ module _ (s : List ℕ) (cycle least i : ℕ) where
   row-there h = simp (le-ltb _ _ h)
 
   -- or has a fault,
-  pub row-faulty : i + 9 ≤ length s → {k : ℕ} → k ≡ firstMet (rowTests cycle least (rowInBytes s i)) → (k ≡ 0 → ⊥) → read.the-variants.Fault k ≡ rowReadIn s cycle least i
-  unfolding rowReadIn
+  pub row-faulty : i + 9 ≤ length s → {k : ℕ} → k ≡ firstMet (rowTests cycle least (rowInBytes s i)) → (k ≡ 0 → ⊥) → rowReplyOf (read.the-variants.Fault k) ≡ rowReply s cycle least i
+  unfolding rowReply
   row-faulty h {k} e f =
-      row-or k (rowInBytes s i) (record { at = i + 9 }) f
-      ∙ ap (λ x. rowReadOf x (rowInBytes s i) (record { at = i + 9 })) (e ∙ sym (row-there h))
+      sym (by-fault k (rowInBytes s i) (i + 9) f)
+      ∙ ap (λ x. rowReplyBy x (rowInBytes s i) (i + 9)) (e ∙ sym (row-there h))
 
   -- or is read.
-  pub row-read : i + 9 ≤ length s → firstMet (rowTests cycle least (rowInBytes s i)) ≡ 0 → {row : Row} → row ≡ rowInBytes s i → read.the-variants.Row row (record { at = i + 9 }) ≡ rowReadIn s cycle least i
-  unfolding rowReadIn
+  pub row-read : i + 9 ≤ length s → firstMet (rowTests cycle least (rowInBytes s i)) ≡ 0 → {row : Row} → row ≡ rowInBytes s i → rowReplyOf (read.the-variants.Row row (record { at = i + 9 })) ≡ rowReply s cycle least i
+  unfolding rowReply
   row-read h f e = rw (row-there h, f, e)
 
   -- A row that was read has no fault, and a fault that was found is its first.
-  pub row-was-read : {got : read.RowRead} {row : Row} {past : Cursor} → got ≡ rowReadIn s cycle least i → got ≡ read.the-variants.Row row past →
-      (firstMet (rowTestsIn s cycle least i) ≡ 0) × (row ≡ rowInBytes s i) × (past ≡ record { at = i + 9 })
-  unfolding rowReadIn
-  row-was-read e g = was-row (firstMet (rowTestsIn s cycle least i)) (sym g ∙ e)
+  pub row-was-read : {got : read.RowRead} {row : Row} {past : Cursor} → rowReplyOf got ≡ rowReply s cycle least i → got ≡ read.the-variants.Row row past →
+      (firstMet (rowTestsIn s cycle least i) ≡ 0) × (row ≡ rowInBytes s i) × (past .at ≡ i + 9)
+  unfolding rowReply
+  row-was-read e g = was-row (firstMet (rowTestsIn s cycle least i)) (rowInBytes s i) (i + 9) (ap rowReplyOf (sym g) ∙ e)
 
   -- so all its bytes are there
   pub row-was-there : firstMet (rowTestsIn s cycle least i) ≡ 0 → i + 9 ≤ length s
@@ -85,7 +95,7 @@ module _ (s : List ℕ) (cycle least i : ℕ) where
       go (yes l) = let ten : _≡_ {A = ℕ} 10 0 = rw (lt-ltb (length s) (i + 9) l) at h in absurd (omega arith)
       go (no l) = omega arith
 
-  pub row-was-faulty : {got : read.RowRead} {j : ℕ} → got ≡ rowReadIn s cycle least i → got ≡ read.the-variants.Fault j →
+  pub row-was-faulty : {got : read.RowRead} {j : ℕ} → rowReplyOf got ≡ rowReply s cycle least i → got ≡ read.the-variants.Fault j →
       (j ≡ firstMet (rowTestsIn s cycle least i)) × (firstMet (rowTestsIn s cycle least i) ≡ 0 → ⊥)
-  unfolding rowReadIn
-  row-was-faulty {j = j} e g = was-fault (firstMet (rowTestsIn s cycle least i)) j (rowInBytes s i) (record { at = i + 9 }) (sym g ∙ e)
+  unfolding rowReply
+  row-was-faulty {j = j} e g = was-fault (firstMet (rowTestsIn s cycle least i)) (rowInBytes s i) (i + 9) (omega arith) (ap rowReplyOf (sym g) ∙ e)

@@ -11,7 +11,8 @@ ghost use Rattle.facts.specs.Faults.{firstMet, rising};
 ghost use Rattle.table.specs.Limits.{loadLimit};
 ghost use Rattle.table.specs.Causes.{rowTests, tankAbove, load, zeroRow};
 ghost use Rattle.table.specs.Bytes.{rowInBytes};
-ghost use Rattle.table.specs.Parts.{numberOf, rowReadIn, RowsAnswer};
+ghost use Rattle.table.specs.RowRead.{rowReplyOf, rowReply};
+ghost use Rattle.table.specs.Parts.{RowsAnswer};
 
 // The n rows that begin at place `at`, and their sum. Each row is gone over once: it is read, tested and added.
 pub(crate) fn read(bytes: &[u8], at: usize, n: usize, cycle: u32) -> RowsRead
@@ -49,7 +50,7 @@ pub(crate) fn read(bytes: &[u8], at: usize, n: usize, cycle: u32) -> RowsRead
 // The row at the cursor with the place past it, or its first fault.
 fn read_one(bytes: &[u8], cursor: Cursor, cycle: u32, least: u32) -> RowRead
     requires { ⌜ cursor .at ≤ length (now bytes) ⌝ }
-    ensures { λ r. ⌜ r ≡ rowReadIn (now (bytes .entry)) cycle least (cursor .at) ⌝ }
+    ensures { λ r. ⌜ rowReplyOf r ≡ rowReply (now (bytes .entry)) cycle least (cursor .at) ⌝ }
 {
     let at = cursor.at;
     if bytes.len() - at < 9 {
@@ -65,7 +66,7 @@ fn read_one(bytes: &[u8], cursor: Cursor, cycle: u32, least: u32) -> RowRead
 
 // 01's number for a row that was read.
 fn number(got: RowRead) -> u8
-    ensures { λ r. ⌜ r ≡ numberOf got ⌝ }
+    ensures { λ r. ⌜ r ≡ rowReplyOf got .number ⌝ }
 {
     match got {
         RowRead::Row(_, _) => 0,

@@ -10,7 +10,7 @@ use Rattle.facts.proofs.Counting.{listed-if-passed, unlisted-if-failed, none-li
 use Rattle.facts.proofs.Filling.{overwritten-one-more}
 use borrow.Author.Tests.{lt-leb, le-leb}
 use Rattle.trace.specs.declared.Stored.the-variants.{Written, NoRoom}
-use Rattle.trace.specs.Record.{marked, hasRoom, withFront, storedWhere, partAfter}
+use Rattle.trace.specs.Record.{marked, withFront, storedNumber, writeNumber, partAfter}
 
 -- For the loops: the marks, as a test of row numbers.
 abbrev pub isMarked : List Bool → ℕ → Bool
@@ -79,10 +79,10 @@ bytes-are-record (x ∷ []) rows k c h = absurd (omega arith)
 bytes-are-record (x ∷ y ∷ part) rows k c h = refl
 
 -- Without room nothing is written,
-pub not-written : (part entry : List ℕ) → length part < length entry → (NoRoom ≡ storedWhere (hasRoom part entry)) × (part ≡ partAfter part entry)
+pub not-written : (part entry : List ℕ) → length part < length entry → (storedNumber NoRoom ≡ writeNumber part entry) × (part ≡ partAfter part entry)
 not-written part entry h = rw (lt-leb (length entry) (length part) h) (refl, refl)
 
 -- and with room the record.
 pub is-written : (part entry : List ℕ) {whole : List ℕ} → length entry ≤ length part → whole ≡ withFront part entry →
-    (Written ≡ storedWhere (hasRoom part entry)) × (whole ≡ partAfter part entry)
+    (storedNumber Written ≡ writeNumber part entry) × (whole ≡ partAfter part entry)
 is-written part entry h e = rw (le-leb (length entry) (length part) h) (refl, e)

@@ -1,7 +1,7 @@
 -- The record of a slot (01, "The trace, in bytes"), and a buffer in which it stands.
 use Prim.Native.Nat.{ℕ, _+_}
 use mathlib.Core.List.{List, _∷_, _++_}
-use mathlib.Core.Bool.{Bool, true, false, cond}
+use mathlib.Core.Bool.{Bool, false, cond}
 use lib.Dec.{leb}
 use lib.ListN.{length, getD, take, drop}
 use Rattle.facts.specs.Counting.{those}
@@ -28,10 +28,14 @@ withFront part entry = entry ++ drop (length entry) part
 unfoldable pub withRecord : List ℕ → ℕ → List ℕ → List ℕ
 withRecord buffer place entry = take place buffer ++ withFront (drop place buffer) entry
 
--- What the writer answers, and what it leaves.
-abbrev pub storedWhere : Bool → Stored
-storedWhere true = Written
-storedWhere false = NoRoom
+-- This paper's number for each case of the writer's answer: 0, "done", and 34, "fewer than 2 + c bytes remain after it". It names nothing else.
+abbrev pub storedNumber : Stored → ℕ
+storedNumber Written = 0
+storedNumber NoRoom = 34
+
+-- What the writer answers, by that number, and what it leaves.
+abbrev pub writeNumber : List ℕ → List ℕ → ℕ
+writeNumber part entry = cond (hasRoom part entry) 0 34
 
 abbrev pub partAfter : List ℕ → List ℕ → List ℕ
 partAfter part entry = cond (hasRoom part entry) (withFront part entry) part

@@ -3,7 +3,7 @@ use counts::Slot;
 ghost use mathlib.Core.Path.{_≡_};
 ghost use Prim.Native.Nat.{_+_, _≤_};
 ghost use lib.ListN.{length};
-ghost use Rattle.trace.specs.Record.{recordOf, marked, hasRoom, withFront, storedWhere, partAfter};
+ghost use Rattle.trace.specs.Record.{recordOf, marked, withFront, storedNumber, writeNumber, partAfter};
 ghost use Rattle.trace.specs.Found.{partFound, partBegins};
 ghost use Rattle.trace.specs.Search.{lengthInside, placeInside, placeFound};
 
@@ -15,7 +15,7 @@ pub enum Stored {
 
 // Writes the record of a slot to the front of the lent part: cores free, rows picked and their numbers. Mark i says that row i was picked.
 pub fn write(part: &mut [u8], free: u8, marks: [bool; 32]) -> Stored
-    ensures { λ r. ⌜ r ≡ storedWhere (hasRoom (now (part .entry)) (recordOf free (marked marks))) ⌝ }
+    ensures { λ r. ⌜ storedNumber r ≡ writeNumber (now (part .entry)) (recordOf free (marked marks)) ⌝ }
     ensures { λ _. ⌜ now (part .exit) ≡ partAfter (now (part .entry)) (recordOf free (marked marks)) ⌝ }
 {
     let count = how_many(marks);

@@ -8,7 +8,7 @@ use native.Mathlib.Omega.{arith}
 use borrow.Author.Tests.{eq-eqb, ne-eqb}
 use Rattle.facts.specs.Rounding.{ceilDiv}
 use Rattle.facts.proofs.Rounding.{ceil-is-enough, below-ceil-falls-short, floor-is-near, ceil-is-near, ceil-of-whole, ceil-of-part}
-use Rattle.windows.specs.Windows.{start, deadline, bit, windowLength, jobStart, lastOfJob}
+use Rattle.windows.specs.Windows.{start, deadline, bit, NextStartIsDLessB, windowLength, jobStart, lastOfJob}
 
 -- for callers
 
@@ -71,7 +71,7 @@ module _ (e p o : ℕ) (he : 0 < e) where
   unfolding deadline
   deadline-of-part i h = omega (arith, ceil-of-part (i * p) he h)
 
-  -- W1: "the next start is d - b".
+  -- W1 as a sum.
   pub next-start-is-deadline-less-bit : (i : ℕ) → start e p o (i + 1) + bit e p i ≡ deadline e p o i
   unfolding start
   next-start-is-deadline-less-bit i = go (ℕ-discrete (i * p % e) 0)
@@ -159,3 +159,7 @@ due-in-order e p o he hp i j h = go (decLt i j) (decLt j i)
     go (yes l) d = l
     go (no l) (yes m) = absurd (omega (arith, deadline-rises e p o he hp m))
     go (no l) (no m) = let same : i ≡ j = omega arith in absurd (omega (arith, ap (deadline e p o) same))
+
+-- W1: "the next start is d - b".
+pub next-start-is-d-less-b : NextStartIsDLessB
+next-start-is-d-less-b e p o i he = omega (arith, next-start-is-deadline-less-bit e p o he i)

@@ -6,11 +6,10 @@ use lib.ListN.{length, replicate, length-replicate}
 use Rattle.facts.specs.Places.{ReadSoFar}
 use Rattle.facts.proofs.Places.{reading-begins, reading-ends, reading-stops, reading-goes-on}
 use Rattle.table.specs.declared.Row.{Row}
-use Rattle.table.specs.declared.Cursor.{Cursor}
 use Rattle.table.specs.Limits.{rowLimit}
 use Rattle.table.specs.Causes.{tankAbove, zeroRow}
 use Rattle.table.specs.Bytes.{rowInBytes, rowTestsIn}
-use Rattle.table.specs.Parts.{numberOf}
+use Rattle.table.specs.RowRead.{rowReplyOf}
 use Rattle.table.proofs.Sum.{Added, added-none, added-put, added-all}
 use Rattle.table.proofs.Bytes.{row-was-read, row-was-there, row-was-faulty}
 use Rattle.table.proofs.rows.read.Statement.{statement}
@@ -56,7 +55,7 @@ returns c =
     let at = got .before .before in
     let told = c .before .enum-told .given .1 in
     let was = row-was-faulty _ _ _ _ (got .read-one .ensures) told in
-    let number = c .number .ensures ∙ ap numberOf told ∙ was .0 in (
+    let number = c .number .ensures ∙ ap (λ got. rowReplyOf got .number) told ∙ was .0 in (
       reading-stops _ _ _ _ _ _ _ _ (at .loop .inv .0) (got .before .loop-test .taken) (at .loop .inv .1) number (λ z. was .1 (sym number ∙ z)),
       λ z. absurd (was .1 (sym number ∙ z)),
     )
@@ -89,7 +88,7 @@ loop-again c =
     let at = got .before .before in
     let taken = got .before .loop-test .taken in
     let was = row-was-read _ _ _ _ (got .read-one .ensures) (c .before .before .before .got .given .1) in
-    let past = ap (λ (x : Cursor). x .at) (was .2) in (
+    let past = was .2 in (
       reading-goes-on _ _ _ _ _ _ _ _ (at .loop .inv .0) taken (at .loop .inv .1) (omega (arith, taken, at .before .before .before .pre .1)) (was .0) (was .1) (c .above .ensures ∙ ap tankAbove (was .1)),
       omega (arith, past, at .loop .inv .1),
       added-put (at .loop .inv .2) taken (quanta .1) _ (quanta .0),

@@ -1,0 +1,43 @@
+-- What a program can be called with. A definition speaks of every list and every number; the statements of what is shut out speak of those alone that
+-- can be: a byte is below 256, a slice has fewer than 2 to the 63 of them, an array has its length, and each number fits its type.
+use Prim.Native.Nat.{ℕ, _^_}
+use mathlib.Core.Path.{_≡_}
+use mathlib.Core.List.{List, [], _∷_}
+use mathlib.Core.Bool.{Bool, true, _&&_}
+use lib.Dec.{ltb}
+use lib.ListN.{length}
+use Rattle.table.specs.declared.Row.{Row}
+use Rattle.table.specs.declared.Table.{Table}
+use Rattle.table.specs.Limits.{rowLimit, coreLimit}
+use Rattle.dispatcher.specs.declared.State.{State}
+use Rattle.dispatcher.specs.State.{quantaIn, timeOf}
+
+unfoldable pub allBelow : ℕ → List ℕ → Bool
+allBelow top [] = true
+allBelow top (x ∷ xs) = ltb x top && allBelow top xs
+
+-- bytes of a slice
+abbrev pub Bytes : List ℕ → Type 0
+Bytes s = allBelow 256 s && ltb (length s) (2 ^ 63) ≡ true
+
+-- rows: a tank, e, p and f of two bytes each, and a kind of one
+abbrev pub rowFits : Row → Bool
+rowFits row = allBelow 65_536 (row .tank ∷ row .cost ∷ row .period ∷ row .phase ∷ []) && ltb (row .kind) 256
+
+unfoldable pub rowsFit : List Row → Bool
+rowsFit [] = true
+rowsFit (row ∷ rows) = rowFits row && rowsFit rows
+
+-- a table value: L of four bytes, M, n and the board numbers of one each
+abbrev pub tableFits : Table → Bool
+tableFits t = ltb (t .cycle) (2 ^ 32) && allBelow 256 (t .cores ∷ t .count ∷ t .boards) && rowsFit (t .rows)
+
+-- A slot can be asked so: the state holds 8 board numbers, 32 rows and 32 quanta; time, quanta and place are numbers of 64 bits, and k is a byte.
+pub record Possible (s : State) (k : ℕ) (buffer : List ℕ) (place : ℕ) : Type 0 where
+  pub boards : length (s .table .boards) ≡ coreLimit
+  pub rows : length (s .table .rows) ≡ rowLimit
+  pub quanta : length (s .quanta) ≡ rowLimit
+  pub table : tableFits (s .table) ≡ true
+  pub counts : allBelow (2 ^ 64) (place ∷ timeOf s ∷ quantaIn s) ≡ true
+  pub free : ltb k 256 ≡ true
+  pub bytes : Bytes buffer
