@@ -36,7 +36,9 @@ recordFindings table s t = shapeAt (table .cores) (length (rowsOf table)) s (pla
 -- in the records of m slots from slot t on
 unfoldable pub recordsFindings : Table → List ℕ → ℕ → ℕ → List (Finding Said)
 recordsFindings table s t zero = []
-recordsFindings table s t (suc m) = recordFindings table s t ++ recordsFindings table s (t + 1) m
+recordsFindings table s t (suc m) =
+    let later = recordsFindings table s (t + 1) m in
+    recordFindings table s t ++ later
 
 -- "40 for the count, 47 ..": before the records
 abbrev pub countFindings : List ℕ → List (Finding Said)

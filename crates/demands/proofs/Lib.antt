@@ -5,6 +5,8 @@ pub mod Two
 pub mod RunPasses
 pub mod Three
 pub mod Bench
+pub mod Laws
 pub mod Confession
 pub mod ShutOut
 pub mod NeverLate
+pub mod All

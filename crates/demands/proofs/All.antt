@@ -1,0 +1,25 @@
+-- All that this crate states is proved. Assumes nothing.
+use Rattle.demands.specs.All.{All}
+use Rattle.demands.proofs.Determined.{every-promise-determines}
+use Rattle.demands.proofs.One.{demand-one}
+use Rattle.demands.proofs.Two.{demand-two}
+use Rattle.demands.proofs.Three.{demand-three}
+use Rattle.demands.proofs.Bench.{bench-holds}
+use Rattle.demands.proofs.Laws.{laws-hold}
+use Rattle.demands.proofs.Confession.{confession}
+use Rattle.demands.proofs.ShutOut.{shut-out}
+use Rattle.demands.proofs.NeverLate.{never-late}
+
+pub all : All
+all =
+    record {
+      determined = every-promise-determines;
+      one = demand-one;
+      two = demand-two;
+      three = demand-three;
+      bench = bench-holds;
+      laws = laws-hold;
+      confession = confession;
+      shut-out = shut-out;
+      never-late = never-late;
+    }

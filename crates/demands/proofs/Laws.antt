@@ -1,0 +1,36 @@
+-- Our own table, computed from the definitions. Assumes nothing.
+use mathlib.Core.Path.{refl}
+use Rattle.facts.specs.Rounding.{ceilDiv}
+use Rattle.facts.specs.First.{atFirst}
+use Rattle.facts.specs.Counting.{howMany, those}
+use Rattle.facts.specs.Faults.{firstMet, rising}
+use Rattle.facts.specs.Findings.{firstFound}
+use Rattle.facts.specs.Places.{places, padded}
+use Rattle.windows.specs.Windows.{start, deadline, bit, windowLength, jobStart}
+use Rattle.windows.specs.Group.{heavy, stops, stopTime, groupDeadline}
+use Rattle.windows.specs.Question.{windowReply}
+use Rattle.table.specs.Causes.{load}
+use Rattle.table.specs.Value.{faultOf}
+use Rattle.table.specs.Bytes.{tableNumber, reading}
+use Rattle.pd2.specs.Ready.{ready, late}
+use Rattle.pd2.specs.Share.{lower, upper}
+use Rattle.pd2.specs.Order.{before}
+use Rattle.pd2.specs.Picks.{picked}
+use Rattle.pd2.specs.Choice.{given}
+use Rattle.trace.specs.Record.{withFront, withRecord}
+use Rattle.trace.specs.Records.{placeOf, names}
+use Rattle.trace.specs.Found.{isFound}
+use Rattle.dispatcher.specs.Broken.{broken}
+use Rattle.dispatcher.specs.Slot.{refusal, slotOf}
+use Rattle.checker.specs.Causes.{badRows}
+use Rattle.checker.specs.Check.{recordsFindings, traceSaid, checkOf}
+use Rattle.printer.specs.Input.{freeIn, unfit}
+use Rattle.printer.specs.Lines.{digitsBy, decimal, spaced}
+use Rattle.printer.specs.Text.{slotsText, textOf}
+use Rattle.demands.specs.RunPasses.{wordBytes}
+use Rattle.demands.specs.Bench.{same}
+use Rattle.demands.specs.Laws.{allKept, lightRows, risingRows, LawsHold}
+
+pub laws-hold : LawsHold
+unfolding ceilDiv atFirst howMany those firstMet rising firstFound places padded start deadline bit windowLength jobStart heavy stops stopTime groupDeadline windowReply load faultOf tableNumber reading ready late lower upper before picked given withFront withRecord placeOf names isFound broken refusal slotOf badRows recordsFindings traceSaid checkOf freeIn unfit digitsBy decimal spaced slotsText textOf wordBytes same allKept lightRows risingRows
+laws-hold = refl

@@ -1,0 +1,28 @@
+-- All that this crate states, in one record: whoever reads it has seen every statement, and its one theorem (proofs/All.antt) proves them all. The gate
+-- asks for each of these fields by name and type.
+use Rattle.demands.specs.Determined.{EveryPromiseDetermines}
+use Rattle.demands.specs.One.{DemandOne}
+use Rattle.demands.specs.Two.{DemandTwo}
+use Rattle.demands.specs.Three.{DemandThree}
+use Rattle.demands.specs.Bench.{BenchHolds}
+use Rattle.demands.specs.Laws.{LawsHold}
+use Rattle.demands.specs.Confession.{Confession}
+use Rattle.demands.specs.ShutOut.{ShutOut}
+use Rattle.demands.specs.NeverLate.{NeverLate}
+
+pub record All : Type 0 where
+  -- "any two results allowed are equal", of every public function
+  pub determined : EveryPromiseDetermines
+  -- the three demands
+  pub one : DemandOne
+  pub two : DemandTwo
+  pub three : DemandThree
+  -- the bench values that 01 marks P, and our own table of 01's numbers, orders and limits
+  pub bench : BenchHolds
+  pub laws : LawsHold
+  -- the mistake that cost a morning
+  pub confession : Confession
+  -- what "must be shut out"
+  pub shut-out : ShutOut
+  -- what a planner may count on
+  pub never-late : NeverLate
