@@ -29,6 +29,7 @@ use Rattle.dispatcher.proofs.Kept.{refusal-changes-nothing, done-makes-the-step
 use Rattle.dispatcher.proofs.RunKept.{one-when-owed, quanta-are-records, records-stand-in-turn}
 use Rattle.checker.proofs.Passes.{passes-in-shares, checked-as-table}
 use Rattle.demands.specs.Three.{upperLimit, InLimits, PassesInLimits, FromFresh, KeepsLimits, IsOwed, Reports, ReportsLate, DemandThree}
+use Rattle.demands.proofs.WithCount.{word-bytes-are-read}
 use Rattle.demands.proofs.RunPasses.{run-passes}
 
 -- The limits of a row that can be, in the demand's words: by its kind.
@@ -164,5 +165,6 @@ demand-three =
       reports = reports-late;
       quanta = quanta-are-records;
       in-turn = records-stand-in-turn;
+      count-is-read = word-bytes-are-read;
       run-passes = run-passes;
     }

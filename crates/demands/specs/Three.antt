@@ -24,7 +24,7 @@ use Rattle.dispatcher.specs.Slot.{slotOf}
 use Rattle.dispatcher.specs.RunKept.{QuantaAreRecords, RecordsStandInTurn}
 use Rattle.checker.specs.Check.{checkOf}
 use Rattle.checker.specs.WellFormed.{WellFormed}
-use Rattle.demands.specs.RunPasses.{RunPasses}
+use Rattle.demands.specs.RunPasses.{WordBytesAreRead, RunPasses}
 
 -- "The exact share is e·a/p": rounded down, and rounded up
 abbrev pub shareDown : Row → ℕ → ℕ
@@ -89,4 +89,5 @@ pub record DemandThree : Type 0 where
   pub reports : ReportsLate
   pub quanta : (table : Table) (free : ℕ → ℕ) (buffer : List ℕ) (place : ℕ) → QuantaAreRecords table free buffer place
   pub in-turn : (table : Table) (free : ℕ → ℕ) (buffer : List ℕ) (place : ℕ) → RecordsStandInTurn table free buffer place
+  pub count-is-read : WordBytesAreRead
   pub run-passes : RunPasses
