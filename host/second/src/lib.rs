@@ -11,13 +11,16 @@
 //! * `checker`: the judge of traces from any origin.
 //! * `printer`: the slot printer's whole output.
 //! * `never_late`: full boxes by chance, run with all cores free.
+//! * `questions`: single rules of the above, asked of numbers that no table or state may have.
 //!
 //! # Planted slips
 //!
 //! Built with `--cfg slip="NAME"` the program makes one mistake on purpose, so that a bench can
 //! show that it would be seen. Built without, none of it is there. Each is marked `slip:` at its
-//! place. The first five are those of 01's "Slips we have made", the others are of the kind that
-//! is off by one.
+//! place. The first five are those of 01's "Slips we have made", the next three are of the kind
+//! that is off by one. The others show at the ends of what may be asked alone: a number cut to
+//! fewer bytes, a limit that lets one too many or too few pass, a kind or a place that is not
+//! looked at.
 //!
 //! | name | place | the mistake |
 //! |---|---|---|
@@ -29,6 +32,13 @@
 //! | `start_of_next` | `windows::start_after_phase` | a window starts at the next one's start |
 //! | `deadline_rounded_down` | `windows::deadline_after_phase` | floor in place of ceil |
 //! | `half_is_heavy` | `windows::heavy` | 1/2 counted heavy |
+//! | `input_read_short` | `printer::read_input` | only the first 65,536 bytes are judged |
+//! | `subtask_as_4_bytes` | `windows::window` | i cut to 32 bits |
+//! | `place_as_4_bytes` | `slot::slot` | the place cut to 32 bits |
+//! | `slots_limit_4097` | `printer::MOST_SLOTS` | 4,097 slots are taken |
+//! | `record_begins_at_0` | `trace::record` | every part is said to begin at 0 |
+//! | `kinds_above_1_early` | `table::Row::early_release` | any kind above 0 is early release |
+//! | `reach_one_less` | `questions::in_reach` | 2^46 itself is not answered |
 
 // compilers that know the lint warn of a cfg name they were not told of; older ones do not know
 // the lint
@@ -38,6 +48,7 @@
 pub mod checker;
 pub mod never_late;
 pub mod printer;
+pub mod questions;
 pub mod share;
 pub mod slot;
 pub mod table;

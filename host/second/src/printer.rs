@@ -6,6 +6,13 @@
 use crate::slot;
 use crate::table;
 
+/// "slots to run (2, at most 4,096)"; slip: one more
+const MOST_SLOTS: u16 = if cfg!(slip = "slots_limit_4097") {
+    4_097
+} else {
+    4_096
+};
+
 /// What stands in the input, its numbers within their limits.
 struct Input<'a> {
     table: &'a [u8],
@@ -32,6 +39,9 @@ fn take_number(rest: &mut &[u8]) -> Option<u16> {
 /// None for "missing or extra bytes, input beyond 65,536 bytes, or a number above its limit
 /// here".
 fn read_input(input: &[u8]) -> Option<Input<'_>> {
+    // slip: only the first 65,536 bytes are judged
+    #[cfg(slip = "input_read_short")]
+    let input = &input[..input.len().min(65_536)];
     if input.len() > 65_536 {
         return None;
     }
@@ -39,7 +49,7 @@ fn read_input(input: &[u8]) -> Option<Input<'_>> {
     let table_length = take_number(&mut rest)?;
     let table = take(&mut rest, usize::from(table_length))?;
     let slots = take_number(&mut rest)?;
-    if slots > 4_096 {
+    if slots > MOST_SLOTS {
         return None;
     }
     let free_count = take_number(&mut rest)?;
@@ -229,6 +239,10 @@ mod tests {
         let most = input_of(&table, 0, &[]);
         assert_eq!(most.len(), 65_536);
         assert_eq!(printed(&most), "refused 21\n");
+        // one more, after bytes that would be an input without it
+        let mut beyond = most;
+        beyond.push(0);
+        assert_eq!(printed(&beyond), "input\n");
         // one more, though every byte has its place
         table.push(0);
         let beyond = input_of(&table, 0, &[]);

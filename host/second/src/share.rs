@@ -28,12 +28,12 @@ pub fn not_over(row: &Row, time: u64, quanta: u64) -> bool {
     if p == 0 {
         return false;
     }
-    if row.kind == 0 {
-        -p < behind(row, time, quanta)
-    } else {
+    if row.early_release() {
         let a = i128::from(active_time(row, time));
         let jobs = (a + p - 1) / p;
         i128::from(quanta) <= i128::from(row.cost) * jobs
+    } else {
+        -p < behind(row, time, quanta)
     }
 }
 

@@ -50,7 +50,7 @@ pub fn fresh(table: Table) -> State {
 // ---- who is ready, who is late ----
 
 /// "Subtask i is next when i-1 quanta have been given."
-fn next_subtask(quanta: u64) -> u64 {
+pub(crate) fn next_subtask(quanta: u64) -> u64 {
     quanta.saturating_add(1)
 }
 
@@ -58,12 +58,12 @@ fn next_subtask(quanta: u64) -> u64 {
 pub fn ready(row: &Row, quanta: u64, time: u64) -> bool {
     let i = next_subtask(quanta);
     let phase = u64::from(row.phase);
-    let begin = if row.kind == 0 {
-        // "A plain row is ready in slot t if t is at or past r of its next subtask."
-        windows::start(row.cost, row.period, phase, i)
-    } else {
+    let begin = if row.early_release() {
         // "An early-release row is ready if t is at or past the start of the job that holds it"
         windows::job_start(row.cost, row.period, phase, i)
+    } else {
+        // "A plain row is ready in slot t if t is at or past r of its next subtask."
+        windows::start(row.cost, row.period, phase, i)
     };
     u128::from(time) >= begin
 }
@@ -162,22 +162,37 @@ pub fn order(one: &Next, other: &Next) -> Ordering {
 
 /// The ready rows of a state in its slot, first those that go first.
 pub fn ready_rows(state: &State) -> Vec<Next> {
+    in_order(state.table.named_rows(), &state.quanta, |row, quanta| {
+        ready(row, quanta, state.time)
+    })
+}
+
+/// Of rows numbered from 0, with the quanta of each, those that `is_ready` says are ready, first
+/// those that go first.
+pub(crate) fn in_order(
+    rows: &[Row],
+    quanta: &[u64; 32],
+    is_ready: impl Fn(&Row, u64) -> bool,
+) -> Vec<Next> {
     let mut found = Vec::new();
-    for (number, row) in state.table.named_rows().iter().enumerate() {
-        let quanta = state.quanta[number];
-        if ready(row, quanta, state.time) {
-            let (e, p, f) = (row.cost, row.period, u64::from(row.phase));
-            let i = next_subtask(quanta);
-            let next = Next {
-                row: number as u8,
-                deadline: windows::deadline(e, p, f, i),
-                bit: windows::bit(e, p, i),
-                group: windows::group_deadline(e, p, f, i),
-            };
-            put_in_order(&mut found, next);
+    for (number, row) in rows.iter().enumerate() {
+        if is_ready(row, quanta[number]) {
+            put_in_order(&mut found, next_of(number as u8, row, quanta[number]));
         }
     }
     found
+}
+
+/// A row's next subtask, as the order sees it.
+fn next_of(number: u8, row: &Row, quanta: u64) -> Next {
+    let (e, p, f) = (row.cost, row.period, u64::from(row.phase));
+    let i = next_subtask(quanta);
+    Next {
+        row: number,
+        deadline: windows::deadline(e, p, f, i),
+        bit: windows::bit(e, p, i),
+        group: windows::group_deadline(e, p, f, i),
+    }
 }
 
 /// Puts a row before the first of the others that it goes before. (Not a library's sort: with the
@@ -248,10 +263,27 @@ fn room(buffer: &mut [u8], place: u64, length: usize) -> Option<&mut [u8]> {
     Some(&mut after[..length])
 }
 
+/// Writes a slot's record at `place` in the buffer, every other byte as before: "cores free k (1),
+/// rows picked c (1), and c row numbers rising strictly (1 each)". False where there is no room for
+/// it; then the buffer is untouched.
+pub(crate) fn write_record(buffer: &mut [u8], place: u64, k: u8, picked: &[u8]) -> bool {
+    let record = match room(buffer, place, 2 + picked.len()) {
+        Some(part) => part,
+        None => return false,
+    };
+    record[0] = k;
+    record[1] = picked.len() as u8;
+    record[2..].copy_from_slice(picked);
+    true
+}
+
 /// Makes one slot's choice with k free cores and writes its record at `place` in the buffer.
 /// "Order for a slot: 30, 31, 32, 33, 34. With 30 to 34 the state returns equal and the buffer
 /// is untouched."
 pub fn slot(state: &mut State, k: u8, buffer: &mut [u8], place: u64) -> Answer {
+    // slip: the place cut to 32 bits
+    #[cfg(slip = "place_as_4_bytes")]
+    let place = u64::from(place as u32);
     // 30: "broken state"
     if broken(state) {
         return Answer::plain(30);
@@ -270,15 +302,9 @@ pub fn slot(state: &mut State, k: u8, buffer: &mut [u8], place: u64) -> Answer {
     }
     // 34: "the place is past the buffer's end, or fewer than 2 + c bytes remain after it"
     let picked = pick(state, k);
-    let record = match room(buffer, place, 2 + picked.len()) {
-        Some(part) => part,
-        None => return Answer::plain(34),
-    };
-
-    // "cores free k (1), rows picked c (1), and c row numbers rising strictly (1 each)"
-    record[0] = k;
-    record[1] = picked.len() as u8;
-    record[2..].copy_from_slice(&picked);
+    if !write_record(buffer, place, k, &picked) {
+        return Answer::plain(34);
+    }
 
     // "time is one higher, each picked row has one quantum more"
     state.time += 1;
@@ -699,6 +725,8 @@ pub(crate) mod tests {
         assert_eq!(refused(&state, 2, 3, 3), 34);
         assert_eq!(refused(&state, 2, 3, 4), 34);
         assert_eq!(refused(&state, 2, 3, u64::MAX), 34);
+        // its last four bytes alone are 0
+        assert_eq!(refused(&state, 2, 3, 4_294_967_296), 34);
         assert_eq!(refused(&state, 0, 1, 0), 34);
         assert_eq!(refused(&state, 0, 2, 1), 34);
         let mut buffer = [0xEE; 5];

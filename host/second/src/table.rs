@@ -42,6 +42,16 @@ impl Row {
             kind: 0,
         }
     }
+
+    /// "kind (1: 0 plain, 1 early release)". A table with another kind has a fault; the questions
+    /// alone ask of such rows, and "any other kind is plain" there.
+    pub fn early_release(&self) -> bool {
+        // slip: any kind above 0 is early release
+        if cfg!(slip = "kinds_above_1_early") {
+            return self.kind > 0;
+        }
+        self.kind == 1
+    }
 }
 
 impl Table {
@@ -584,6 +594,43 @@ pub(crate) mod tests {
             12
         );
         assert_eq!(fault(&Table::zero()), 12);
+    }
+
+    #[test]
+    fn a_wild_count_is_a_fault_before_what_it_counts() {
+        // M = 9 before boards that fall, n = 33 after them and before rows without cost
+        let mut table = read(&EXAMPLE).unwrap();
+        table.boards = [8, 7, 6, 5, 4, 3, 2, 1];
+        table.count = 33;
+        table.rows = [Row::zero(); 32];
+        table.cores = 9;
+        assert_eq!(fault(&table), 13);
+        table.cores = 8;
+        assert_eq!(fault(&table), 14);
+        table.boards = [1, 2, 3, 4, 5, 6, 7, 7];
+        assert_eq!(fault(&table), 14);
+        table.boards[7] = 8;
+        assert_eq!(fault(&table), 15);
+        table.count = 32;
+        assert_eq!(fault(&table), 17);
+        table.count = 0;
+        assert_eq!(fault(&table), 0);
+    }
+
+    #[test]
+    fn the_last_of_32_rows_counts() {
+        // 32 rows of 1/4 fill eight cores of 4 slots
+        let mut table = value_of(4, 8, &[(1, 4, 0, 1); 32]);
+        assert_eq!(fault(&table), 0);
+        table.rows[31].kind = 2;
+        assert_eq!(fault(&table), 20);
+        table.rows[31].kind = 0;
+        table.rows[31].cost = 2;
+        assert_eq!(fault(&table), 22);
+        table.rows[31].tank = 31;
+        assert_eq!(fault(&table), 16);
+        table.count = 31;
+        assert_eq!(fault(&table), 0);
     }
 
     #[test]

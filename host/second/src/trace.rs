@@ -33,6 +33,9 @@ pub fn record(trace: &[u8], slot: u64) -> (usize, usize) {
             return NOT_FOUND;
         }
         if here == slot {
+            // slip: every part begins at 0
+            #[cfg(slip = "record_begins_at_0")]
+            let begin = 0;
             return (begin, length);
         }
         begin += length;

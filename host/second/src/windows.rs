@@ -25,6 +25,9 @@ pub struct Window {
 /// e = 0, if e is not below p, or if i is not in 1 to 1,000,000,001; then r, d, b and D come
 /// back as 0."
 pub fn window(e: u16, p: u16, f: u16, i: u64) -> Window {
+    // slip: i cut to 32 bits
+    #[cfg(slip = "subtask_as_4_bytes")]
+    let i = u64::from(i as u32);
     if e == 0 || e >= p || i < 1 || i > 1_000_000_001 {
         return Window {
             number: 50,
@@ -106,19 +109,16 @@ fn reduced(e: u16, p: u16) -> (u16, u16) {
 /// that is the deadline of a subtask of this row with b = 0, or one less than the deadline of a
 /// subtask of this row whose window is 3 slots long."
 ///
-/// Time after time from d on is asked whether it is such a time; the walk over the windows that
-/// 01 names for the bench meets the same one (the tests take it). One comes within p slots: each
-/// job's last subtask has b = 0. Without a window (e = 0, e not below p, i = 0) it is 0.
+/// It is reckoned, not sought; the walk over the windows that 01 names for the bench meets the
+/// same time (the tests take it). A row of e = p, which no table has, may be asked for as well.
+/// Without a window (e = 0, e above p, i = 0) it is 0.
 pub fn group_deadline(e: u16, p: u16, f: u64, i: u64) -> u128 {
-    if e == 0 || e >= p || i == 0 || !heavy(e, p) {
+    if e == 0 || e > p || i == 0 || !heavy(e, p) {
         return 0;
     }
     let (e, p) = (u128::from(e), u128::from(p));
-    let mut time = deadline_after_phase(e, p, u128::from(i));
-    while !is_group_deadline(e, p, time) {
-        time += 1;
-    }
-    u128::from(f) + time
+    let deadline = deadline_after_phase(e, p, u128::from(i));
+    u128::from(f) + first_group_deadline(e, p, deadline)
 }
 
 // ---- the same for phase 0; the callers have seen that e is not 0 and i is not 0 ----
@@ -146,32 +146,25 @@ fn bit_of(e: u128, p: u128, i: u128) -> u8 {
     }
 }
 
-/// Is `time` "the deadline of a subtask of this row with b = 0, or one less than the deadline
-/// of a subtask of this row whose window is 3 slots long"?
-fn is_group_deadline(e: u128, p: u128, time: u128) -> bool {
-    if let Some(j) = subtask_with_deadline(e, p, time) {
-        if bit_of(e, p, j) == 0 {
-            return true;
-        }
+/// The smallest time at or after `time`, which is not 0, "that is the deadline of a subtask of this
+/// row with b = 0, or one less than the deadline of a subtask of this row whose window is 3 slots
+/// long". The row is heavy.
+///
+/// With e = p every time from 1 on is a deadline with b = 0. With e < p the windows of a heavy row
+/// start one or two slots apart, and a time t is of that sort exactly when none starts in slot
+/// t - 1: then one starts at t - 2 and the next at t, which is its "d - b", so that it ends at t
+/// with b = 0, or at t + 1 and is 3 slots long; and of both sorts of window the next starts at t.
+/// The slots in which none starts are those before the deadlines of a row of p - e in p. So says
+/// 001: "D can be calculated by using (8) to determine the deadlines of a task of weight
+/// 1 - wt(T)".
+fn first_group_deadline(e: u128, p: u128, time: u128) -> u128 {
+    if e == p {
+        return time;
     }
-    if let Some(j) = subtask_with_deadline(e, p, time + 1) {
-        if time + 1 - start_after_phase(e, p, j) == 3 {
-            return true;
-        }
-    }
-    false
-}
-
-/// The subtask whose deadline is `time`, if one has it. Deadlines rise strictly, as e < p.
-/// ceil(j·p/e) is at most `time` exactly when j·p is at most `time`·e; the last such j is the
-/// only one whose deadline can be `time` itself.
-fn subtask_with_deadline(e: u128, p: u128, time: u128) -> Option<u128> {
-    let j = time * e / p;
-    if j >= 1 && deadline_after_phase(e, p, j) == time {
-        Some(j)
-    } else {
-        None
-    }
+    let rest = p - e;
+    // ceil(j·p/rest) is at or after `time` exactly when j·p is above (time - 1)·rest
+    let j = (time - 1) * rest / p + 1;
+    deadline_after_phase(rest, p, j)
 }
 
 #[cfg(test)]
@@ -273,6 +266,10 @@ mod tests {
         assert_eq!(window(1, 2, 0, 1_000_000_001).number, 0);
         assert_eq!(window(1, 2, 0, 1_000_000_002).number, 50);
         assert_eq!(window(1, 2, 0, u64::MAX).number, 50);
+        // their last four bytes alone are 0, 1 and 1,000,000,001
+        assert_eq!(window(1, 2, 0, 4_294_967_296).number, 50);
+        assert_eq!(window(1, 2, 0, 4_294_967_297).number, 50);
+        assert_eq!(window(1, 2, 0, 5_294_967_297).number, 50);
         // 65535·1,000,000,001 and 65535·1,000,000,002
         assert_eq!(
             asked(1, 65535, 65535, 1_000_000_001),
@@ -312,7 +309,13 @@ mod tests {
                 deadline(e, p, u64::MAX, i);
                 bit(e, p, i);
                 job_start(e, p, u64::MAX, i);
-                assert_eq!(group_deadline(e, p, u64::MAX, i), 0);
+                let group = group_deadline(e, p, u64::MAX, i);
+                if e == 0 || e > p || i == 0 {
+                    assert_eq!(group, 0);
+                } else {
+                    // e = p: subtask i ends i after the phase with b = 0
+                    assert_eq!(group, u128::from(u64::MAX) + u128::from(i));
+                }
             }
         }
         // 2/3 at a large origin: subtask 1 ends 2 after it, its group 3 after it
@@ -396,6 +399,34 @@ mod tests {
                         assert_eq!(here.group, 0);
                     }
                 }
+            }
+        }
+    }
+
+    #[test]
+    fn the_group_deadline_of_long_rows() {
+        for &p in &[997u16, 4_096, 65_519, 65_534, 65_535] {
+            for &rest in &[1, 2, 3, 7, 100, p / 4, p / 3, p / 2 - 1, (p - 1) / 2] {
+                let e = p - rest;
+                let last = u64::from(e);
+                for &i in &[1, 2, last / 2, last - 1, last, last + 1, 3 * last] {
+                    let group = window(e, p, 0, i).group;
+                    assert_eq!(group, group_by_walk(e, p, i), "{}/{}, {}", e, p, i);
+                }
+            }
+        }
+    }
+
+    #[test]
+    fn with_e_equal_to_p_the_group_deadline_is_the_deadline() {
+        // windows are one slot long, and e divides i·e
+        for &e in &[1, 2, 3, 65_535] {
+            for &i in &[1, 2, 3, 65_535, 65_536] {
+                assert_eq!(start(e, e, 9, i), 8 + u128::from(i));
+                assert_eq!(deadline(e, e, 9, i), 9 + u128::from(i));
+                assert_eq!(bit(e, e, i), 0);
+                assert_eq!(group_deadline(e, e, 9, i), 9 + u128::from(i));
+                assert_eq!(window(e, e, 9, i).number, 50);
             }
         }
     }
