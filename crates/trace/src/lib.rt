@@ -85,6 +85,17 @@ pub fn record(trace: &[u8], slot: Slot) -> &[u8]
     &trace[start..end]
 }
 
+// Where the part that `record` hands back begins in the trace: 0 if it is not found.
+pub fn begins(trace: &[u8], slot: Slot) -> usize
+    ensures { λ r. ⌜ r ≡ partBegins (now (trace .entry)) (slot .0) ⌝ }
+{
+    let place = find(trace, slot.time());
+    let Place::Between(start, _) = place else {
+        return 0;
+    };
+    start
+}
+
 // Looks for a record only if the count says that there is one.
 fn find(trace: &[u8], slot: u64) -> Place
     ensures { λ r. ⌜ r ≡ placeFound (now (trace .entry)) slot ⌝ }
