@@ -51,6 +51,7 @@ every-promise-determines =
       pd2-lowest-late = λ rows quanta n time. lowest-late-is-determined rows quanta (min n 32) (time .0);
       trace-write = λ part free marks. write-is-determined part free marks;
       trace-record-but-for-its-name = λ trace at slot name. record-is-determined-but-for-its-name (record { ptr = at; name = 0; now = trace }) (slot .0) name;
+      trace-begins = λ trace slot. by-value;
       choice-picks = λ rows quanta n time k. picks-are-determined (chosen (take n rows) (numbersOf quanta) (time .0) (min k 8));
       dispatcher-State-fresh = λ table. dispatcher.fresh-is-determined table;
       dispatcher-State-slot = λ self k buffer place a b p q. dispatcher.slot-is-determined self k buffer place a b (p .0, (p .1, p .2)) (q .0, (q .1, q .2));

@@ -175,6 +175,10 @@ trace·write part free marks r part-after = (storedNumber r ≡ writeNumber part
 abbrev pub trace·record : List ℕ → ℕ × ℕ → Slot → RefT (List ℕ) → Type 0
 trace·record trace trace-ptr slot r = (now r ≡ partFound trace (slot .0)) × ((r .ptr .0 ≡ trace-ptr .0) × (r .ptr .1 ≡ trace-ptr .1 + partBegins trace (slot .0)))
 
+-- trace::begins
+abbrev pub trace·begins : List ℕ → Slot → ℕ → Type 0
+trace·begins trace slot r = r ≡ partBegins trace (slot .0)
+
 -- choice::picks
 abbrev pub choice·picks : List Row → List Quanta → ℕ → Slot → ℕ → List Bool → Type 0
 choice·picks rows quanta n time k r = (length r ≡ 32) × (marked r ≡ chosen (take n rows) (numbersOf quanta) (time .0) (min k 8))
