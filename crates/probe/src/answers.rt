@@ -46,6 +46,18 @@ pub(crate) fn table(request: &[u8]) -> usize
     end
 }
 
+// V: a table value (302). The answer is the number of its fault, 0 where it has none.
+pub(crate) fn fault(request: &[u8]) -> usize
+    ensures { λ r. ⌜ r ≤ length (now (request .entry)) ⌝ }
+{
+    if request.len() < 303 {
+        return 0;
+    }
+    let number = table::fault(read::table(request, 1));
+    io::write_all(STDOUT_FILENO, &[number]);
+    303
+}
+
 // S: a state (567), k (1), the place (8), the length (4) of the buffer, and its bytes. They are lent to the slot where they stand in the
 // input. The state's mark is 0 or 1: with any other byte the request counts as cut.
 pub(crate) fn slot(request: &mut [u8]) -> usize
@@ -78,7 +90,7 @@ fn tell(outcome: Outcome) {
     io::write_all(STDOUT_FILENO, &out);
 }
 
-// R: a slot (8), the length (4) of a trace, and its bytes.
+// R: a slot (8), the length (4) of a trace, and its bytes. The answer says where the part begins, so that it is told from an equal one elsewhere.
 pub(crate) fn record(request: &[u8]) -> usize
     ensures { λ r. ⌜ r ≤ length (now (request .entry)) ⌝ }
 {
@@ -88,9 +100,11 @@ pub(crate) fn record(request: &[u8]) -> usize
         return 0;
     }
     let slot = Slot::at(read::long(request, 1));
+    let begins = trace::begins(&request[13..end], slot);
     let part = trace::record(&request[13..end], slot);
-    let mut out = [0u8; 8];
-    put::long(&mut out, 0, part.len() as u64);
+    let mut out = [0u8; 16];
+    let past_begins = put::long(&mut out, 0, begins as u64);
+    put::long(&mut out, past_begins, part.len() as u64);
     io::write_all(STDOUT_FILENO, &out);
     io::write_all(STDOUT_FILENO, part);
     end

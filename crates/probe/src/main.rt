@@ -63,6 +63,7 @@ fn answer(requests: &mut [u8]) -> usize
     match letter {
         b'W' => answers::window(requests),
         b'T' => answers::table(requests),
+        b'V' => answers::fault(requests),
         b'S' => answers::slot(requests),
         b'R' => answers::record(requests),
         b'C' => answers::check(requests),

@@ -38,7 +38,7 @@ pub(crate) fn state(s: &[u8], at: usize) -> State
 }
 
 // A table value: L, M, 8 board numbers, n and 32 rows.
-fn table(s: &[u8], at: usize) -> Table
+pub(crate) fn table(s: &[u8], at: usize) -> Table
     requires { ⌜ at + 302 ≤ length (now s) ⌝ }
     ensures { λ r. ⌜ TableAt (now (s .entry)) at r ⌝ }
 {

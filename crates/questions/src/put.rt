@@ -1,0 +1,133 @@
+// Values put into an answer, and the answer written.
+use counts::Quanta;
+use dispatcher::State;
+use libc::STDOUT_FILENO;
+use pd2::Verdict;
+use table::Row;
+use table::Table;
+use windows::Due;
+use windows::Moment;
+ghost use Prim.Native.Nat.{_+_, _≤_};
+
+// How long the longest answer is: a state.
+pub(crate) const LONGEST: usize = 567;
+
+// Writes an answer that is so many bytes long.
+pub(crate) fn out(answer: [u8; LONGEST], length: usize)
+    requires { ⌜ length ≤ 567 ⌝ }
+{
+    io::write_all(STDOUT_FILENO, &answer[..length]);
+}
+
+// The lowest bytes of a number, little-endian, from place `at` on.
+pub(crate) fn number(answer: &mut [u8; LONGEST], at: usize, bytes: usize, number: u64)
+    requires { ⌜ at + bytes ≤ 567 ⌝ }
+{
+    let mut rest = number;
+    let mut i: usize = 0;
+    while i < bytes {
+        answer[at + i] = (rest % 256) as u8;
+        rest /= 256;
+        i += 1;
+    }
+}
+
+pub(crate) fn state(answer: &mut [u8; LONGEST], state: State) {
+    let value = state.table;
+    table(answer, value);
+    number(answer, 302, 8, state.time.time());
+    number(answer, 310, 1, state.stopped as u64);
+    let given = state.quanta;
+    quanta(answer, 311, given);
+}
+
+fn table(answer: &mut [u8; LONGEST], table: Table) {
+    number(answer, 0, 4, table.cycle as u64);
+    number(answer, 4, 1, table.cores as u64);
+    let numbers = table.boards;
+    boards(answer, numbers);
+    number(answer, 13, 1, table.count as u64);
+    let all = table.rows;
+    rows(answer, all);
+}
+
+fn boards(answer: &mut [u8; LONGEST], boards: [u8; 8]) {
+    let mut i: usize = 0;
+    while i < 8 {
+        answer[5 + i] = boards[i];
+        i += 1;
+    }
+}
+
+fn rows(answer: &mut [u8; LONGEST], rows: [Row; 32]) {
+    let mut i: usize = 0;
+    while i < 32 {
+        let one = rows[i];
+        row(answer, 14 + 9 * i, one);
+        i += 1;
+    }
+}
+
+fn row(answer: &mut [u8; LONGEST], at: usize, row: Row)
+    requires { ⌜ at + 9 ≤ 567 ⌝ }
+{
+    number(answer, at, 2, row.tank as u64);
+    number(answer, at + 2, 2, row.cost as u64);
+    number(answer, at + 4, 2, row.period as u64);
+    number(answer, at + 6, 2, row.phase as u64);
+    number(answer, at + 8, 1, row.kind as u64);
+}
+
+pub(crate) fn quanta(answer: &mut [u8; LONGEST], at: usize, quanta: [Quanta; 32])
+    requires { ⌜ at + 256 ≤ 567 ⌝ }
+{
+    let mut i: usize = 0;
+    while i < 32 {
+        let given = quanta[i];
+        number(answer, at + 8 * i, 8, given.count());
+        i += 1;
+    }
+}
+
+pub(crate) fn marks(answer: &mut [u8; LONGEST], marks: [bool; 32]) {
+    let mut i: usize = 0;
+    while i < 32 {
+        answer[i] = marks[i] as u8;
+        i += 1;
+    }
+}
+
+// At the front: answered, the deadline and the bit. What is not answered stays 0.
+pub(crate) fn due(answer: &mut [u8; LONGEST], due: Due) {
+    match due {
+        Due::By { deadline, bit } => {
+            number(answer, 0, 1, 1);
+            number(answer, 1, 8, deadline.time());
+            number(answer, 9, 1, bit as u64);
+        }
+        Due::Unanswered => {}
+    }
+}
+
+// Answered, and the time.
+pub(crate) fn moment(answer: &mut [u8; LONGEST], at: usize, moment: Moment)
+    requires { ⌜ at + 9 ≤ 567 ⌝ }
+{
+    match moment {
+        Moment::At(time) => {
+            number(answer, at, 1, 1);
+            number(answer, at + 1, 8, time.time());
+        }
+        Moment::Unanswered => {}
+    }
+}
+
+pub(crate) fn verdict(answer: &mut [u8; LONGEST], at: usize, verdict: Verdict)
+    requires { ⌜ at + 1 ≤ 567 ⌝ }
+{
+    answer[at] = match verdict {
+        Verdict::Yes => 1,
+        Verdict::No => 0,
+        Verdict::Unanswered => 2,
+    };
+}
