@@ -7,6 +7,10 @@
 //! variable ZB_SEED, or one that is always the same. Exit status 0 if all answers are equal and nothing was met too rarely;
 //! otherwise what is wrong is shown, and 1.
 
+#[path = "wild/all_rows.rs"]
+mod all_rows;
+#[path = "wild/broken.rs"]
+mod broken;
 #[path = "wild/case.rs"]
 mod case;
 #[path = "wild/check.rs"]
@@ -31,6 +35,10 @@ mod find;
 mod heavy;
 #[path = "wild/input.rs"]
 mod input;
+#[path = "wild/last_late.rs"]
+mod last_late;
+#[path = "wild/many_rows.rs"]
+mod many_rows;
 #[path = "wild/message.rs"]
 mod message;
 #[path = "wild/parts.rs"]
@@ -51,6 +59,8 @@ mod schedule;
 mod shown;
 #[path = "wild/slot.rs"]
 mod slot;
+#[path = "wild/slot_seen.rs"]
+mod slot_seen;
 #[path = "wild/smaller.rs"]
 mod smaller;
 #[path = "wild/smaller_slot.rs"]

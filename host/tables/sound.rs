@@ -80,11 +80,16 @@ pub fn any(random: &mut Random) -> Draft {
     any_of(random, cycle)
 }
 
-/// The same with this cycle. It has as many rows as asked for, or fewer where the cycle has no room for them.
+/// The same with this cycle.
 pub fn any_of(random: &mut Random, cycle: usize) -> Draft {
+    let wanted = random.between(0, 32);
+    of_rows(random, cycle, wanted)
+}
+
+/// The same with so many rows, or fewer where the cycle has no room for them.
+pub fn of_rows(random: &mut Random, cycle: usize, wanted: usize) -> Draft {
     let periods = periods(cycle);
     let boards = boards(random);
-    let wanted = random.between(0, 32);
     let mut room = boards.len() * cycle;
     let mut weights = Vec::new();
     while weights.len() < wanted && !periods.is_empty() {

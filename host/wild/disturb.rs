@@ -5,13 +5,25 @@ use second::slot::{State, LAST_TIME};
 use second::table::{Row, Table};
 
 pub fn disturb(random: &mut Random, state: &mut State) {
-    match random.below(8) {
-        0 | 1 => state.time = other_time(random, state.time),
-        2 | 3 => state.stopped = !state.stopped,
-        4 | 5 => disturb_quanta(random, state),
-        6 => disturb_table(random, &mut state.table),
+    match random.below(12) {
+        0..=2 => state.time = other_time(random, state.time),
+        3..=5 => state.stopped = !state.stopped,
+        6 | 7 => disturb_quanta(random, state),
+        8 => spoil_cost(random, state),
+        9 | 10 => disturb_table(random, &mut state.table),
         _ => disturb_rows(random, &mut state.table),
     }
+}
+
+/// A row without a cost and without quanta, or one that costs every slot and has had each: inside its share, were it a row.
+fn spoil_cost(random: &mut Random, state: &mut State) {
+    let n = usize::from(state.table.count).clamp(1, 32);
+    let number = random.below(n);
+    let row = &mut state.table.rows[number];
+    let begun = state.time.saturating_sub(u64::from(row.phase));
+    let (cost, quanta) = random.pick(&[(0, 0), (row.period, begun)]);
+    row.cost = cost;
+    state.quanta[number] = quanta;
 }
 
 fn other_time(random: &mut Random, time: u64) -> u64 {
@@ -38,7 +50,7 @@ fn disturb_quanta(random: &mut Random, state: &mut State) {
 
 fn disturb_table(random: &mut Random, table: &mut Table) {
     let (cycle, cores, count) = (table.cycle, table.cores, table.count);
-    match random.below(4) {
+    match random.below(5) {
         0 => {
             table.cycle = random.pick(&[
                 0,
@@ -60,9 +72,16 @@ fn disturb_table(random: &mut Random, table: &mut Table) {
                 cores.wrapping_add(1),
             ])
         }
-        2 => {
-            table.count =
-                random.pick(&[0, 32, 33, 255, count.wrapping_sub(1), count.wrapping_add(1)])
+        2 | 3 => {
+            table.count = random.pick(&[
+                0,
+                32,
+                33,
+                33,
+                255,
+                count.wrapping_sub(1),
+                count.wrapping_add(1),
+            ])
         }
         _ => {
             let (one, other) = (random.below(8), random.below(8));

@@ -1,6 +1,7 @@
 //! The record of a slot, asked of a trace.
 
 use crate::case::{boxed, Case, Cases, Kind};
+use crate::many_rows;
 use crate::message::{message, Message};
 use crate::random::Random;
 use crate::schedule::schedule;
@@ -16,12 +17,20 @@ pub struct Record {
 
 pub const KIND: Kind = Kind {
     name: "records",
-    groups: &[group("record", 10, &["found", "not found"])],
+    groups: &[
+        group("record", 10, &["found", "not found"]),
+        group("found, of rows", 300, &["0 to 32", "33 to 254", "255"]),
+        group("found, with an equal one", 50, &["before it", "after it"]),
+    ],
     wild: |random| Box::new(wild(random)),
 };
 
 fn wild(random: &mut Random) -> Record {
-    let schedule = schedule(random);
+    let mut schedule = schedule(random);
+    while random.one_in(4) {
+        let k = random.byte();
+        many_rows::add(random, &mut schedule.trace, k);
+    }
     let trace = match random.below(4) {
         0 => schedule.trace.bytes(),
         _ => spoil::trace(random, &schedule).0,
@@ -43,9 +52,22 @@ impl Case for Record {
         message().counted("record", 8, &self.trace[begin..begin + length])
     }
 
-    fn count(&self, answer: &[u8], tally: &mut Tally) {
-        let found = answer.len() > 8;
-        tally.saw("record", if found { "found" } else { "not found" });
+    fn count(&self, _answer: &[u8], tally: &mut Tally) {
+        let rows = match self.part(self.slot) {
+            [] => return tally.saw("record", "not found"),
+            part => part.len() - 2,
+        };
+        tally.saw("record", "found");
+        let rows = match rows {
+            0..=32 => "0 to 32",
+            255 => "255",
+            _ => "33 to 254",
+        };
+        tally.saw("found, of rows", rows);
+        let (before, after) = (0..self.slot, self.slot + 1..);
+        let title = "found, with an equal one";
+        tally.saw_if(self.equal_among(before), title, "before it");
+        tally.saw_if(self.equal_among(after), title, "after it");
     }
 
     fn smaller(&self) -> Cases {
@@ -59,6 +81,22 @@ impl Case for Record {
             found.push(Record { trace, ..*self });
         }
         boxed(found)
+    }
+}
+
+impl Record {
+    /// The record of a slot, as the second program finds it.
+    fn part(&self, slot: u64) -> &[u8] {
+        let (begin, length) = record(&self.trace, slot);
+        &self.trace[begin..begin + length]
+    }
+
+    /// Has one of these slots an equal record? Only by its place it is then another one.
+    fn equal_among(&self, slots: impl Iterator<Item = u64>) -> bool {
+        let here = self.part(self.slot);
+        let parts = slots.map(|slot| self.part(slot));
+        let mut found = parts.take_while(|part| !part.is_empty());
+        found.any(|part| part == here)
     }
 }
 

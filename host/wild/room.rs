@@ -9,15 +9,18 @@ pub fn room(random: &mut Random, state: &State, k: u8) -> (u64, Vec<u8>) {
     let before = random.pick(&[0, 0, 1, 4, 9]);
     let exact = before + length;
     let end = exact + random.pick(&[0, 0, 1, 7]);
-    let past = random.pick(&[end, end + 1, usize::MAX - 1, usize::MAX]);
+    // its low 4 bytes alone would be a place with room
+    let far = before as u64 + (random.pick(&[1, 2, 1 << 31, u64::from(u32::MAX)]) << 32);
+    let past = [end as u64, end as u64 + 1, far, far, u64::MAX - 1, u64::MAX];
+    let near = before as u64;
     let (place, size) = match random.below(20) {
-        0 => (before, exact - 1),
-        1 => (before, before + random.below(length)),
-        2 => (past, end),
-        3 => (before, 0),
-        _ => (before, end),
+        0 => (near, exact - 1),
+        1 => (near, before + random.below(length)),
+        2 => (random.pick(&past), end),
+        3 => (near, 0),
+        _ => (near, end),
     };
-    (place as u64, random.bytes(size))
+    (place, random.bytes(size))
 }
 
 /// The length of the record that this slot writes, and 2 if it is refused.

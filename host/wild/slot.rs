@@ -2,14 +2,16 @@
 
 use crate::case::{boxed, Case, Cases, Kind};
 use crate::disturb::disturb;
+use crate::last_late::last_late;
 use crate::message::{message, Message};
 use crate::random::Random;
 use crate::room::room;
+use crate::slot_seen;
 use crate::smaller_slot::smaller;
 use crate::states;
-use crate::tally::{group, Tally};
+use crate::tally::Tally;
 use crate::values;
-use second::slot::{deciding_rule, ready_rows, slot, Next, Rule, State};
+use second::slot::{slot, State};
 
 #[derive(Clone, PartialEq)]
 pub struct Slot {
@@ -21,20 +23,15 @@ pub struct Slot {
 
 pub const KIND: Kind = Kind {
     name: "slots",
-    groups: &[
-        group("answer", 100, &["0", "1", "30", "31", "32", "33", "34"]),
-        group(
-            "decided by",
-            100,
-            &["deadline", "bit", "group deadline", "row number"],
-        ),
-        group("picked", 10, &["plain", "early release"]),
-        group("done at a time", 50, &["below 1,000", "above 900,000,000"]),
-    ],
+    groups: &slot_seen::GROUPS,
     wild: |random| Box::new(wild(random)),
 };
 
 fn wild(random: &mut Random) -> Slot {
+    if random.one_in(40) {
+        let late = last_late(random);
+        return with_room(random, late.before, late.k);
+    }
     let mut state = states::state(random);
     if random.one_in(3) {
         disturb(random, &mut state);
@@ -43,6 +40,10 @@ fn wild(random: &mut Random) -> Slot {
         disturb(random, &mut state);
     }
     let k = free_cores(random, state.table.cores);
+    with_room(random, state, k)
+}
+
+fn with_room(random: &mut Random, state: State, k: u8) -> Slot {
     let (place, buffer) = room(random, &state, k);
     Slot {
         state,
@@ -71,47 +72,11 @@ impl Case for Slot {
     }
 
     fn count(&self, answer: &[u8], tally: &mut Tally) {
-        tally.saw_number("answer", answer[0]);
-        if answer[0] <= 1 {
-            count_picks(&self.state, self.k, tally);
-            count_time(self.state.time, tally);
-        }
+        slot_seen::count(self, answer, tally);
     }
 
     fn smaller(&self) -> Cases {
         boxed(smaller(self))
-    }
-}
-
-fn count_picks(state: &State, k: u8, tally: &mut Tally) {
-    if let Some(rule) = deciding_rule(state, k) {
-        tally.saw("decided by", rule_name(rule));
-    }
-    let picked = ready_rows(state).into_iter().take(usize::from(k));
-    let kind = |next: Next| state.table.rows[usize::from(next.row)].kind;
-    let kinds: Vec<u8> = picked.map(kind).collect();
-    for (kind, name) in [(0, "plain"), (1, "early release")] {
-        if kinds.contains(&kind) {
-            tally.saw("picked", name);
-        }
-    }
-}
-
-fn count_time(time: u64, tally: &mut Tally) {
-    if time < 1_000 {
-        tally.saw("done at a time", "below 1,000");
-    }
-    if time > 900_000_000 {
-        tally.saw("done at a time", "above 900,000,000");
-    }
-}
-
-fn rule_name(rule: Rule) -> &'static str {
-    match rule {
-        Rule::Deadline => "deadline",
-        Rule::Bit => "bit",
-        Rule::GroupDeadline => "group deadline",
-        Rule::RowNumber => "row number",
     }
 }
 

@@ -1,5 +1,6 @@
 //! States that are not broken: a broken one shows no more of a slot than its 30.
 
+use crate::all_rows::all_rows;
 use crate::heavy::heavy;
 use crate::random::Random;
 use crate::sound;
@@ -28,7 +29,8 @@ fn table(random: &mut Random) -> Table {
     let draft = match random.below(12) {
         0 => sound::any(random),
         1..=3 => sound::full_of(random, cycle, 0).expect("a short cycle can be filled"),
-        4..=6 => sound::any_of(random, cycle),
+        4 | 5 => sound::any_of(random, cycle),
+        6 | 7 => all_rows(random),
         _ => heavy(random),
     };
     read(&draft.bytes()).expect("a sound table is taken")

@@ -13,17 +13,23 @@ pub struct TableBytes(Vec<u8>);
 
 pub const KIND: Kind = Kind {
     name: "tables",
-    groups: &[group(
-        "answer",
-        300,
-        &[
-            "0", "10", "11", "12", "13", "14", "15", "16", "17", "18", "19", "20", "21", "22",
-        ],
-    )],
+    groups: &[
+        group(
+            "answer",
+            300,
+            &[
+                "0", "10", "11", "12", "13", "14", "15", "16", "17", "18", "19", "20", "21", "22",
+            ],
+        ),
+        group("length", 300, &["0"]),
+    ],
     wild: |random| Box::new(wild(random)),
 };
 
 fn wild(random: &mut Random) -> TableBytes {
+    if random.one_in(80) {
+        return TableBytes(vec![]);
+    }
     TableBytes(damage::table(random).0)
 }
 
@@ -43,6 +49,7 @@ impl Case for TableBytes {
 
     fn count(&self, answer: &[u8], tally: &mut Tally) {
         tally.saw_number("answer", answer[0]);
+        tally.saw_if(self.0.is_empty(), "length", "0");
     }
 
     fn smaller(&self) -> Cases {

@@ -48,6 +48,12 @@ impl Tally {
         self.saw(title, &number.to_string());
     }
 
+    pub fn saw_if(&mut self, met: bool, title: &str, name: &str) {
+        if met {
+            self.saw(title, name);
+        }
+    }
+
     /// All counts; an error if one of them is too small.
     pub fn words(&self) -> Result<String, String> {
         let mut told = vec![format!("{} cases", self.cases)];

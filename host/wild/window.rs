@@ -17,12 +17,21 @@ pub struct Window {
 const BORDERS: [u16; 9] = [0, 1, 2, 255, 256, 32_767, 32_768, 65_534, 65_535];
 const LAST: u64 = 1_000_000_001;
 
+/// The last is refused by all of its 8 bytes, and would not be by the lower 4 of them.
+const SUBTASKS: [&str; 4] = [
+    "0",
+    "1,000,000,001",
+    "1,000,000,002",
+    "right in its low 4 bytes alone",
+];
+
 pub const KIND: Kind = Kind {
     name: "windows",
     groups: &[
         group("answer", 20, &["0", "50"]),
         group("weight", 20, &["heavy", "one half", "light"]),
         group("bit", 10, &["0", "1"]),
+        group("of a right row, i", 300, &SUBTASKS),
     ],
     wild: |random| Box::new(wild(random)),
 };
@@ -63,6 +72,9 @@ impl Case for Window {
             tally.saw("weight", weight_name(self.e, self.p));
             tally.saw_number("bit", answer[1 + 8 + 8]);
         }
+        if 0 < self.e && self.e < self.p {
+            count_subtask(self.i, tally);
+        }
     }
 
     fn smaller(&self) -> Cases {
@@ -96,6 +108,23 @@ impl Window {
         let row = u64::from(self.e) + u64::from(self.p) + u64::from(self.f);
         self.i.saturating_add(row)
     }
+}
+
+fn count_subtask(i: u64, tally: &mut Tally) {
+    let [zero, last, past, low] = SUBTASKS;
+    let low_right = i != u64::from(i as u32) && right(u64::from(i as u32));
+    for (met, name) in [
+        (i == 0, zero),
+        (i == LAST, last),
+        (i == LAST + 1, past),
+        (low_right, low),
+    ] {
+        tally.saw_if(met, "of a right row, i", name);
+    }
+}
+
+fn right(i: u64) -> bool {
+    1 <= i && i <= LAST
 }
 
 fn weight_name(e: u16, p: u16) -> &'static str {
@@ -140,10 +169,12 @@ fn phase(random: &mut Random, p: u16) -> u16 {
 fn subtask(random: &mut Random, e: u16) -> u64 {
     let job = u64::from(e);
     let jobs = random.below(4) as u64;
+    let any = random.between(1, LAST as usize) as u64;
+    let high = random.pick(&[1, 2, 1 << 31, u64::from(u32::MAX)]) << 32;
     match random.below(8) {
-        0 => random.pick(&[0, LAST + 1, 1 << 32, u64::MAX]),
+        0 => random.pick(&[0, LAST + 1, 1 << 32, u64::MAX, high + any, high + 1]),
         1 => random.pick(&[1, LAST - 1, LAST]),
-        2 => random.between(1, LAST as usize) as u64,
+        2 => any,
         3 => jobs * job + random.pick(&[0, 1]),
         _ => jobs * job + random.between(1, usize::from(e).max(1)) as u64,
     }
