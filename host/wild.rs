@@ -67,6 +67,8 @@ mod smaller;
 mod smaller_slot;
 #[path = "wild/smaller_state.rs"]
 mod smaller_state;
+#[path = "wild/smaller_value.rs"]
+mod smaller_value;
 #[path = "tables/sound.rs"]
 mod sound;
 #[path = "traces/spoil.rs"]
@@ -75,8 +77,14 @@ mod spoil;
 mod states;
 #[path = "wild/table.rs"]
 mod table;
+#[path = "wild/table_values.rs"]
+mod table_values;
 #[path = "wild/tally.rs"]
 mod tally;
+#[path = "wild/unused.rs"]
+mod unused;
+#[path = "wild/value.rs"]
+mod value;
 #[path = "wild/values.rs"]
 mod values;
 #[path = "wild/window.rs"]

@@ -48,7 +48,7 @@ fn disturb_quanta(random: &mut Random, state: &mut State) {
     *quanta = random.pick(&[less, less, more, more, wild]);
 }
 
-fn disturb_table(random: &mut Random, table: &mut Table) {
+pub fn disturb_table(random: &mut Random, table: &mut Table) {
     let (cycle, cores, count) = (table.cycle, table.cores, table.count);
     match random.below(5) {
         0 => {
@@ -90,7 +90,7 @@ fn disturb_table(random: &mut Random, table: &mut Table) {
     }
 }
 
-fn disturb_rows(random: &mut Random, table: &mut Table) {
+pub fn disturb_rows(random: &mut Random, table: &mut Table) {
     let n = usize::from(table.count).clamp(1, 32);
     let other = table.rows[random.below(n)];
     let row = &mut table.rows[random.below(n)];

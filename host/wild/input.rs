@@ -32,14 +32,46 @@ impl Input {
 
 /// Short cycles, so that rows have several jobs within a few slots.
 const CYCLES: [usize; 8] = [3, 4, 6, 10, 12, 24, 60, 120];
+pub const MOST_BYTES: usize = 65_536;
 
 /// Mostly an input whose counts are right.
 pub fn input(random: &mut Random) -> Input {
-    let table = table(random);
+    let sound = sound_table(random);
+    match random.below(16) {
+        0 => with_counts(random, vec![]),
+        1 => Input {
+            slots: 4_097,
+            ..with_counts(random, sound)
+        },
+        2 => longest(random, sound),
+        3 => Input {
+            after: random.bytes(1),
+            ..longest(random, sound)
+        },
+        4 => too_long(random, sound),
+        5 => disturbed(random, sound),
+        6 => {
+            let damaged = damage::table(random).0;
+            with_counts(random, damaged)
+        }
+        _ => with_counts(random, sound),
+    }
+}
+
+fn sound_table(random: &mut Random) -> Vec<u8> {
+    let cycle = random.pick(&CYCLES);
+    let full = sound::full_of(random, cycle, 0).expect("a short cycle can be filled");
+    let any = sound::any_of(random, cycle);
+    let draft = if random.one_in(2) { full } else { any };
+    draft.bytes()
+}
+
+/// Slots and a list of k for this table, all counts right.
+fn with_counts(random: &mut Random, table: Vec<u8>) -> Input {
     let slots = slots(random);
     let cores = table.get(5).map_or(1, |&cores| cores);
-    let free = free_cores(random, slots.min(4_096), cores);
-    let mut input = Input {
+    let free = free_cores(random, slots, cores);
+    Input {
         table_length: table.len() as u16,
         table,
         slots,
@@ -47,31 +79,13 @@ pub fn input(random: &mut Random) -> Input {
         free,
         after: vec![],
         cut: 0,
-    };
-    match random.below(24) {
-        0 | 1 => disturb(random, &mut input),
-        2 | 3 => fill_up(random, &mut input),
-        _ => (),
-    }
-    input
-}
-
-fn table(random: &mut Random) -> Vec<u8> {
-    let cycle = random.pick(&CYCLES);
-    match random.below(8) {
-        0 => damage::table(random).0,
-        1..=4 => sound::full_of(random, cycle, 0)
-            .expect("a short cycle can be filled")
-            .bytes(),
-        _ => sound::any_of(random, cycle).bytes(),
     }
 }
 
 fn slots(random: &mut Random) -> u16 {
     match random.below(24) {
         0 => random.pick(&[4_095, 4_096]),
-        1 => random.pick(&[4_097, 32_768, 65_535]),
-        2 => 0,
+        1 => 0,
         _ => random.between(1, 200) as u16,
     }
 }
@@ -93,10 +107,29 @@ fn free_cores(random: &mut Random, slots: u16, cores: u8) -> Vec<u8> {
     free
 }
 
+/// The longest input that is right, by a table with bytes after its last row.
+fn longest(random: &mut Random, table: Vec<u8>) -> Input {
+    let input = with_counts(random, table);
+    filled_up(input, MOST_BYTES)
+}
+
+/// One byte more, every one of them in its place.
+fn too_long(random: &mut Random, table: Vec<u8>) -> Input {
+    let input = with_counts(random, table);
+    filled_up(input, MOST_BYTES + 1)
+}
+
+fn filled_up(mut input: Input, length: usize) -> Input {
+    input.table.resize(length - 6 - input.free.len(), 0);
+    input.table_length = input.table.len() as u16;
+    input
+}
+
 /// A count gets another value, or bytes are missing or too many.
-fn disturb(random: &mut Random, input: &mut Input) {
+fn disturbed(random: &mut Random, table: Vec<u8>) -> Input {
+    let mut input = with_counts(random, table);
     let (length, count) = (input.table_length, input.free_count);
-    match random.below(5) {
+    match random.below(6) {
         0 => {
             input.table_length =
                 random.pick(&[0, length.wrapping_sub(1), length.wrapping_add(1), 65_535])
@@ -108,14 +141,9 @@ fn disturb(random: &mut Random, input: &mut Input) {
             input.free = vec![1; usize::from(input.slots) + 1];
             input.free_count = input.free.len() as u16;
         }
-        3 => input.after = random.bytes(1),
+        3 => input.slots = random.pick(&[4_097, 32_768, 65_535]),
+        4 => input.after = random.bytes(1),
         _ => input.cut = random.between(1, 12),
     }
-}
-
-/// The longest input, or one byte more, by a table with bytes after its last row.
-fn fill_up(random: &mut Random, input: &mut Input) {
-    let length = random.pick(&[65_536, 65_537]);
-    input.table.resize(length - 6 - input.free.len(), 0);
-    input.table_length = input.table.len() as u16;
+    input
 }

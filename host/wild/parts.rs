@@ -4,7 +4,7 @@ use crate::case::Kind;
 use crate::compare::compare;
 use crate::program::Program;
 use crate::random::seed;
-use crate::{check, cut, printed, record, slot, table, window};
+use crate::{check, cut, printed, record, slot, table, value, window};
 use second::never_late::full_boxes;
 use std::path::Path;
 
@@ -16,9 +16,10 @@ const PRINTER: (&str, usize) = ("slot_printer", 1);
 /// A kind of case, the program that answers it, and how many cases a short and a long run have.
 struct Part(Kind, (&'static str, usize), usize, usize);
 
-const PARTS: [Part; 7] = [
+const PARTS: [Part; 8] = [
     Part(window::KIND, PROBE, 40_000, 200_000),
     Part(table::KIND, PROBE, 10_000, 100_000),
+    Part(value::KIND, PROBE, 5_000, 50_000),
     Part(slot::KIND, PROBE, 20_000, 50_000),
     Part(record::KIND, PROBE, 5_000, 20_000),
     Part(check::KIND, PROBE, 10_000, 50_000),

@@ -1,7 +1,7 @@
 //! Schedules, as the slot printer prints them.
 
 use crate::case::{boxed, Case, Cases, Kind};
-use crate::input::{input, Input};
+use crate::input::{input, Input, MOST_BYTES};
 use crate::message::{message, Message};
 use crate::random::Random;
 use crate::smaller;
@@ -15,10 +15,19 @@ pub const KIND: Kind = Kind {
     groups: &[
         group("after the header, last", 40, &["end", "late", "refused"]),
         group("alone", 40, &["refused", "input"]),
-        group("bytes", 150, &["65536", "65537"]),
+        group("input", 150, &INPUTS),
     ],
     wild: |random| Box::new(wild(random)),
 };
+
+/// Those after the first two would be right but for one slot or one byte.
+const INPUTS: [&str; 5] = [
+    "right, with a table of length 0",
+    "right, of 65,536 bytes",
+    "of 65,537 bytes, each in its place",
+    "right in its first 65,536 bytes, and one more",
+    "of 4,097 slots, else right",
+];
 
 fn wild(random: &mut Random) -> Printed {
     Printed(input(random))
@@ -46,9 +55,8 @@ impl Case for Printed {
             },
             word,
         );
-        let length = self.0.bytes().len();
-        if length == 65_536 || length == 65_537 {
-            tally.saw("bytes", &length.to_string());
+        for (met, name) in self.0.met().into_iter().zip(INPUTS) {
+            tally.saw_if(met, "input", name);
         }
     }
 
@@ -68,6 +76,33 @@ impl Case for Printed {
         found.retain(|other| other != input);
         boxed(found.into_iter().map(Printed).collect())
     }
+}
+
+impl Input {
+    /// For each of the inputs that are counted, whether it is this one.
+    fn met(&self) -> [bool; 5] {
+        let bytes = self.bytes();
+        let length = bytes.len();
+        let placed = usize::from(self.table_length) == self.table.len()
+            && usize::from(self.free_count) == self.free.len()
+            && self.cut == 0;
+        let fewer_slots = Input {
+            slots: 4_096,
+            ..self.clone()
+        };
+        [
+            self.table_length == 0 && right(&bytes),
+            length == MOST_BYTES && right(&bytes),
+            length == MOST_BYTES + 1 && placed && self.after.is_empty(),
+            length == MOST_BYTES + 1 && right(&bytes[..MOST_BYTES]),
+            self.slots == 4_097 && right(&fewer_slots.bytes()),
+        ]
+    }
+}
+
+/// Is it judged as more than an input?
+fn right(bytes: &[u8]) -> bool {
+    print(bytes) != b"input\n"
 }
 
 /// Another table, whose length is as wrong as before.

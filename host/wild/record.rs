@@ -48,8 +48,10 @@ impl Case for Record {
     }
 
     fn answered(&self) -> Message {
-        let (begin, length) = record(&self.trace, self.slot);
-        message().counted("record", 8, &self.trace[begin..begin + length])
+        let (begin, _) = record(&self.trace, self.slot);
+        message()
+            .number("begin", 8, begin as u64)
+            .counted("record", 8, self.part(self.slot))
     }
 
     fn count(&self, _answer: &[u8], tally: &mut Tally) {

@@ -4,6 +4,7 @@ use crate::all_rows::all_rows;
 use crate::heavy::heavy;
 use crate::random::Random;
 use crate::sound;
+use crate::unused;
 use second::slot::{fresh, slot, State, LAST_TIME};
 use second::table::{read, Row, Table};
 
@@ -24,7 +25,7 @@ pub fn state(random: &mut Random) -> State {
 }
 
 /// A table without a fault.
-fn table(random: &mut Random) -> Table {
+pub fn table(random: &mut Random) -> Table {
     let cycle = random.pick(&CYCLES);
     let draft = match random.below(12) {
         0 => sound::any(random),
@@ -95,26 +96,8 @@ fn quanta(random: &mut Random, row: &Row, time: u64) -> u64 {
 
 /// What no rule asks for: rows and quanta past n, boards past M.
 fn fill_unused(random: &mut Random, state: &mut State) {
-    let (cores, n) = (
-        usize::from(state.table.cores),
-        usize::from(state.table.count),
-    );
-    for board in &mut state.table.boards[cores..] {
-        *board = random.byte();
-    }
-    for number in n..32 {
-        state.table.rows[number] = any_row(random);
-        state.quanta[number] = random.pick(&[0, 1, state.time, LAST_TIME + 1, u64::MAX]);
-    }
-}
-
-fn any_row(random: &mut Random) -> Row {
-    let mut any = || u16::from_le_bytes([random.byte(), random.byte()]);
-    Row {
-        tank: any(),
-        cost: any(),
-        period: any(),
-        phase: any(),
-        kind: random.byte(),
+    unused::fill(random, &mut state.table);
+    for quanta in &mut state.quanta[usize::from(state.table.count)..] {
+        *quanta = random.pick(&[0, 1, state.time, LAST_TIME + 1, u64::MAX]);
     }
 }

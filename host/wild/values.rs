@@ -19,7 +19,7 @@ pub fn table_value(message: Message, table: &Table) -> Message {
     })
 }
 
-fn row_value(message: Message, number: usize, row: &Row) -> Message {
+pub fn row_value(message: Message, number: usize, row: &Row) -> Message {
     message
         .number_of(number, "tank of row", 2, row.tank)
         .number_of(number, "e of row", 2, row.cost)
