@@ -1,7 +1,7 @@
-//! Wild inputs for the programs `probe` and `slot_printer`, each answer held to the second program's, byte for byte.
+//! Wild inputs for the programs `probe`, `questions` and `slot_printer`, each answer held to the second program's, byte for byte.
 //!
 //!     wild short RUNNER    as many inputs as the gate has time for
-//!     wild long RUNNER     about ten times as many
+//!     wild long RUNNER     ten times as many
 //!
 //! RUNNER is a command that runs the program named by its one argument, as host/run does. The seed is that of the environment
 //! variable ZB_SEED, or one that is always the same. Exit status 0 if all answers are equal and nothing was met too rarely;
@@ -47,6 +47,8 @@ mod parts;
 mod printed;
 #[path = "wild/program.rs"]
 mod program;
+#[path = "wild/questions.rs"]
+mod questions;
 #[path = "tables/random.rs"]
 mod random;
 #[path = "wild/record.rs"]

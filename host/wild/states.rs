@@ -16,7 +16,10 @@ pub fn state(random: &mut Random) -> State {
     let table = table(random);
     let mut state = match random.below(3) {
         0 => after_slots(random, table),
-        _ => inside_shares(random, table),
+        _ => {
+            let time = time(random, u64::from(table.cycle));
+            inside_shares(random, table, time)
+        }
     };
     if random.one_in(2) {
         fill_unused(random, &mut state);
@@ -57,12 +60,12 @@ fn after_slots(random: &mut Random, table: Table) -> State {
     state
 }
 
-/// A state at any time, in which every row is inside its share: most of these no run of slots comes to.
-fn inside_shares(random: &mut Random, table: Table) -> State {
+/// A state at this time, in which every row is inside its share: most of these no run of slots comes to.
+pub fn inside_shares(random: &mut Random, table: Table, time: u64) -> State {
     let mut state = fresh(table);
-    state.time = time(random, u64::from(table.cycle));
+    state.time = time;
     for (number, row) in table.named_rows().iter().enumerate() {
-        state.quanta[number] = quanta(random, row, state.time);
+        state.quanta[number] = quanta(random, row, time);
     }
     state
 }

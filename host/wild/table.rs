@@ -9,7 +9,7 @@ use crate::tally::{group, Tally};
 use crate::values::table_value;
 use second::table::{read, Table};
 
-pub struct TableBytes(Vec<u8>);
+pub struct TableBytes(pub Vec<u8>);
 
 pub const KIND: Kind = Kind {
     name: "tables",

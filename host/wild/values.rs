@@ -1,4 +1,4 @@
-//! Table values and states in the probe's messages.
+//! Table values, states and their parts in messages.
 
 use crate::message::Message;
 use second::slot::State;
@@ -33,8 +33,13 @@ pub fn state(message: Message, state: &State) -> Message {
     let message = table_value(message, &state.table)
         .number("time of the state", 8, state.time)
         .number("stopped", 1, state.stopped);
-    let quanta = state.quanta.iter().enumerate();
-    quanta.fold(message, |message, (number, &quanta)| {
+    quanta_value(message, &state.quanta)
+}
+
+/// 32 quanta (8 each).
+pub fn quanta_value(message: Message, quanta: &[u64; 32]) -> Message {
+    let numbered = quanta.iter().enumerate();
+    numbered.fold(message, |message, (number, &quanta)| {
         message.number_of(number, "quanta of row", 8, quanta)
     })
 }

@@ -127,7 +127,7 @@ fn right(i: u64) -> bool {
     1 <= i && i <= LAST
 }
 
-fn weight_name(e: u16, p: u16) -> &'static str {
+pub fn weight_name(e: u16, p: u16) -> &'static str {
     if heavy(e, p) {
         return "heavy";
     }
@@ -144,7 +144,7 @@ fn period(random: &mut Random) -> u16 {
     random.between(2, longest) as u16
 }
 
-fn weight(random: &mut Random) -> (u16, u16) {
+pub fn weight(random: &mut Random) -> (u16, u16) {
     let p = period(random);
     let half = p / 2;
     match random.below(12) {
@@ -161,7 +161,7 @@ fn weight(random: &mut Random) -> (u16, u16) {
     }
 }
 
-fn phase(random: &mut Random, p: u16) -> u16 {
+pub fn phase(random: &mut Random, p: u16) -> u16 {
     let any = random.below(65_536) as u16;
     random.pick(&[0, 0, 1, p, any, 65_535])
 }
