@@ -43,7 +43,7 @@ pub const KIND: Kind = Kind {
         ),
         group("table refused", 2_000, &TABLE_NUMBERS),
         group("table of length", 300, &["0"]),
-        group("whole schedule ends", 100, &["late", "on time"]),
+        group("whole schedule ends", 150, &["late", "on time"]),
         group("late row", 200, &["above 0", "31"]),
         group("more than 32 rows in a record", 300, &["42"]),
     ],

@@ -13,8 +13,8 @@ pub struct Printed(Input);
 pub const KIND: Kind = Kind {
     name: "printed schedules",
     groups: &[
-        group("after the header, last", 40, &["end", "late", "refused"]),
-        group("alone", 40, &["refused", "input"]),
+        group("after the header, last", 75, &["end", "late", "refused"]),
+        group("alone", 75, &["refused", "input"]),
         group("input", 150, &INPUTS),
     ],
     wild: |random| Box::new(wild(random)),

@@ -18,7 +18,7 @@ pub struct Record {
 pub const KIND: Kind = Kind {
     name: "records",
     groups: &[
-        group("record", 10, &["found", "not found"]),
+        group("record", 15, &["found", "not found"]),
         group("found, of rows", 300, &["0 to 32", "33 to 254", "255"]),
         group("found, with an equal one", 50, &["before it", "after it"]),
     ],

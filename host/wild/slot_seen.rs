@@ -9,9 +9,9 @@ use second::table::Row;
 pub const GROUPS: [Group; 8] = [
     group("answer", 100, &["0", "1", "30", "31", "32", "33", "34"]),
     group("the only cause of 30", 2_000, &CAUSES),
-    group("decided by", 100, &RULES),
+    group("decided by", 150, &RULES),
     group("picked", 50, &["plain", "early release", "phase above 0"]),
-    group("done at a time", 50, &["below 1,000", "above 900,000,000"]),
+    group("done at a time", 60, &["below 1,000", "above 900,000,000"]),
     group("done with", 100, &DONE_WITH),
     group("late row", 200, &["above 0", "31"]),
     group("refused by", 500, &REFUSED_BY),

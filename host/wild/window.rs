@@ -29,8 +29,8 @@ pub const KIND: Kind = Kind {
     name: "windows",
     groups: &[
         group("answer", 20, &["0", "50"]),
-        group("weight", 20, &["heavy", "one half", "light"]),
-        group("bit", 10, &["0", "1"]),
+        group("weight", 30, &["heavy", "one half", "light"]),
+        group("bit", 15, &["0", "1"]),
         group("of a right row, i", 300, &SUBTASKS),
     ],
     wild: |random| Box::new(wild(random)),

@@ -17,7 +17,7 @@ pub struct Give {
 pub const KIND: Kind = Kind {
     name: "questions of quanta given",
     groups: &[
-        group("marked", 20, &MARKED),
+        group("marked", 30, &MARKED),
         group("of 2^64 - 1 quanta, a row", 10, &["marked", "not marked"]),
         group("of 2^64 - 2 quanta, a row", 10, &["marked", "not marked"]),
     ],

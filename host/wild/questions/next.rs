@@ -22,7 +22,7 @@ pub const KIND: Kind = Kind {
         group("answered", 20, &["0", "1"]),
         group("weight", 40, &["e = p", "heavy", "one half", "light"]),
         group("bit", 10, &["0", "1"]),
-        group("not answered only by", 100, &CAUSES),
+        group("not answered only by", 150, &CAUSES),
         group("limit", 200, &LIMITS),
     ],
     wild: |random| Box::new(wild(random)),

@@ -25,7 +25,7 @@ pub const KIND: Kind = Kind {
         COUNTS,
         group("some picked, n", 200, &FAR_COUNTS),
         group("some picked at", 1_000, &["time 2^46", "2^46 quanta"]),
-        group("k", 20, &["0 to 8", "above 8"]),
+        group("k", 25, &["0 to 8", "above 8"]),
         group("k above 8, ready rows", 100, &["up to 8", "above 8"]),
         ROWS,
     ],

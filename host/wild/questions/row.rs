@@ -27,7 +27,7 @@ pub const KIND: Kind = Kind {
         group("late", 20, &TELLS),
         group("inside its share", 20, &TELLS),
         group("answered with", 200, &ANSWERED_WITH),
-        group("not answered only by", 100, &CAUSES),
+        group("not answered only by", 150, &CAUSES),
         group("limit", 200, &LIMITS),
     ],
     wild: |random| Box::new(wild(random)),

@@ -6,7 +6,7 @@ use crate::tally::{group, Group, Tally};
 use second::table::Row;
 
 pub const COUNTS: Group = group("n", 200, &COUNT_NAMES);
-pub const ROWS: Group = group("a row", 100, &ROW_NAMES);
+pub const ROWS: Group = group("a row", 200, &ROW_NAMES);
 
 const COUNT_NAMES: [&str; 7] = [
     "0",

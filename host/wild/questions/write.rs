@@ -20,7 +20,7 @@ pub const KIND: Kind = Kind {
         group("number", 20, &["0", "34"]),
         group("room", 50, &ROOM),
         group("k", 10, &["0 to 8", "above 8"]),
-        group("written, marked", 40, &MARKED),
+        group("written, marked", 60, &MARKED),
         group("no room, marked", 100, &MARKED),
     ],
     wild: |random| Box::new(wild(random)),
