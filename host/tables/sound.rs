@@ -82,14 +82,14 @@ pub fn any(random: &mut Random) -> Draft {
 
 /// The same with this cycle.
 pub fn any_of(random: &mut Random, cycle: usize) -> Draft {
+    let boards = boards(random);
     let wanted = random.between(0, 32);
-    of_rows(random, cycle, wanted)
+    of_rows(random, cycle, &boards, wanted)
 }
 
-/// The same with so many rows, or fewer where the cycle has no room for them.
-pub fn of_rows(random: &mut Random, cycle: usize, wanted: usize) -> Draft {
+/// The same with these boards and so many rows, or fewer where the cycle has no room for them.
+pub fn of_rows(random: &mut Random, cycle: usize, boards: &[u8], wanted: usize) -> Draft {
     let periods = periods(cycle);
-    let boards = boards(random);
     let mut room = boards.len() * cycle;
     let mut weights = Vec::new();
     while weights.len() < wanted && !periods.is_empty() {
@@ -104,7 +104,7 @@ pub fn of_rows(random: &mut Random, cycle: usize, wanted: usize) -> Draft {
         room -= e * (cycle / p);
         weights.push((e, p));
     }
-    draft(cycle as u32, &boards, &rows(random, &weights))
+    draft(cycle as u32, boards, &rows(random, &weights))
 }
 
 /// A table whose sum of e·(L/p) is exactly M·L, or one less or one more as asked for (`by` is 0, -1 or 1).

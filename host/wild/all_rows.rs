@@ -4,26 +4,30 @@ use crate::draft::{draft, row, Draft, Row};
 use crate::random::Random;
 use crate::sound;
 
-pub const ROWS: usize = 32;
+const ROWS: usize = 32;
 
 /// Cycles with many divisors, long enough for so many rows.
 const CYCLES: [usize; 3] = [60, 120, 720];
 
 pub fn all_rows(random: &mut Random) -> Draft {
     loop {
-        let cycle = random.pick(&CYCLES);
-        let table = sound::of_rows(random, cycle, ROWS);
+        let (cycle, boards) = (random.pick(&CYCLES), boards(random));
+        let table = sound::of_rows(random, cycle, &boards, ROWS);
         if table.rows.len() == ROWS {
             return table;
         }
     }
 }
 
+fn boards(random: &mut Random) -> Vec<u8> {
+    (0..random.between(1, 8) as u8).collect()
+}
+
 /// The last row has its windows within a few slots; every other row has one as long as the cycle. One core takes them all.
 pub fn last_row_first(random: &mut Random) -> Draft {
     const CYCLE: u16 = 120;
     let (e, p) = random.pick(&[(1, 2), (1, 3), (2, 3), (2, 4), (3, 5)]);
-    let boards: Vec<u8> = (0..random.between(1, 8) as u8).collect();
+    let boards = boards(random);
     let mut rows: Vec<Row> = (0..ROWS as u16).map(|tank| row(tank, 1, CYCLE)).collect();
     for row in &mut rows {
         row.kind = random.below(2) as u8;

@@ -56,7 +56,7 @@ const PROBE: Requests = Requests {
         record::KIND,
         check::KIND,
     ],
-    unknown: &[0, b'N', b'w', 255],
+    unknown: &[0, b'F', b'w', 255],
     long: |bytes| Box::new(table::TableBytes(bytes)),
     marked: |random| {
         // a state's table value has 302 bytes, its time 8
@@ -91,40 +91,44 @@ fn wild(random: &mut Random, requests: &Requests) -> Cut {
     let first = any(random, requests);
     let (before, answer) = (first.asked().written(), first.answered().written());
     let how = random.pick(&HOW);
-    let cut = match how {
-        "cut" => {
-            let mut request = any(random, requests).asked().written();
-            request.truncate(random.between(1, request.len() - 1));
-            request
-        }
-        "too long" => {
-            let mut request = requests.long(0).asked().written();
-            request.truncate(request.len() - 4);
-            let length: u32 = random.pick(&[1, 1 << 31, u32::MAX]);
-            [request, length.to_le_bytes().to_vec()].concat()
-        }
-        "unknown letter" => {
-            let mut request = any(random, requests).asked().written();
-            request[0] = random.pick(requests.unknown);
-            request
-        }
-        "wrong mark" => {
-            let (mut request, mark) = (requests.marked)(random);
-            request[mark] = random.pick(&[2, 128, 255]);
-            request
-        }
-        "ends past 1 MiB" => {
-            let past = requests.up_to(MOST_BYTES + 1 - before.len());
-            past.asked().written()
-        }
-        _ => return ends_at_limit(requests, before, answer, how),
-    };
-    Cut {
+    let whole = Cut {
         before,
         answer,
-        cut,
+        cut: vec![],
         how,
+    };
+    let left = MOST_BYTES - whole.before.len();
+    match how {
+        "not cut, and ends at 1 MiB" => with_another(whole, requests.up_to(left)),
+        "ends past 1 MiB" => Cut {
+            cut: requests.up_to(left + 1).asked().written(),
+            ..whole
+        },
+        _ => Cut {
+            cut: spoiled(random, requests, how),
+            ..whole
+        },
     }
+}
+
+fn spoiled(random: &mut Random, requests: &Requests, how: &str) -> Vec<u8> {
+    let mut request = any(random, requests).asked().written();
+    match how {
+        "cut" => request.truncate(random.between(1, request.len() - 1)),
+        "too long" => {
+            request = requests.long(0).asked().written();
+            request.truncate(request.len() - 4);
+            let length: u32 = random.pick(&[1, 1 << 31, u32::MAX]);
+            request.extend_from_slice(&length.to_le_bytes());
+        }
+        "unknown letter" => request[0] = random.pick(requests.unknown),
+        _ => {
+            let (marked, mark) = (requests.marked)(random);
+            request = marked;
+            request[mark] = random.pick(&[2, 128, 255]);
+        }
+    }
+    request
 }
 
 fn any(random: &mut Random, requests: &Requests) -> Box<dyn Case> {
@@ -132,14 +136,12 @@ fn any(random: &mut Random, requests: &Requests) -> Box<dyn Case> {
     (kind.wild)(random)
 }
 
-/// A second request is whole and answered too: its last byte is the last that is read.
-fn ends_at_limit(requests: &Requests, before: Vec<u8>, answer: Vec<u8>, how: &'static str) -> Cut {
-    let last = requests.up_to(MOST_BYTES - before.len());
+/// A second request is whole, and answered too.
+fn with_another(first: Cut, second: Box<dyn Case>) -> Cut {
     Cut {
-        before: [before, last.asked().written()].concat(),
-        answer: [answer, last.answered().written()].concat(),
-        cut: vec![],
-        how,
+        before: [first.before, second.asked().written()].concat(),
+        answer: [first.answer, second.answered().written()].concat(),
+        ..first
     }
 }
 

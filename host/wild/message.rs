@@ -1,4 +1,4 @@
-//! A message of the probe: its fields one after another, each with a name, so that a message is written as bytes, told in
+//! A message of a program: its fields one after another, each with a name, so that a message is written as bytes, told in
 //! words, and held to other bytes from one list.
 
 use crate::field::{Field, Value};

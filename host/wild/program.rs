@@ -13,7 +13,7 @@ pub struct Program {
     pub most: usize,
 }
 
-/// A run of the probe reads 1 MiB at most. No single request is longer than what is left of it.
+/// A run of the probe or of the questions reads 1 MiB at most. No request that goes with others is longer than what is left of it.
 const MOST_BYTES: usize = 900_000;
 
 impl Program {

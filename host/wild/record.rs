@@ -19,6 +19,7 @@ pub const KIND: Kind = Kind {
     name: "records",
     groups: &[
         group("record", 15, &["found", "not found"]),
+        group("not found, slot", 300, &["right in its low 4 bytes alone"]),
         group("found, of rows", 300, &["0 to 32", "33 to 254", "255"]),
         group("found, with an equal one", 50, &["before it", "after it"]),
     ],
@@ -56,7 +57,7 @@ impl Case for Record {
 
     fn count(&self, _answer: &[u8], tally: &mut Tally) {
         let rows = match self.part(self.slot) {
-            [] => return tally.saw("record", "not found"),
+            [] => return self.count_not_found(tally),
             part => part.len() - 2,
         };
         tally.saw("record", "found");
@@ -87,6 +88,17 @@ impl Case for Record {
 }
 
 impl Record {
+    fn count_not_found(&self, tally: &mut Tally) {
+        tally.saw("record", "not found");
+        let low = u64::from(self.slot as u32);
+        let low_right = !self.part(low).is_empty();
+        tally.saw_if(
+            low_right,
+            "not found, slot",
+            "right in its low 4 bytes alone",
+        );
+    }
+
     /// The record of a slot, as the second program finds it.
     fn part(&self, slot: u64) -> &[u8] {
         let (begin, length) = record(&self.trace, slot);
@@ -105,9 +117,10 @@ impl Record {
 /// Mostly one of the trace's slots, at times at its end or far past it.
 fn wild_slot(random: &mut Random, count: u32) -> u64 {
     let count = u64::from(count);
+    let any = random.below(count.max(1) as usize) as u64;
     match random.below(8) {
-        0 => random.pick(&[count, count + 1, 1 << 32, u64::MAX]),
+        0 => random.pick(&[count, count + 1, 1 << 32, (1 << 32) + any, u64::MAX]),
         1 => count.max(1) - 1,
-        _ => random.below(count.max(1) as usize) as u64,
+        _ => any,
     }
 }

@@ -124,7 +124,7 @@ fn count_subtask(i: u64, tally: &mut Tally) {
 }
 
 fn right(i: u64) -> bool {
-    1 <= i && i <= LAST
+    (1..=LAST).contains(&i)
 }
 
 pub fn weight_name(e: u16, p: u16) -> &'static str {

@@ -1,6 +1,6 @@
 //! The window of a row's next subtask, counted from any origin.
 
-use super::reach::{self, limit, CAUSES, LIMITS};
+use super::reach::{self, limit, widest, CAUSES, LIMITS, REACH};
 use crate::case::{boxed, Case, Cases, Kind};
 use crate::message::{message, Message};
 use crate::random::Random;
@@ -24,11 +24,21 @@ pub const KIND: Kind = Kind {
         group("bit", 10, &["0", "1"]),
         group("not answered only by", 150, &CAUSES),
         group("limit", 200, &LIMITS),
+        group("all of the largest, e", 500, &["1", "above half of p"]),
     ],
     wild: |random| Box::new(wild(random)),
 };
 
 fn wild(random: &mut Random) -> Next {
+    if random.one_in(40) {
+        let (e, p) = widest(random);
+        return Next {
+            e,
+            p,
+            origin: REACH,
+            quanta: REACH,
+        };
+    }
     let (e, p) = match random.below(10) {
         0 => whole(random),
         _ => weight(random),
@@ -115,6 +125,9 @@ impl Case for Next {
             let name = if e == p { "e = p" } else { weight_name(e, p) };
             tally.saw("weight", name);
             tally.saw_number("bit", answer[1 + 8]);
+            let largest = p == u16::MAX && origin == REACH && quanta == REACH;
+            let name = if e == 1 { "1" } else { "above half of p" };
+            tally.saw_if(largest, "all of the largest, e", name);
         }
         let other = origin;
         let asked = reach::Asked {

@@ -20,6 +20,12 @@ pub fn limit(random: &mut Random) -> u64 {
     ])
 }
 
+/// A weight that makes the numbers of a window as large as they get.
+pub fn widest(random: &mut Random) -> (u16, u16) {
+    const MOST: u16 = u16::MAX;
+    random.pick(&[(1, MOST), (32_768, MOST), (MOST - 1, MOST), (MOST, MOST)])
+}
+
 /// Names of the causes for which a question is not answered, where no other is met.
 pub const CAUSES: [&str; 4] = ["e of 0", "e above p", "quanta", "origin or time"];
 

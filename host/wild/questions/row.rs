@@ -1,6 +1,6 @@
 //! A row asked alone: is it ready, is it late, is it inside its share?
 
-use super::reach::{self, limit, CAUSES, LIMITS, REACH};
+use super::reach::{self, limit, widest, CAUSES, LIMITS, REACH};
 use crate::case::{boxed, Case, Cases, Kind};
 use crate::message::{message, Message};
 use crate::random::Random;
@@ -26,14 +26,14 @@ pub const KIND: Kind = Kind {
         group("ready", 20, &TELLS),
         group("late", 20, &TELLS),
         group("inside its share", 20, &TELLS),
-        group("answered with", 200, &ANSWERED_WITH),
+        group("answered with", 600, &ANSWERED_WITH),
         group("not answered only by", 150, &CAUSES),
         group("limit", 200, &LIMITS),
     ],
     wild: |random| Box::new(wild(random)),
 };
 
-const ANSWERED_WITH: [&str; 7] = [
+const ANSWERED_WITH: [&str; 9] = [
     "kind 0",
     "kind 1",
     "a kind above 1",
@@ -41,10 +41,19 @@ const ANSWERED_WITH: [&str; 7] = [
     "e = p",
     "a phase above 0",
     "a time before the phase",
+    "p of 65,535, 2^46 quanta, time 0",
+    "p of 65,535, no quanta, time 2^46",
 ];
 
 fn wild(random: &mut Random) -> RowAsked {
-    let row = wild_row(random);
+    let mut row = wild_row(random);
+    if random.one_in(40) {
+        let (quanta, time) = random.pick(&[(0, REACH), (REACH, 0), (REACH, REACH)]);
+        let (cost, period) = widest(random);
+        row.cost = cost;
+        row.period = period;
+        return RowAsked { row, quanta, time };
+    }
     let (quanta, time) = match random.below(8) {
         0 => (limit(random), REACH - random.below(2) as u64),
         1 => at_time(random, &row, limit),
@@ -144,9 +153,10 @@ impl RowAsked {
     }
 
     /// For each thing that is counted of an answered question, whether it is met.
-    fn met(&self) -> [bool; 7] {
+    fn met(&self) -> [bool; 9] {
         let row = self.row;
         let early = Row { kind: 1, ..row };
+        let widest = |numbers| row.period == u16::MAX && (self.quanta, self.time) == numbers;
         [
             row.kind == 0,
             row.kind == 1,
@@ -155,6 +165,8 @@ impl RowAsked {
             row.cost == row.period,
             row.phase > 0,
             self.time < u64::from(row.phase),
+            widest((REACH, 0)),
+            widest((0, REACH)),
         ]
     }
 }
