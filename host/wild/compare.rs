@@ -15,12 +15,13 @@ pub fn compare(program: &Program, kind: &Kind, seed: u64, count: usize) -> Resul
     while left > 0 {
         let batch = batch(program, kind, &mut random, left);
         left -= batch.len();
+        if let Some(place) = find(program, &batch)? {
+            return Err(difference(program, &batch[place])?);
+        }
+        // not before: what is no answer at all cannot be counted
         for asked in &batch {
             seen.case();
             asked.case.count(&asked.answer, &mut seen);
-        }
-        if let Some(place) = find(program, &batch)? {
-            return Err(difference(program, &batch[place])?);
         }
     }
     seen.words()

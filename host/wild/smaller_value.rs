@@ -17,7 +17,7 @@ pub fn smaller(table: &Table) -> Vec<Table> {
     found.push(with(table, |other| other.count /= 2));
     found.push(with(table, |other| other.cores /= 2));
     found.push(with(table, |other| other.cycle /= 2));
-    for row in 0..n {
+    for row in 0..table.rows.len() {
         found.push(with(table, |other| other.rows[row] = Row::zero()));
         found.push(with(table, |other| other.rows[row].phase = 0));
         found.push(with(table, |other| other.rows[row].kind = 0));
