@@ -2,7 +2,7 @@
 
 use super::reach::REACH;
 use super::rows::{rows, rows_value, Rows};
-use super::rows_seen::{self, count_name, COUNTS, FAR_COUNTS, ROWS};
+use super::rows_seen::{self, count_name, said_but_for_time, COUNTS, FAR_COUNTS, ROWS};
 use crate::all_rows::all_rows;
 use crate::case::{boxed, Case, Cases, Kind};
 use crate::message::{message, Message};
@@ -10,6 +10,7 @@ use crate::random::Random;
 use crate::states;
 use crate::tally::{group, Tally};
 use second::questions::lowest_late;
+use second::slot::late;
 use second::table::read;
 
 pub struct Late(Rows);
@@ -22,6 +23,7 @@ pub const KIND: Kind = Kind {
         group("some late, n", 200, &FAR_COUNTS),
         group("some late at", 200, &["time 2^46"]),
         group("none late, told by", 100, &["0", "1 to 31", "32"]),
+        group("late but for the reach, at", 300, &["time 2^46 + 1"]),
         ROWS,
     ],
     wild: |random| Box::new(wild(random)),
@@ -74,6 +76,8 @@ impl Case for Late {
 
     fn count(&self, answer: &[u8], tally: &mut Tally) {
         rows_seen::count(&self.0, tally);
+        let past = said_but_for_time(&self.0, late);
+        tally.saw_if(past, "late but for the reach, at", "time 2^46 + 1");
         let row = u64::from(answer[0]);
         if row == self.0.n.min(32) {
             tally.saw("lowest late row", "none");

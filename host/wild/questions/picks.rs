@@ -2,14 +2,16 @@
 
 use super::reach::REACH;
 use super::rows::{rows, rows_value, Rows};
-use super::rows_seen::{self, count_name, COUNTS, FAR_COUNTS, ROWS};
+use super::rows_seen::{
+    self, count_name, said_but_for_quanta, said_but_for_time, COUNTS, FAR_COUNTS, ROWS,
+};
 use crate::case::{boxed, Case, Cases, Kind};
 use crate::message::{message, Message};
 use crate::random::Random;
 use crate::slot_seen::{rule_name, RULES};
 use crate::tally::{group, Tally};
 use second::questions::{next_window, picks};
-use second::slot::{order, rule_between, Next, Rule};
+use second::slot::{order, ready, rule_between, Next, Rule};
 
 #[derive(Clone, PartialEq)]
 pub struct Picks {
@@ -24,7 +26,12 @@ pub const KIND: Kind = Kind {
         group("decided by", 200, &RULES),
         COUNTS,
         group("some picked, n", 200, &FAR_COUNTS),
-        group("some picked at", 1_000, &["time 2^46", "2^46 quanta"]),
+        group("some picked at", 300, &["time 2^46", "2^46 quanta"]),
+        group(
+            "ready but for the reach, at",
+            300,
+            &["time 2^46 + 1", "2^46 + 1 quanta"],
+        ),
         group("k", 25, &["0 to 8", "above 8"]),
         group("k above 8, ready rows", 100, &["up to 8", "above 8"]),
         ROWS,
@@ -71,20 +78,24 @@ impl Case for Picks {
         let picked: u8 = answer.iter().sum();
         tally.saw_number("picked", picked);
         rows_seen::count(&self.rows, tally);
+        let past = said_but_for_time(&self.rows, ready);
+        tally.saw_if(past, "ready but for the reach, at", "time 2^46 + 1");
+        let past = said_but_for_quanta(&self.rows, ready);
+        tally.saw_if(past, "ready but for the reach, at", "2^46 + 1 quanta");
         tally.saw_if(*n > 32 && picked > 0, "some picked, n", count_name(*n));
         let at_limit = picked > 0 && *time == REACH;
         tally.saw_if(at_limit, "some picked at", "time 2^46");
         let at_limit = quanta.iter().zip(answer).any(|row| row == (&REACH, &1));
         tally.saw_if(at_limit, "some picked at", "2^46 quanta");
-        let ready = self.ready();
-        if let Some(rule) = decided_by(&ready, answer) {
+        let in_question = self.ready();
+        if let Some(rule) = decided_by(&in_question, answer) {
             tally.saw("decided by", rule_name(rule));
         }
         if self.k <= 8 {
             return tally.saw("k", "0 to 8");
         }
         tally.saw("k", "above 8");
-        let many = ready.len() > 8;
+        let many = in_question.len() > 8;
         let name = if many { "above 8" } else { "up to 8" };
         tally.saw("k above 8, ready rows", name);
     }
@@ -106,9 +117,8 @@ impl Case for Picks {
 impl Picks {
     /// The rows that are ready, as the order sees them.
     fn ready(&self) -> Vec<Next> {
-        let below = self.rows.n.min(32) as usize;
         let is_ready = |row: &usize| self.rows.ask(*row).map_or(false, |told| told.ready);
-        let ready = (0..below).filter(is_ready);
+        let ready = self.rows.numbers().filter(is_ready);
         ready.filter_map(|row| self.next(row)).collect()
     }
 

@@ -9,6 +9,7 @@ use crate::values::{quanta_value, row_value};
 use second::questions::{ask_row, RowAnswer};
 use second::slot::State;
 use second::table::Row;
+use std::ops::Range;
 
 #[derive(Clone, PartialEq)]
 pub struct Rows {
@@ -38,12 +39,17 @@ pub fn rows(random: &mut Random) -> Rows {
             disturb(random, &mut rows, number);
         }
     }
+    if time == REACH {
+        // so that a row is ready by the largest quanta that are answered
+        let number = random.below(usize::from(table.count).max(1));
+        make_whole(random, &mut rows, number);
+    }
     rows
 }
 
 /// Mostly as early as a dispatcher's, at times at the limit of what is answered.
 fn state(random: &mut Random) -> State {
-    if !random.one_in(8) {
+    if !random.one_in(6) {
         return states::state(random);
     }
     let table = states::table(random);
@@ -70,21 +76,26 @@ fn disturb(random: &mut Random, rows: &mut Rows, number: usize) {
     match random.below(9) {
         0 => row.cost = 0,
         1 => row.cost = row.period,
-        2 => {
-            // e = p with all that is due to it, and ready
-            *row = Row {
-                cost: row.period,
-                phase: 0,
-                ..*row
-            };
-            *quanta = rows.time;
-        }
+        2 => make_whole(random, rows, number),
         3 => row.cost = row.period.saturating_add(1),
         4 => *quanta = limit(random),
         5 => *quanta = quanta.saturating_sub(random.between(1, 3) as u64),
         6 => *row = wild_row(random),
         _ => row.kind = random.pick(&[2, 3, 128, 255]),
     }
+}
+
+/// e = p with all that is due to it, and ready; or one quantum ahead, and ready in most slots of its jobs.
+fn make_whole(random: &mut Random, rows: &mut Rows, number: usize) {
+    let row = rows.rows[number];
+    let (kind, ahead) = random.pick(&[(row.kind, 0), (1, 1)]);
+    rows.rows[number] = Row {
+        cost: row.period,
+        phase: 0,
+        kind,
+        ..row
+    };
+    rows.quanta[number] = rows.time + ahead;
 }
 
 /// 32 rows, 32 quanta, n (8), time (8).
@@ -99,6 +110,11 @@ pub fn rows_value(message: Message, rows: &Rows) -> Message {
 }
 
 impl Rows {
+    /// Those below n, all 32 where n is above.
+    pub fn numbers(&self) -> Range<usize> {
+        0..self.n.min(32) as usize
+    }
+
     /// What the second program says of one of them.
     pub fn ask(&self, row: usize) -> Option<RowAnswer> {
         ask_row(&self.rows[row], self.quanta[row], self.time)

@@ -21,30 +21,58 @@ const COUNT_NAMES: [&str; 7] = [
 /// Those that stand for 32.
 pub const FAR_COUNTS: [&str; 4] = ["33 to 256", "2^32", "above 2^32", "2^64 - 1"];
 
-const ROW_NAMES: [&str; 5] = [
+/// The first five of rows whose question is answered, the others of rows whose question is not.
+const ROW_NAMES: [&str; 8] = [
+    "of kind 0",
+    "of kind 1",
     "of a kind above 1",
     "of e = p",
-    "not answered",
     "answered at time 2^46",
-    "not answered at time 2^46 + 1",
+    "of e = 0",
+    "of e above p",
+    "of too many quanta",
 ];
 
 pub fn count(rows: &Rows, tally: &mut Tally) {
     tally.saw("n", count_name(rows.n));
-    let below = rows.n.min(32) as usize;
     let (answered, others): (Vec<usize>, Vec<usize>) =
-        (0..below).partition(|&row| rows.ask(row).is_some());
+        rows.numbers().partition(|&row| rows.ask(row).is_some());
     let has = |test: fn(&Row) -> bool| answered.iter().any(|&row| test(&rows.rows[row]));
+    let lacks = |test: fn(&Row) -> bool| others.iter().any(|&row| test(&rows.rows[row]));
     let met = [
+        has(|row| row.kind == 0),
+        has(|row| row.kind == 1),
         has(|row| row.kind > 1),
         has(|row| row.cost == row.period),
-        !others.is_empty(),
-        !answered.is_empty() && rows.time == REACH,
-        !others.is_empty() && rows.time == REACH + 1,
+        rows.time == REACH && !answered.is_empty(),
+        lacks(|row| row.cost == 0),
+        lacks(|row| row.cost > row.period),
+        others.iter().any(|&row| rows.quanta[row] > REACH),
     ];
     for (met, name) in met.into_iter().zip(ROW_NAMES) {
         tally.saw_if(met, "a row", name);
     }
+}
+
+/// Something that may be said of a row with so many quanta at a time.
+type Said = fn(&Row, u64, u64) -> bool;
+
+/// Is it said of a row that is not answered only because its quanta are one too many?
+pub fn said_but_for_quanta(rows: &Rows, said: Said) -> bool {
+    rows.time <= REACH && said_with(rows, said, |quanta| quanta == REACH + 1)
+}
+
+/// Is it said of a row that is not answered only because the time is one too late?
+pub fn said_but_for_time(rows: &Rows, said: Said) -> bool {
+    rows.time == REACH + 1 && said_with(rows, said, |quanta| quanta <= REACH)
+}
+
+fn said_with(rows: &Rows, said: Said, right_quanta: fn(u64) -> bool) -> bool {
+    rows.numbers().any(|number| {
+        let (row, quanta) = (&rows.rows[number], rows.quanta[number]);
+        let right_weight = 0 < row.cost && row.cost <= row.period;
+        right_weight && right_quanta(quanta) && said(row, quanta, rows.time)
+    })
 }
 
 pub fn count_name(n: u64) -> &'static str {
