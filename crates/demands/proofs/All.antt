@@ -1,6 +1,7 @@
 -- All that this crate states is proved. Assumes nothing.
 use Rattle.demands.specs.All.{All}
 use Rattle.demands.proofs.Determined.{every-promise-determines}
+use Rattle.demands.proofs.Cases.{cases}
 use Rattle.demands.proofs.One.{demand-one}
 use Rattle.demands.proofs.Two.{demand-two}
 use Rattle.demands.proofs.Three.{demand-three}
@@ -14,6 +15,7 @@ pub all : All
 all =
     record {
       determined = every-promise-determines;
+      cases = cases;
       one = demand-one;
       two = demand-two;
       three = demand-three;

@@ -1,4 +1,6 @@
 pub mod Determined
+pub mod Limits
+pub mod Cases
 pub mod One
 pub mod WithCount
 pub mod Two

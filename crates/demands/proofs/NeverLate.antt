@@ -30,7 +30,7 @@ use Rattle.pd2.specs.Picks.{picked}
 use Rattle.pd2.specs.Choice.{rowAt, quantaAt, readyIn, firstBy, given}
 use Rattle.trace.specs.Record.{withFront, withRecord}
 use Rattle.trace.specs.Records.{names}
-use Rattle.trace.specs.Said.{bare}
+use Rattle.trace.specs.Said.{bare, named}
 use Rattle.trace.proofs.Records.{listed-are-named}
 use Rattle.optimal.specs.Box.{Box}
 use Rattle.optimal.proofs.Box.{sum-is-load, table-is-box}
@@ -38,6 +38,7 @@ use Rattle.optimal.proofs.NeverLate.{pd2-never-late}
 use Rattle.dispatcher.specs.declared.State.{State}
 use Rattle.dispatcher.specs.State.{quantaIn, timeOf, freshOf}
 use Rattle.dispatcher.specs.Broken.{broken}
+use Rattle.dispatcher.specs.Run.{run}
 use Rattle.dispatcher.specs.Slot.{picksIn, refusal, slotOf}
 use Rattle.dispatcher.proofs.Whole.{is-whole}
 use Rattle.dispatcher.proofs.Kept.{Goes, goes-back, not-refused-is-done, refusal-changes-nothing, done-makes-the-step, places-stay, quanta-after, done-keeps-whole, fresh-is-whole}
@@ -174,13 +175,10 @@ module _ (table : Table) (c : ℕ) (sound : faultOf table ≡ 0) (few : load (ta
           let late = not-late s k buffer place so more in
           bare-unless-late s k buffer place late ∙ ap bare (done-with-0 done late)
 
--- the second slot of 01's example with one core free answers 1
-late-with-one : NeverLateWith (tableIn example) 1 → ⊥
-unfolding ceilDiv howMany those firstMet rising places padded start deadline bit windowLength jobStart heavy stops stopTime atFirst groupDeadline load faultOf tableNumber ready late lower upper before picked given withFront withRecord names broken refusal slotOf
-late-with-one never =
-    let room : List ℕ = replicate 10 0 in
-    let fresh = freshOf (tableIn example) in
-    never .never-1 (slotOf fresh 1 room 0 .state) (WithCores.slot fresh 1 room 0 WithCores.start (omega arith)) 1 room 0 (omega arith) refl
+-- The second slot of 01's example with one core free answers 1.
+late-with-one : run (tableIn example) (λ s. 1) (replicate 100 0) 0 2 .said ≡ named 1 2 2
+unfolding ceilDiv howMany those firstMet rising places padded start deadline bit windowLength jobStart heavy stops stopTime atFirst groupDeadline load faultOf tableNumber ready late lower upper before picked given withFront withRecord names broken refusal slotOf run
+late-with-one = refl
 
 pub never-late : NeverLate
 unfolding tableNumber firstMet rising places padded load

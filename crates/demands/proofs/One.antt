@@ -4,10 +4,18 @@ use mathlib.Core.Path.{_≡_, refl, sym, _∙_}
 use mathlib.Core.List.{List}
 use mathlib.Core.Logic.{_⊎_, inl, inr, ⊎-elim}
 use native.Mathlib.Decide.{ℕ-discrete}
+use native.Mathlib.Omega.{arith}
 use Rattle.windows.proofs.Question.{windows-are-answered}
 use Rattle.windows.proofs.Windows.{next-start-is-d-less-b}
 use Rattle.windows.proofs.LeastTime.{walk-gives-least-time}
+use Rattle.windows.proofs.Group.{light-has-none}
+use borrow.Author.Tests.{lt-ltb, le-leb}
+use Rattle.windows.specs.Fits.{reach}
 use Rattle.table.specs.Bytes.{tableNumber, tableIn}
+use Rattle.pd2.specs.Choice.{rowAt, quantaAt}
+use Rattle.pd2.proofs.Share.{row-can-be}
+use Rattle.dispatcher.specs.State.{rowsIn, quantaIn, timeOf}
+use Rattle.dispatcher.proofs.Whole.{is-whole, is-not-broken}
 use Rattle.table.proofs.Taken.{number-read, table-read, numbers-are-first-causes, numbers-are-10-to-22, taken-where-no-cause, no-table-read, past-is-zero}
 use Rattle.trace.specs.Said.{bare}
 use Rattle.trace.proofs.Found.{found-if-all-inside, part-is-record}
@@ -16,15 +24,47 @@ use Rattle.dispatcher.proofs.Places.{slot-numbers, bare-unless-late, past-is-re
 use Rattle.checker.specs.Check.{traceSaid, checkOf}
 use Rattle.checker.proofs.Passes.{numbers-are-first-found, judges-table-first, trace-numbers, bare-unless-named}
 use Rattle.printer.proofs.Buffer.{is-too-short}
-use Rattle.demands.specs.One.{Tables, Slots, Checks, HandsBack, DemandOne}
+use Rattle.demands.specs.One.{Questions, Tables, BrokenExactly, Slots, Checks, HandsBack, DemandOne}
+use Rattle.demands.proofs.Limits.{in-limits}
 use Rattle.demands.proofs.Determined.{every-promise-determines}
+
+-- Numbers that 01 knows are far within reach.
+questions : Questions
+questions =
+    record {
+      row = λ row q t cost weight few soon. rw (lt-ltb 0 (row .cost) cost, le-leb (row .cost) (row .period) weight, le-leb q reach (omega arith), le-leb t reach (omega arith)) refl;
+      next = λ e p f q cost weight near few. rw (lt-ltb 0 e cost, le-leb e p weight, le-leb f reach (omega arith), le-leb q reach (omega arith)) refl;
+    }
 
 tables : Tables
 tables = record { numbers = numbers-are-10-to-22; refused = numbers-are-first-causes; taken = taken-where-no-cause; number = number-read; table = table-read; past = past-is-zero; no-table = no-table-read }
 
+-- A state that is not broken is whole, and its shares are the demand's limits.
+broken-exactly : BrokenExactly
+broken-exactly s = (
+  λ h.
+      let w = is-whole s h in
+      record {
+        table = w .table;
+        time = w .time;
+        quanta = w .quanta;
+        shares = λ runs i l. in-limits (rowAt (rowsIn s) i) (row-can-be (s .table) (w .table) i l) (quantaAt (quantaIn s) i) (timeOf s) .0 (w .shares runs i l);
+      },
+  λ n.
+      is-not-broken s
+      record {
+        table = n .table;
+        time = n .time;
+        quanta = n .quanta;
+        shares = λ runs i l. in-limits (rowAt (rowsIn s) i) (row-can-be (s .table) (n .table) i l) (quantaAt (quantaIn s) i) (timeOf s) .1 (n .shares runs i l);
+      },
+)
+
 slots : Slots
 slots =
     record {
+      fresh = λ t. refl;
+      broken-exactly = broken-exactly;
       numbers = slot-numbers;
       refused = refusals-are-first-causes;
       faulty = fault-answers-30;
@@ -82,7 +122,8 @@ pub demand-one : DemandOne
 demand-one =
     record {
       determined = every-promise-determines;
-      windows = record { answered = windows-are-answered; next-start = next-start-is-d-less-b; group = walk-gives-least-time };
+      questions = questions;
+      windows = record { answered = windows-are-answered; next-start = next-start-is-d-less-b; group = walk-gives-least-time; light = light-has-none };
       tables = tables;
       slots = slots;
       checks = checks;

@@ -16,7 +16,7 @@ use Rattle.table.proofs.Taken.{taken-value-has-no-fault}
 use Rattle.pd2.specs.Ready.{early, late}
 use Rattle.pd2.specs.Share.{elapsed, upper, within, CanBe}
 use Rattle.pd2.specs.Choice.{rowAt, quantaAt}
-use Rattle.pd2.proofs.Share.{row-can-be, upper-means-share-rounded-up, upper-means-cost-of-jobs-released, plain-within-means-share, early-within-means-share, late-exactly-if-owed}
+use Rattle.pd2.proofs.Share.{row-can-be, late-exactly-if-owed}
 use Rattle.trace.specs.Records.{timesNamed}
 use Rattle.trace.specs.Said.{Said}
 use Rattle.dispatcher.specs.declared.State.{State}
@@ -28,29 +28,11 @@ use Rattle.dispatcher.proofs.Whole.{is-whole, nothing-given}
 use Rattle.dispatcher.proofs.Kept.{refusal-changes-nothing, done-makes-the-step, done-keeps-whole, fresh-is-whole, fault-answers-30}
 use Rattle.dispatcher.proofs.RunKept.{one-when-owed, quanta-are-records, records-stand-in-turn}
 use Rattle.checker.proofs.Passes.{passes-in-shares, checked-as-table}
-use Rattle.demands.specs.Three.{upperLimit, InLimits, PassesInLimits, FromFresh, KeepsLimits, IsOwed, Reports, ReportsLate, DemandThree}
+use Rattle.demands.specs.Limits.{sincePhase, InLimits}
+use Rattle.demands.specs.Three.{PassesInLimits, FromFresh, KeepsLimits, IsOwed, Reports, ReportsLate, DemandThree}
+use Rattle.demands.proofs.Limits.{in-limits, upper-limit}
 use Rattle.demands.proofs.WithCount.{word-bytes-are-read}
 use Rattle.demands.proofs.RunPasses.{run-passes}
-
--- The limits of a row that can be, in the demand's words: by its kind.
-module _ (row : Row) (can : CanBe row) (q t : ℕ) where
-  in-limits : (within row q t ≡ true) ↔ InLimits row q t
-  in-limits = go (early row) refl
-    where
-      go : (kind : Bool) → early row ≡ kind → (within row q t ≡ true) ↔ InLimits row q t
-      go true e =
-          let means = early-within-means-share row can e q t in
-          (λ h. record { at-least = means .0 h .0; at-most = rw e (means .0 h .1) }, λ l. means .1 (l .at-least, rw e at (l .at-most)))
-      go false e =
-          let means = plain-within-means-share row can e q t in
-          (λ h. record { at-least = means .0 h .0; at-most = rw e (means .0 h .1) }, λ l. means .1 (l .at-least, rw e at (l .at-most)))
-
-  upper-limit : upper row q t ≡ true → q ≤ upperLimit row t
-  upper-limit = go (early row) refl
-    where
-      go : (kind : Bool) → early row ≡ kind → upper row q t ≡ true → q ≤ upperLimit row t
-      go true e h = rw e (upper-means-cost-of-jobs-released row can e q t .0 h)
-      go false e h = rw e (upper-means-share-rounded-up row can e q t .0 h)
 
 -- A well-formed trace passes exactly when each row is in its limits at each time: it passes as its table's trace does.
 passes-in-limits : PassesInLimits
@@ -106,8 +88,8 @@ stays-fresh table _ bad (FromFresh.slot s k buffer place from not-late) =
 -- and at time 0 nothing is more or less than any row's limits.
 nothing-in-limits : (row : Row) → InLimits row 0 0
 nothing-in-limits row =
-    let none : row .cost * elapsed row 0 ≡ 0 = ap (λ a. row .cost * a) {x = elapsed row 0} {y = 0} (omega arith) ∙ mul-zero (row .cost) in
-    record { at-least = omega (arith, none, div-le-self (row .cost * elapsed row 0) (row .period)); at-most = zero-le }
+    let none : row .cost * sincePhase row 0 ≡ 0 = ap (λ a. row .cost * a) {x = sincePhase row 0} {y = 0} (omega arith) ∙ mul-zero (row .cost) in
+    record { at-least = omega (arith, none, div-le-self (row .cost * sincePhase row 0) (row .period)); at-most = zero-le }
 
 -- So every row is in its limits.
 keeps-sound : (table : Table) (s : State) → faultOf table ≡ 0 → FromFresh table s → (i : ℕ) → i < length (rowsOf table) →

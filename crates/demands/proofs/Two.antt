@@ -10,6 +10,7 @@ use Rattle.pd2.specs.Choice.{quantaAt, readyIn, firstBy}
 use Rattle.pd2.proofs.Order.{before-means-rule}
 use Rattle.pd2.proofs.Picks.{picks-are-best}
 use Rattle.pd2.proofs.Choice.{pd2-is-strict}
+use Rattle.choice.proofs.Chosen.{chosen-as-pd2}
 use Rattle.trace.specs.Records.{freeAt, rowsAt, names}
 use Rattle.trace.specs.Said.{bare}
 use Rattle.trace.proofs.Agree.{free-written, rows-written}
@@ -60,4 +61,4 @@ passes-exactly bytes s = (
     taken passes (no n) = ap (λ x. x .number) (sym (judges-table-first bytes s .0 n) ∙ passes)
 
 pub demand-two : DemandTwo
-demand-two = record { order = before-means-rule; picks = picks-are-pd2s; at-most-one = at-most-one-quantum; passes = passes-exactly }
+demand-two = record { order = before-means-rule; picks = picks-are-pd2s; alone = chosen-as-pd2; at-most-one = at-most-one-quantum; passes = passes-exactly }

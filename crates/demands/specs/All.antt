@@ -1,6 +1,7 @@
 -- All that this crate states, in one record: whoever reads it has seen every statement, and its one theorem (proofs/All.antt) proves them all. The gate
 -- asks for each of these fields by name and type.
 use Rattle.demands.specs.Determined.{EveryPromiseDetermines}
+use Rattle.demands.specs.Cases.{Cases}
 use Rattle.demands.specs.One.{DemandOne}
 use Rattle.demands.specs.Two.{DemandTwo}
 use Rattle.demands.specs.Three.{DemandThree}
@@ -13,6 +14,8 @@ use Rattle.demands.specs.NeverLate.{NeverLate}
 pub record All : Type 0 where
   -- "any two results allowed are equal", of every public function
   pub determined : EveryPromiseDetermines
+  -- 01's number and values for each case of an answer
+  pub cases : Cases
   -- the three demands
   pub one : DemandOne
   pub two : DemandTwo

@@ -3,7 +3,7 @@
 use Prim.Native.Nat.{ℕ, _+_, _*_, _≤_, _<_}
 use mathlib.Core.Path.{_≡_}
 use mathlib.Core.List.{List}
-use lib.ListN.{length}
+use lib.ListN.{length, replicate}
 use Rattle.counts.specs.Limits.{timeLimit}
 use Rattle.table.specs.declared.Table.{Table}
 use Rattle.table.specs.Causes.{load}
@@ -11,9 +11,10 @@ use Rattle.table.specs.Value.{faultOf, rowsOf}
 use Rattle.table.specs.Bytes.{tableNumber, tableIn}
 use Rattle.table.specs.Example.{example}
 use Rattle.dispatcher.specs.declared.State.{State}
-use Rattle.trace.specs.Said.{bare}
+use Rattle.trace.specs.Said.{bare, named}
 use Rattle.dispatcher.specs.State.{timeOf, freshOf}
 use Rattle.dispatcher.specs.Slot.{slotOf}
+use Rattle.dispatcher.specs.Run.{run}
 
 -- The states that slots lead to from a fresh start, if each has at least c cores free, any buffer and any place.
 pub data WithCores (table : Table) (c : ℕ) : State → Type 0 where
@@ -41,5 +42,5 @@ pub record NeverLate : Type 0 where
   -- 01's example is such a table, and takes all of its two cores.
   pub example-taken : tableNumber example ≡ 0
   pub example-full : load (tableIn example .cycle) (rowsOf (tableIn example)) ≡ tableIn example .cores * tableIn example .cycle
-  -- The sum is what counts: with one core free, one less than its rows need, it is late.
-  pub example-late-with-one : NeverLateWith (tableIn example) 1 → ⊥
+  -- The sum is what counts: with one core free, one less than its rows need, its row 2 is late at time 2.
+  pub example-late-with-one : run (tableIn example) (λ s. 1) (replicate 100 0) 0 2 .said ≡ named 1 2 2

@@ -4,23 +4,33 @@ use Prim.Native.Nat.{ℕ, _≤_, _<_}
 use mathlib.Core.Path.{_≡_}
 use mathlib.Core.List.{List, []}
 use mathlib.Core.Logic.{_↔_, _⊎_}
-use lib.ListN.{length}
+use lib.ListN.{length, replicate}
 use mathlib.Core.Bool.{Bool, true, false}
 use Rattle.facts.specs.Findings.{FirstFound}
 use Rattle.windows.specs.Question.{WindowsAreAnswered}
 use Rattle.windows.specs.Windows.{NextStartIsDLessB}
-use Rattle.windows.specs.LeastTime.{WalkGivesLeastTime}
-use Rattle.table.specs.Bytes.{tableNumber, tableIn, noTable, reading}
+use Rattle.windows.specs.LeastTime.{WalkGivesLeastTime, LightHasNone}
+use Rattle.windows.specs.Next.{nextAnswered}
+use Rattle.table.specs.declared.Row.{Row}
+use Rattle.table.specs.declared.Table.{Table}
+use Rattle.table.specs.Value.{faultOf}
+use Rattle.table.specs.Bytes.{tableNumber, tableIn, reading}
 use Rattle.table.specs.Taken.{NumbersAreFirstCauses, NumbersAre10To22, TakenWhereNoCause, PastIsZero}
+use Rattle.pd2.specs.Verdict.{answered}
+use Rattle.pd2.specs.Choice.{rowAt, quantaAt}
 use Rattle.trace.specs.Record.{recordOf, marked, hasRoom, partAfter}
 use Rattle.trace.specs.Said.{Said, bare}
 use Rattle.trace.specs.Records.{freeAt, placeIn, rowsOfSlot}
 use Rattle.trace.specs.Found.{isFound, partFound, partBegins, FoundIfAllInside}
+use Rattle.dispatcher.specs.declared.State.{State}
+use Rattle.dispatcher.specs.State.{rowsIn, quantaIn, timeOf, freshOf}
+use Rattle.dispatcher.specs.Broken.{broken}
 use Rattle.dispatcher.specs.Kept.{RefusalsAreFirstCauses, RefusalChangesNothing, FaultAnswers30}
 use Rattle.dispatcher.specs.Places.{SlotNumbers, BareUnlessLate, PastIsReturned, PastIsIgnored}
 use Rattle.checker.specs.Check.{traceFindings, checkOf}
 use Rattle.printer.specs.Text.{textOf}
 use Rattle.printer.specs.Buffer.{outAfter}
+use Rattle.demands.specs.Limits.{InLimits}
 use Rattle.demands.specs.Determined.{EveryPromiseDetermines}
 
 -- "with one of the refusals in document 01, given exactly when that paper says", of a window: 50 exactly if e = 0, e is not below p, or i is not in 1
@@ -29,8 +39,14 @@ pub record Windows : Type 0 where
   pub answered : WindowsAreAnswered
   -- "Then the next start is d - b."
   pub next-start : NextStartIsDLessB
-  -- D of a heavy row is "the smallest time at or after d that is the deadline of a subtask of this row with b = 0, or ..".
+  -- D of a heavy row is "the smallest time at or after d that is the deadline of a subtask of this row with b = 0, or ..", and "0 for a light row".
   pub group : WalkGivesLeastTime
+  pub light : LightHasNone
+
+-- of a question about one row: it is answered for every row with 0 < e ≤ p, as far as 01's times, quanta and phases go;
+pub record Questions : Type 0 where
+  pub row : (row : Row) (q t : ℕ) → 0 < row .cost → row .cost ≤ row .period → q ≤ 1_000_000_001 → t ≤ 1_000_000_001 → answered row q t ≡ true
+  pub next : (e p f q : ℕ) → 0 < e → e ≤ p → f ≤ 65_535 → q ≤ 1_000_000_001 → nextAnswered e p f q ≡ true
 
 -- of a table: 10 to 22, each exactly if its cause is the first met, and 0 exactly if none is. With 0 the table that the bytes hold is handed back;
 -- "a table that is taken has 0 in every place past n and past M". "A table refusal yields no table";
@@ -41,11 +57,29 @@ pub record Tables : Type 0 where
   pub number : (bytes : List ℕ) → reading bytes .number ≡ tableNumber bytes
   pub table : (bytes : List ℕ) → tableNumber bytes ≡ 0 → reading bytes .table ≡ tableIn bytes
   pub past : PastIsZero
-  pub no-table : (bytes : List ℕ) → (tableNumber bytes ≡ 0 → ⊥) → reading bytes .table ≡ noTable
+  pub no-table : (bytes : List ℕ) → (tableNumber bytes ≡ 0 → ⊥) →
+      reading bytes .table ≡ record { cycle = 0; cores = 0; boards = replicate 8 0; count = 0; rows = replicate 32 (record { tank = 0; cost = 0; period = 0; phase = 0; kind = 0 }) }
+
+-- "A state is broken (30) if its table has a fault 12 to 20 or 22, if time is above 1,000,000,000, if a row's quanta exceed time, or if it is not stopped and
+-- some row is outside its share at its time": what a state is that is not broken.
+pub record NotBroken (s : State) : Type 0 where
+  pub table : faultOf (s .table) ≡ 0
+  pub time : timeOf s ≤ 1_000_000_000
+  pub quanta : (i : ℕ) → i < length (rowsIn s) → quantaAt (quantaIn s) i ≤ timeOf s
+  pub shares : s .stopped ≡ false → (i : ℕ) → i < length (rowsIn s) → InLimits (rowAt (rowsIn s) i) (quantaAt (quantaIn s) i) (timeOf s)
+
+abbrev pub BrokenExactly : Type 0
+BrokenExactly = (s : State) → (broken s ≡ false) ↔ NotBroken s
+
+-- "A fresh state can be made from any table value: time 0, not stopped, all quanta 0"
+abbrev pub FreshIs : Type 0
+FreshIs = (t : Table) → freshOf t ≡ record { table = t; time = record { 0 = 0 }; stopped = false; quanta = replicate 32 (record { 0 = 0 }) }
 
 -- of a slot: 30 to 34, each exactly if its cause is the first met. A fresh state of a table with a fault is answered 30. "Places past row n, and board
 -- numbers past M, are ignored and returned as they came";
 pub record Slots : Type 0 where
+  pub fresh : FreshIs
+  pub broken-exactly : BrokenExactly
   pub numbers : SlotNumbers
   pub refused : RefusalsAreFirstCauses
   pub faulty : FaultAnswers30
@@ -85,6 +119,7 @@ pub record HandsBack : Type 0 where
 pub record DemandOne : Type 0 where
   pub determined : EveryPromiseDetermines
   pub windows : Windows
+  pub questions : Questions
   pub tables : Tables
   pub slots : Slots
   pub checks : Checks

@@ -2,19 +2,14 @@
 -- rounded up; for an early-release row the upper limit is the cost of all jobs released before that time. From a fresh start, however many cores each
 -- slot had, the dispatcher keeps every row within these limits until it first reports a row late. It reports that exactly when some row is owed a whole
 -- quantum."
-use Prim.Native.Nat.{ℕ, _+_, _*_, _/_, _≤_, _<_}
+use Prim.Native.Nat.{ℕ, _+_, _*_, _≤_, _<_}
 use mathlib.Core.Path.{_≡_}
 use mathlib.Core.List.{List}
-use mathlib.Core.Bool.{cond}
 use mathlib.Core.Logic.{_↔_}
 use lib.ListN.{length}
-use Rattle.facts.specs.Rounding.{ceilDiv}
-use Rattle.table.specs.declared.Row.{Row}
 use Rattle.table.specs.declared.Table.{Table}
 use Rattle.table.specs.Value.{rowsOf}
 use Rattle.table.specs.Bytes.{tableNumber, tableIn}
-use Rattle.pd2.specs.Ready.{early}
-use Rattle.pd2.specs.Share.{elapsed, jobsReleased}
 use Rattle.pd2.specs.Choice.{rowAt, quantaAt}
 use Rattle.trace.specs.Records.{slotsIn, timesNamed}
 use Rattle.trace.specs.Said.{Said, bare}
@@ -24,23 +19,8 @@ use Rattle.dispatcher.specs.Slot.{slotOf}
 use Rattle.dispatcher.specs.RunKept.{QuantaAreRecords, RecordsStandInTurn}
 use Rattle.checker.specs.Check.{checkOf}
 use Rattle.checker.specs.WellFormed.{WellFormed}
+use Rattle.demands.specs.Limits.{sincePhase, upperLimit, InLimits}
 use Rattle.demands.specs.RunPasses.{WordBytesAreRead, RunPasses}
-
--- "The exact share is e·a/p": rounded down, and rounded up
-abbrev pub shareDown : Row → ℕ → ℕ
-shareDown row t = row .cost * elapsed row t / row .period
-
-abbrev pub shareUp : Row → ℕ → ℕ
-shareUp row t = ceilDiv (row .cost * elapsed row t) (row .period)
-
--- "for an early-release row the upper limit is the cost of all jobs released before that time"
-abbrev pub upperLimit : Row → ℕ → ℕ
-upperLimit row t = cond (early row) (row .cost * jobsReleased row t) (shareUp row t)
-
--- A row with q quanta at time t "holds at least its exact share rounded down, and at most that share rounded up".
-pub record InLimits (row : Row) (q t : ℕ) : Type 0 where
-  pub at-least : shareDown row t ≤ q
-  pub at-most : q ≤ upperLimit row t
 
 -- "A well-formed trace passes exactly when, at each time it covers, each row holds .."; the quanta of a row are the records that name it
 abbrev pub PassesInLimits : Type 0
@@ -66,7 +46,7 @@ KeepsLimits =
 abbrev pub IsOwed : Table → State → ℕ → Type 0
 IsOwed table s i =
     let row = rowAt (rowsOf table) i in
-    row .period * quantaAt (quantaIn s) i + row .period ≤ row .cost * elapsed row (timeOf s)
+    row .period * quantaAt (quantaIn s) i + row .period ≤ row .cost * sincePhase row (timeOf s)
 
 -- "It reports that exactly when some row is owed a whole quantum." It names the lowest such row and the time, and "at that one the upper limits still hold".
 pub record Reports (table : Table) (said : Said) (after : State) : Type 0 where

@@ -11,6 +11,7 @@ use Rattle.table.specs.Bytes.{tableNumber, tableIn}
 use Rattle.pd2.specs.Order.{Rank, Before, before}
 use Rattle.pd2.specs.Picks.{AreBest}
 use Rattle.pd2.specs.Choice.{quantaAt, readyIn, firstBy, pd2Picks}
+use Rattle.choice.specs.Choice.{ChosenAsPd2}
 use Rattle.trace.specs.Record.{withRecord, recordOf}
 use Rattle.trace.specs.Records.{freeAt, rowsAt, names}
 use Rattle.trace.specs.Said.{bare}
@@ -55,9 +56,11 @@ PassesExactly =
 abbrev pub OrderIsTheRules : Type 0
 OrderIsTheRules = (x y : Rank) → (before x y ≡ true) ↔ Before x y
 
--- "A row gets at most one quantum a slot", whatever the state.
 pub record DemandTwo : Type 0 where
   pub order : OrderIsTheRules
   pub picks : PicksArePd2s
+  -- `choice::picks`, asked alone, picks as PD2 does wherever every row's question is answered.
+  pub alone : ChosenAsPd2
+  -- "A row gets at most one quantum a slot", whatever the state.
   pub at-most-one : AtMostOneQuantum
   pub passes : PassesExactly

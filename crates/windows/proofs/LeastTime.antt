@@ -8,24 +8,14 @@ use Prim.Native.Nat.{ℕ, _+_, _-_, _*_, _/_, _≤_, _<_}
 use native.Mathlib.Nat.{le-antisymm, div-eq-of-eq-mul-left, mul-le-mul-right, lt-div-mul-add}
 use native.Mathlib.Decide.{ℕ-discrete, decLt}
 use native.Mathlib.Omega.{arith}
-use borrow.Author.Tests.{ltb-true, lt-ltb}
 use Rattle.facts.specs.Rounding.{ceilDiv}
 use Rattle.facts.specs.First.{IsFirst}
 use Rattle.facts.proofs.Rounding.{ceil-is-enough}
 use Rattle.windows.specs.Windows.{deadline, bit, windowLength, jobStart, lastOfJob}
-use Rattle.windows.specs.Group.{heavy, stops, stopTime, groupDeadline}
+use Rattle.windows.specs.Group.{stops, stopTime, groupDeadline}
 use Rattle.windows.specs.LeastTime.{Marks, IsGroupDeadline, WalkGivesLeastTime}
 use Rattle.windows.proofs.Windows.{bit-zero-divides, bit-at-job-end, job-end-is-near, deadline-of-whole, deadline-rises, bit-zero-is-at-most-2-long}
 use Rattle.windows.proofs.Group.{light-has-none, heavy-walks, bit-stops, length-stops, else-passes, bit-gives, length-gives, walk-ends-within-job}
-
--- Heavy, as an order of numbers, and back.
-pub heavy-is-over-half : (e p : ℕ) → heavy e p ≡ true → p < 2 * e
-unfolding heavy
-heavy-is-over-half e p h = ltb-true p (2 * e) h
-
-pub over-half-is-heavy : (e p : ℕ) → p < 2 * e → heavy e p ≡ true
-unfolding heavy
-over-half-is-heavy e p h = lt-ltb p (2 * e) h
 
 -- Two least times are equal.
 least-is-unique : {e p o i t u : ℕ} → IsGroupDeadline e p o i t → IsGroupDeadline e p o i u → t ≡ u
@@ -117,7 +107,7 @@ module _ (e p o i : ℕ) (he : 0 < e) (hp : e ≤ p) (hv : p < 2 * e) (hi : 0 < 
 -- W7.
 pub walk-gives-least-time : WalkGivesLeastTime
 walk-gives-least-time e p o i t he hp hv hi =
-    let least = group-deadline-is-least e p o i he hp (heavy-is-over-half e p hv) hi in
+    let least = group-deadline-is-least e p o i he hp hv hi in
     (λ is. least-is-unique is least, λ same. rw same least)
 
 -- W8, in times: D is no later than the end of the job that holds i.

@@ -1,10 +1,9 @@
 -- What the group deadline of a heavy row is (01, "Windows"): the walk gives the least time of its kind.
-use Prim.Native.Nat.{ℕ, _+_, _≤_, _<_}
+use Prim.Native.Nat.{ℕ, _+_, _*_, _≤_, _<_}
 use mathlib.Core.Path.{_≡_}
-use mathlib.Core.Bool.{true}
 use mathlib.Core.Logic.{_⊎_, _↔_}
 use Rattle.windows.specs.Windows.{deadline, bit, windowLength}
-use Rattle.windows.specs.Group.{heavy, groupDeadline}
+use Rattle.windows.specs.Group.{groupDeadline}
 
 -- Time t "is the deadline of a subtask of this row with b = 0, or one less than the deadline of a subtask of this row whose window is
 -- 3 slots long". That subtask is j.
@@ -18,7 +17,11 @@ pub record IsGroupDeadline (e p o i t : ℕ) : Type 0 where
   pub marked : (j : ℕ) × (0 < j) × Marks e p o j t
   pub least : (j u : ℕ) → 0 < j → Marks e p o j u → deadline e p o i ≤ u → t ≤ u
 
--- W7: of every heavy row the walk gives that time and no other, whatever the origin.
+-- W7: of every heavy row, "when e/p is more than one half", the walk gives that time and no other, whatever the origin.
 abbrev pub WalkGivesLeastTime : Type 0
 WalkGivesLeastTime =
-    (e p o i t : ℕ) → 0 < e → e ≤ p → heavy e p ≡ true → 0 < i → IsGroupDeadline e p o i t ↔ (t ≡ groupDeadline e p o i)
+    (e p o i t : ℕ) → 0 < e → e ≤ p → p < 2 * e → 0 < i → IsGroupDeadline e p o i t ↔ (t ≡ groupDeadline e p o i)
+
+-- "group deadline D: 0 for a light row."
+abbrev pub LightHasNone : Type 0
+LightHasNone = (e p o i : ℕ) → 2 * e ≤ p → groupDeadline e p o i ≡ 0

@@ -1,0 +1,57 @@
+-- What each case of an answer says is so by definition. Assumes nothing.
+use mathlib.Core.Path.{refl}
+use Rattle.demands.specs.Cases.{WindowCases, StoredCases, SlotCases, TableCases, CheckCases, Cases}
+
+window-cases : WindowCases
+window-cases = record { window = λ r d D b. refl; refused = refl }
+
+stored-cases : StoredCases
+stored-cases = record { written = refl; no-room = refl }
+
+slot-cases : SlotCases
+slot-cases =
+    record {
+      done = refl;
+      late = λ row time. refl;
+      broken = refl;
+      stopped = refl;
+      at-limit = refl;
+      too-many-cores = refl;
+      no-room = refl;
+    }
+
+table-cases : TableCases
+table-cases =
+    record {
+      ends = refl;
+      format = refl;
+      cycle = refl;
+      cores = refl;
+      boards = refl;
+      count = refl;
+      tanks = refl;
+      cost = refl;
+      weight = refl;
+      period = refl;
+      kind = refl;
+      after = refl;
+      sum = refl;
+    }
+
+check-cases : CheckCases
+check-cases =
+    record {
+      passed = refl;
+      table = table-cases;
+      cut = refl;
+      too-many-cores = refl;
+      too-many-rows = refl;
+      bad-row = refl;
+      early = λ row slot. refl;
+      late = λ row time. refl;
+      extra = refl;
+      too-long = refl;
+    }
+
+pub cases : Cases
+cases = record { windows = window-cases; stored = stored-cases; slots = slot-cases; checks = check-cases }

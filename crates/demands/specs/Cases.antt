@@ -1,0 +1,70 @@
+-- "For every answer that is an enum, a definition states this paper's number and values for each of the enum's cases" (01, "Our forms for each place"):
+-- what each case says, written out. (The row that is read is an enum inside `table`: table/specs/RowRead.antt.)
+use Prim.Native.Nat.{ℕ}
+use mathlib.Core.Path.{_≡_}
+use Rattle.counts.specs.declared.Slot.{Slot}
+use Rattle.windows.specs.declared.Answer.the-variants.{Window, Refused}
+use Rattle.windows.specs.Question.{replyOf}
+use Rattle.trace.specs.declared.Stored.the-variants as stored
+use Rattle.trace.specs.Record.{storedNumber}
+use Rattle.trace.specs.Said.{bare, named}
+use Rattle.dispatcher.specs.declared.Answer.the-variants as slot
+use Rattle.dispatcher.specs.Answer.{saidOf}
+use Rattle.checker.specs.declared.TableFault.the-variants as fault
+use Rattle.checker.specs.declared.Answer.the-variants as check
+use Rattle.checker.specs.Answer as checked
+
+-- a window
+pub record WindowCases : Type 0 where
+  pub window : (r d D : Slot) (b : ℕ) → replyOf (Window r d b D) ≡ record { number = 0; r = r .0; d = d .0; b = b; D = D .0 }
+  pub refused : replyOf Refused ≡ record { number = 50; r = 0; d = 0; b = 0; D = 0 }
+
+-- the writer of a record
+pub record StoredCases : Type 0 where
+  pub written : storedNumber stored.Written ≡ 0
+  pub no-room : storedNumber stored.NoRoom ≡ 34
+
+-- a slot: "names the lowest such row and that time"
+pub record SlotCases : Type 0 where
+  pub done : saidOf slot.Done ≡ bare 0
+  pub late : (row : ℕ) (time : Slot) → saidOf (slot.Late row time) ≡ named 1 row (time .0)
+  pub broken : saidOf slot.Broken ≡ bare 30
+  pub stopped : saidOf slot.Stopped ≡ bare 31
+  pub at-limit : saidOf slot.AtLimit ≡ bare 32
+  pub too-many-cores : saidOf slot.TooManyCores ≡ bare 33
+  pub no-room : saidOf slot.NoRoom ≡ bare 34
+
+-- a check: the table's refusals,
+pub record TableCases : Type 0 where
+  pub ends : checked.faultNumber fault.Ends ≡ 10
+  pub format : checked.faultNumber fault.Format ≡ 11
+  pub cycle : checked.faultNumber fault.Cycle ≡ 12
+  pub cores : checked.faultNumber fault.Cores ≡ 13
+  pub boards : checked.faultNumber fault.Boards ≡ 14
+  pub count : checked.faultNumber fault.Count ≡ 15
+  pub tanks : checked.faultNumber fault.Tanks ≡ 16
+  pub cost : checked.faultNumber fault.Cost ≡ 17
+  pub weight : checked.faultNumber fault.Weight ≡ 18
+  pub period : checked.faultNumber fault.Period ≡ 19
+  pub kind : checked.faultNumber fault.Kind ≡ 20
+  pub after : checked.faultNumber fault.After ≡ 21
+  pub sum : checked.faultNumber fault.Sum ≡ 22
+
+-- and the trace's: "(row, slot)", "(row, time)"
+pub record CheckCases : Type 0 where
+  pub passed : checked.saidOf check.Passed ≡ bare 0
+  pub table : TableCases
+  pub cut : checked.saidOf check.Cut ≡ bare 40
+  pub too-many-cores : checked.saidOf check.TooManyCores ≡ bare 41
+  pub too-many-rows : checked.saidOf check.TooManyRows ≡ bare 42
+  pub bad-row : checked.saidOf check.BadRow ≡ bare 43
+  pub early : (row : ℕ) (slot : Slot) → checked.saidOf (check.Early row slot) ≡ named 44 row (slot .0)
+  pub late : (row : ℕ) (time : Slot) → checked.saidOf (check.Late row time) ≡ named 45 row (time .0)
+  pub extra : checked.saidOf check.Extra ≡ bare 46
+  pub too-long : checked.saidOf check.TooLong ≡ bare 47
+
+pub record Cases : Type 0 where
+  pub windows : WindowCases
+  pub stored : StoredCases
+  pub slots : SlotCases
+  pub checks : CheckCases
