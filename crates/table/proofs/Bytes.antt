@@ -64,11 +64,12 @@ module _ (s : List ℕ) (cycle least i : ℕ) where
   unfolding rowReply firstMet
   row-cut h = simp (lt-ltb _ _ h)
 
-  row-there : i + 9 ≤ length s → firstMet (rowTestsIn s cycle least i) ≡ firstMet (rowTests cycle least (rowInBytes s i))
+  -- or all there, and then its first fault is that of its value:
+  pub row-there : i + 9 ≤ length s → firstMet (rowTestsIn s cycle least i) ≡ firstMet (rowTests cycle least (rowInBytes s i))
   unfolding firstMet
   row-there h = simp (le-ltb _ _ h)
 
-  -- or has a fault,
+  -- it has a fault,
   pub row-faulty : i + 9 ≤ length s → {k : ℕ} → k ≡ firstMet (rowTests cycle least (rowInBytes s i)) → (k ≡ 0 → ⊥) → rowReplyOf (read.the-variants.Fault k) ≡ rowReply s cycle least i
   unfolding rowReply
   row-faulty h {k} e f =

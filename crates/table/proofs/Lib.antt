@@ -3,3 +3,4 @@ pub mod Value
 pub mod Bytes
 pub mod Answers
 pub mod Taken
+pub mod Faultless
