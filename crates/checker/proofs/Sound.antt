@@ -2,17 +2,17 @@
 use Prim.Native.Nat.{ℕ, zero, suc, _+_, _≤_, _<_}
 use mathlib.Core.Path.{_≡_, refl, sym, ap, _∙_}
 use mathlib.Core.List.{List, [], _∷_, _++_}
-use mathlib.Core.Bool.{Bool, true, false, not, _&&_}
+use mathlib.Core.Bool.{Bool, true, false, not, _&&_, _||_}
 use mathlib.Core.Logic.{_↔_, _⊎_, inl, inr}
 use native.Mathlib.Decide.{decLt}
 use native.Mathlib.Omega.{arith}
-use borrow.Author.Tests.{ltb-true, lt-ltb, le-ltb, not-false}
+use borrow.Author.Tests.{ltb-true, ltb-false, lt-ltb, le-ltb, not-false}
 use lib.Dec.{ltb}
 use lib.ListN.{length, getD}
 use Rattle.facts.specs.Counting.{those}
 use Rattle.facts.specs.Findings.{Finding, FirstFound, NoneFound}
 use Rattle.facts.proofs.Findings.{none-says-otherwise, first-is-said, none-or-first, none-joined, none-apart}
-use Rattle.facts.proofs.Tests.{both, hold-both}
+use Rattle.facts.proofs.Tests.{both, hold-both, neither-holds}
 use Rattle.facts.proofs.Counting.{none-if, each-fails, listed-pass, listed-rise}
 use Rattle.table.specs.declared.Table.{Table}
 use Rattle.table.specs.Value.{rowsOf}
@@ -20,7 +20,7 @@ use Rattle.pd2.specs.Ready.{ready, late}
 use Rattle.pd2.specs.Choice.{rowAt}
 use Rattle.trace.specs.Records.{names, slotsIn, placeIn, rowsOfSlot, timesNamed}
 use Rattle.trace.specs.Said.{Said, bare}
-use Rattle.checker.specs.Causes.{badRows, tooEarly, tooLate, extra}
+use Rattle.checker.specs.Causes.{badRows, RisingExactly, tooEarly, tooLate, extra}
 use Rattle.checker.specs.Check.{shapeAt, timeFindings, recordFindings, recordsFindings, lastFindings, traceFindings, traceSaid}
 use Rattle.checker.specs.WellFormed.{SoundRecord, WellFormed}
 use Rattle.checker.specs.Passes.{Passes}
@@ -29,6 +29,14 @@ use Rattle.checker.specs.Passes.{Passes}
 pub record InTime (table : Table) (s : List ℕ) (t : ℕ) : Type 0 where
   pub readied : (row : ℕ) → row < length (rowsOf table) → names (rowsOfSlot s t) row ≡ true → ready (rowAt (rowsOf table) row) (timesNamed s row t) t ≡ true
   pub none-late : (row : ℕ) → row < length (rowsOf table) → late (rowAt (rowsOf table) row) (timesNamed s row (t + 1)) (t + 1) ≡ false
+
+-- If the first row and those after it are not bad, it is below n and not too low, and they are not bad above it.
+not-bad-parts : (n least row : ℕ) (rows : List ℕ) → badRows n least (row ∷ rows) ≡ false → (row < n) × (least ≤ row) × (badRows n (row + 1) rows ≡ false)
+unfolding badRows
+not-bad-parts n least row rows h =
+    let first = neither-holds (not (ltb row n) || ltb row least) (badRows n (row + 1) rows) h in
+    let each = neither-holds (not (ltb row n)) (ltb row least) (first .0) in
+    (ltb-true row n (not-false _ (each .0)), ltb-false row least (each .1), first .1)
 
 -- Rising rows below n are not bad,
 rising-not-bad : (n least : ℕ) (rows : List ℕ) → ((j : ℕ) → j < length rows → getD rows j 0 < n) →
@@ -45,9 +53,32 @@ rising-not-bad n least (row ∷ rows) below rise low =
           (λ l. omega (arith, rise 0 1 (omega arith) (omega arith))),
     )
 
--- so those that are listed below n are not.
+-- rows that are not bad are below n, and none is lower than the least that may stand first,
+not-bad-within : (n least : ℕ) (rows : List ℕ) → badRows n least rows ≡ false → (j : ℕ) → j < length rows → (least ≤ getD rows j 0) × (getD rows j 0 < n)
+not-bad-within n least [] h j l = absurd (omega arith)
+not-bad-within n least (row ∷ rows) h zero l = let x = not-bad-parts n least row rows h in (x .1, x .0)
+not-bad-within n least (row ∷ rows) h (suc j) l =
+    let x = not-bad-parts n least row rows h in
+    let rest = not-bad-within n (row + 1) rows (x .2) j (omega arith) in
+    (omega (arith, x, rest), rest .1)
+
+-- and rise.
+not-bad-rises : (n least : ℕ) (rows : List ℕ) → badRows n least rows ≡ false → (i j : ℕ) → i < j → j < length rows → getD rows i 0 < getD rows j 0
+not-bad-rises n least [] h i j b l = absurd (omega arith)
+not-bad-rises n least (row ∷ rows) h i zero b l = absurd (omega arith)
+not-bad-rises n least (row ∷ rows) h zero (suc j) b l = omega (arith, not-bad-within n (row + 1) rows (not-bad-parts n least row rows h .2) j (omega arith))
+not-bad-rises n least (row ∷ rows) h (suc i) (suc j) b l = not-bad-rises n (row + 1) rows (not-bad-parts n least row rows h .2) i j (omega arith) (omega arith)
+
+-- So rows are not bad exactly if they are below n and rise.
+pub rising-exactly : RisingExactly
+rising-exactly n rows = (
+  λ h. (λ j l. not-bad-within n 0 rows h j l .1, not-bad-rises n 0 rows h),
+  λ x. rising-not-bad n 0 rows (x .0) (x .1) (λ l. omega arith),
+)
+
+-- So those that are listed below n are not bad.
 pub listed-not-bad : (a : ℕ → Bool) (n : ℕ) → badRows n 0 (those a n) ≡ false
-listed-not-bad a n = rising-not-bad n 0 (those a n) (λ j l. listed-pass a n j 0 l .0) (λ i j. listed-rise a n i j 0) (λ l. omega arith)
+listed-not-bad a n = rising-exactly n (those a n) .1 (λ j l. listed-pass a n j 0 l .0, λ i j. listed-rise a n i j 0)
 
 -- All that may be said has a number.
 unfoldable numbered : List (Finding Said) → Bool

@@ -1,7 +1,9 @@
 -- The causes of 40 to 47 (01, "What comes back"), for a table that is taken and the bytes s of a trace.
-use Prim.Native.Nat.{ℕ, _+_}
+use Prim.Native.Nat.{ℕ, _+_, _<_}
+use mathlib.Core.Path.{_≡_}
 use mathlib.Core.List.{List, [], _∷_}
 use mathlib.Core.Bool.{Bool, false, not, _&&_, _||_}
+use mathlib.Core.Logic.{_↔_}
 use lib.Dec.{ltb}
 use lib.ListN.{length, getD}
 use Rattle.facts.specs.Counting.{some, those}
@@ -46,6 +48,13 @@ badRows n least (row ∷ rows) = not (ltb row n) || ltb row least || badRows n (
 
 abbrev pub badRow : ℕ → List ℕ → ℕ → Bool
 badRow n s place = badRows n 0 (rowsAt s place)
+
+-- "c row numbers rising strictly", each below n: row numbers are not bad exactly if they are so.
+abbrev pub RisingExactly : Type 0
+RisingExactly =
+    (n : ℕ) (rows : List ℕ) →
+    (badRows n 0 rows ≡ false)
+    ↔ (((j : ℕ) → j < length rows → getD rows j 0 < n) × ((i j : ℕ) → i < j → j < length rows → getD rows i 0 < getD rows j 0))
 
 -- 44, "quantum before its row was ready (row, slot)": row i is named in slot t and was not ready
 abbrev pub tooEarly : Table → List ℕ → ℕ → ℕ → Bool
