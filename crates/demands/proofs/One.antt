@@ -17,6 +17,7 @@ use Rattle.pd2.proofs.Share.{row-can-be}
 use Rattle.dispatcher.specs.State.{rowsIn, quantaIn, timeOf}
 use Rattle.dispatcher.proofs.Whole.{is-whole, is-not-broken}
 use Rattle.table.proofs.Taken.{number-read, table-read, numbers-are-first-causes, numbers-are-10-to-22, taken-where-no-cause, no-table-read, past-is-zero}
+use Rattle.table.proofs.Faultless.{taken-exactly, faultless-exactly}
 use Rattle.trace.specs.Said.{bare}
 use Rattle.trace.proofs.Found.{found-if-all-inside, part-is-record}
 use Rattle.dispatcher.proofs.Kept.{refusals-are-first-causes, refusal-changes-nothing, fault-answers-30}
@@ -24,6 +25,7 @@ use Rattle.dispatcher.proofs.Places.{slot-numbers, bare-unless-late, past-is-re
 use Rattle.checker.specs.Check.{traceSaid, checkOf}
 use Rattle.checker.proofs.Passes.{numbers-are-first-found, judges-table-first, trace-numbers, bare-unless-named}
 use Rattle.printer.proofs.Buffer.{is-too-short}
+use Rattle.checker.proofs.Sound.{rising-exactly}
 use Rattle.demands.specs.One.{Questions, Tables, BrokenExactly, Slots, Checks, HandsBack, DemandOne}
 use Rattle.demands.proofs.Limits.{in-limits}
 use Rattle.demands.proofs.Determined.{every-promise-determines}
@@ -37,7 +39,18 @@ questions =
     }
 
 tables : Tables
-tables = record { numbers = numbers-are-10-to-22; refused = numbers-are-first-causes; taken = taken-where-no-cause; number = number-read; table = table-read; past = past-is-zero; no-table = no-table-read }
+tables =
+    record {
+      numbers = numbers-are-10-to-22;
+      refused = numbers-are-first-causes;
+      taken = taken-where-no-cause;
+      taken-exactly = taken-exactly;
+      faultless-exactly = faultless-exactly;
+      number = number-read;
+      table = table-read;
+      past = past-is-zero;
+      no-table = no-table-read;
+    }
 
 -- A state that is not broken is whole, and its shares are the demand's limits.
 broken-exactly : BrokenExactly
@@ -107,6 +120,7 @@ checks =
       trace-refused = λ bytes s x e nonzero.
           let means = numbers-are-first-found (tableIn bytes) s x nonzero in
           (λ h. means .0 (sym (trace-says bytes s e) ∙ h), λ first. trace-says bytes s e ∙ means .1 first);
+      rising = rising-exactly;
       parts = check-parts;
     }
 

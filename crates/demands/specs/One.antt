@@ -16,6 +16,7 @@ use Rattle.table.specs.declared.Table.{Table}
 use Rattle.table.specs.Value.{faultOf}
 use Rattle.table.specs.Bytes.{tableNumber, tableIn, reading}
 use Rattle.table.specs.Taken.{NumbersAreFirstCauses, NumbersAre10To22, TakenWhereNoCause, PastIsZero}
+use Rattle.table.specs.Faultless.{FaultlessExactly, TakenExactly}
 use Rattle.pd2.specs.Verdict.{answered}
 use Rattle.pd2.specs.Choice.{rowAt, quantaAt}
 use Rattle.trace.specs.Record.{recordOf, marked, hasRoom, partAfter}
@@ -27,6 +28,7 @@ use Rattle.dispatcher.specs.State.{rowsIn, quantaIn, timeOf, freshOf}
 use Rattle.dispatcher.specs.Broken.{broken}
 use Rattle.dispatcher.specs.Kept.{RefusalsAreFirstCauses, RefusalChangesNothing, FaultAnswers30}
 use Rattle.dispatcher.specs.Places.{SlotNumbers, BareUnlessLate, PastIsReturned, PastIsIgnored}
+use Rattle.checker.specs.Causes.{RisingExactly}
 use Rattle.checker.specs.Check.{traceFindings, checkOf}
 use Rattle.printer.specs.Text.{textOf}
 use Rattle.printer.specs.Buffer.{outAfter}
@@ -54,6 +56,9 @@ pub record Tables : Type 0 where
   pub numbers : NumbersAre10To22
   pub refused : NumbersAreFirstCauses
   pub taken : TakenWhereNoCause
+  -- 0 is answered exactly to the bytes of a table as 01 describes it, and a table value has no fault exactly if it is one.
+  pub taken-exactly : TakenExactly
+  pub faultless-exactly : FaultlessExactly
   pub number : (bytes : List ℕ) → reading bytes .number ≡ tableNumber bytes
   pub table : (bytes : List ℕ) → tableNumber bytes ≡ 0 → reading bytes .table ≡ tableIn bytes
   pub past : PastIsZero
@@ -95,6 +100,8 @@ pub record Checks : Type 0 where
   pub table-refused : (bytes s : List ℕ) → (tableNumber bytes ≡ 0 → ⊥) → checkOf bytes s ≡ bare (tableNumber bytes)
   pub trace-refused : (bytes s : List ℕ) (x : Said) → tableNumber bytes ≡ 0 → (x .number ≡ 0 → ⊥) →
       (checkOf bytes s ≡ x) ↔ FirstFound (traceFindings (tableIn bytes) s) x
+  -- 43 is met exactly where a row number is not below n or does not rise.
+  pub rising : RisingExactly
   pub parts : (bytes s : List ℕ) → let said = checkOf bytes s in (said .number ≡ 44 → ⊥) → (said .number ≡ 45 → ⊥) → said ≡ bare (said .number)
 
 -- of a record in a trace: it is found exactly if 01 says so.
