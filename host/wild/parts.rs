@@ -38,7 +38,7 @@ const PARTS: [Part; 16] = [
     Part(write::KIND, QUESTIONS, 4_000),
     Part(cut::OF_PROBE, PROBE_ONCE, 60),
     Part(cut::OF_QUESTIONS, QUESTIONS_ONCE, 60),
-    Part(printed::KIND, PRINTER, 150),
+    Part(printed::KIND, PRINTER, 200),
 ];
 
 /// Tables that the second program alone runs in a short run, to see that nobody is late.
