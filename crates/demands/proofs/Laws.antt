@@ -29,8 +29,10 @@ use Rattle.printer.specs.Lines.{digitsBy, decimal, spaced}
 use Rattle.printer.specs.Text.{slotsText, textOf}
 use Rattle.demands.specs.RunPasses.{wordBytes}
 use Rattle.demands.specs.Bench.{same}
-use Rattle.demands.specs.Laws.{allKept, alikeRows, risingRows, LawsHold}
+use Rattle.demands.specs.Law.{allLawsHold}
+use Rattle.demands.specs.LawInputs.{alikeRows, risingRows}
+use Rattle.demands.specs.Laws.{LawsHold}
 
 pub laws-hold : LawsHold
-unfolding ceilDiv atFirst howMany those firstMet rising firstFound places padded start deadline bit windowLength jobStart heavy stops stopTime groupDeadline windowReply load faultOf tableNumber reading ready late lower upper before picked given withFront withRecord placeOf names isFound broken refusal slotOf badRows recordsFindings traceSaid checkOf freeIn unfit digitsBy decimal spaced slotsText textOf wordBytes same allKept alikeRows risingRows
+unfolding ceilDiv atFirst howMany those firstMet rising firstFound places padded start deadline bit windowLength jobStart heavy stops stopTime groupDeadline windowReply load faultOf tableNumber reading ready late lower upper before picked given withFront withRecord placeOf names isFound broken refusal slotOf badRows recordsFindings traceSaid checkOf freeIn unfit digitsBy decimal spaced slotsText textOf wordBytes same allLawsHold alikeRows risingRows
 laws-hold = refl

@@ -7,6 +7,13 @@ pub mod Two
 pub mod RunPasses
 pub mod Three
 pub mod Bench
+pub mod Law
+pub mod LawInputs
+pub mod TableLaws
+pub mod ReadingLaws
+pub mod SlotLaws
+pub mod TraceLaws
+pub mod PrinterLaws
 pub mod Laws
 pub mod Confession
 pub mod Inputs

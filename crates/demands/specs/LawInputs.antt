@@ -1,0 +1,51 @@
+-- Tables, states and bytes that our own table of laws asks about (specs/Laws.antt).
+use Prim.Native.Nat.{ℕ, zero, suc, _+_, _-_, _/_, _%_}
+use mathlib.Core.List.{List, [], _∷_, _++_}
+use mathlib.Core.Bool.{Bool}
+use lib.ListN.{length, replicate}
+use Rattle.table.specs.declared.Row.{Row}
+use Rattle.table.specs.declared.Table.{Table}
+use Rattle.table.specs.Limits.{rowLimit}
+use Rattle.dispatcher.specs.declared.State.{State}
+use Rattle.dispatcher.specs.State.{counted}
+use Rattle.demands.specs.RunPasses.{wordBytes}
+use Rattle.demands.specs.Bench.{plainRow, box}
+
+-- "Little-endian throughout": a number in two bytes
+abbrev pub halfBytes : ℕ → List ℕ
+halfBytes n = n % 256 ∷ n / 256 ∷ []
+
+-- the front of a table: format, cycle, the core count and as many board numbers
+abbrev pub front : ℕ → List ℕ → List ℕ
+front cycle boards = 1 ∷ wordBytes cycle ++ (length boards ∷ boards)
+
+-- a row in its nine bytes: tank, e, p, f, kind
+abbrev pub rowBytes : ℕ → ℕ → ℕ → ℕ → ℕ → List ℕ
+rowBytes tank e p f kind = halfBytes tank ++ (halfBytes e ++ (halfBytes p ++ (halfBytes f ++ (kind ∷ []))))
+
+-- so many rows 1/p, with tanks rising from one on
+unfoldable pub alikeRows : ℕ → ℕ → ℕ → List ℕ
+alikeRows p tank zero = []
+alikeRows p tank (suc n) = rowBytes tank 1 p 0 0 ++ alikeRows p (tank + 1) n
+
+-- so many rows 1/64 of phase 100, with rising tanks
+unfoldable pub risingRows : ℕ → ℕ → List Row
+risingRows tank zero = []
+risingRows tank (suc n) = record { tank = tank; cost = 1; period = 64; phase = 100; kind = 0 } ∷ risingRows (tank + 1) n
+
+-- a state of a table: its time, its stopped mark, and the first of its quanta; the others are 0
+abbrev pub stateOf : Table → ℕ → Bool → List ℕ → State
+stateOf table time stopped quanta =
+    record { table = table; time = record { 0 = time }; stopped = stopped; quanta = counted (quanta ++ replicate (rowLimit - length quanta) 0) }
+
+-- two cores; row 0 has 1/2, row 1 has 1/3
+abbrev pub halfAndThird : Table
+halfAndThird = box 6 2 (plainRow 0 1 2 ∷ plainRow 1 1 3 ∷ [])
+
+-- one core and no rows
+abbrev pub noRows : Table
+noRows = box 1 1 []
+
+-- the same two rows in bytes
+abbrev pub halfAndThirdBytes : List ℕ
+halfAndThirdBytes = front 6 (0 ∷ 1 ∷ []) ++ (2 ∷ rowBytes 0 1 2 0 0 ++ rowBytes 1 1 3 0 0)

@@ -1,0 +1,59 @@
+-- Laws of the slot printer (01, "Slot printer"): part of specs/Laws.antt.
+use Prim.Native.Nat.{ℕ, _+_, _/_, _%_}
+use mathlib.Core.List.{List, [], _∷_, _++_}
+use lib.ListN.{length, take, replicate}
+use Rattle.table.specs.Example.{example}
+use Rattle.printer.specs.Example.{exampleInput, exampleText}
+use Rattle.demands.specs.Law.{Law, prints}
+use Rattle.demands.specs.LawInputs.{halfBytes, front, rowBytes, halfAndThirdBytes}
+
+-- "input", "refused N", "end N", "late T TANK" and a newline each, as bytes
+abbrev pub inputText : List ℕ
+inputText = 105 ∷ 110 ∷ 112 ∷ 117 ∷ 116 ∷ 10 ∷ []
+
+-- "refused " and two digits
+abbrev pub refusedText : ℕ → List ℕ
+refusedText n = 114 ∷ 101 ∷ 102 ∷ 117 ∷ 115 ∷ 101 ∷ 100 ∷ 32 ∷ (48 + n / 10) ∷ (48 + n % 10) ∷ 10 ∷ []
+
+-- "slot free tanks"
+abbrev pub headerText : List ℕ
+headerText = 115 ∷ 108 ∷ 111 ∷ 116 ∷ 32 ∷ 102 ∷ 114 ∷ 101 ∷ 101 ∷ 32 ∷ 116 ∷ 97 ∷ 110 ∷ 107 ∷ 115 ∷ 10 ∷ []
+
+-- an input: "table length (2), table, slots to run (2, at most 4,096), count of k values (2, at most the slots), those k bytes"
+abbrev pub inputOf : List ℕ → ℕ → List ℕ → List ℕ
+inputOf table slots free = halfBytes (length table) ++ (table ++ (halfBytes slots ++ (halfBytes (length free) ++ free)))
+
+-- The slot printer.
+abbrev pub printerLaws : List Law
+printerLaws =
+    -- "Whole output"
+    prints exampleInput exampleText
+    -- no slots: "end 0"; "A refused table prints `refused N` alone, without the header", here an empty one
+    ∷ prints (inputOf halfAndThirdBytes 0 []) (headerText ++ (101 ∷ 110 ∷ 100 ∷ 32 ∷ 48 ∷ 10 ∷ []))
+    ∷ prints (inputOf [] 0 []) (refusedText 10)
+    -- "per slot its number, k, and the picked tanks in row order": tank 12,345
+    ∷ prints (inputOf (front 2 (0 ∷ []) ++ (1 ∷ rowBytes 12_345 1 2 0 0)) 1 []) (headerText ++ (48 ∷ 32 ∷ 49 ∷ 32 ∷ 49 ∷ 50 ∷ 51 ∷ 52 ∷ 53 ∷ 10 ∷ 101 ∷ 110 ∷ 100 ∷ 32 ∷ 49 ∷ 10 ∷ []))
+    -- "Slots past the k list use all M cores": `0 1 0`, and in slot 1, past the list, `1 2 1`
+    ∷ prints (inputOf halfAndThirdBytes 2 (1 ∷ [])) (headerText ++ (48 ∷ 32 ∷ 49 ∷ 32 ∷ 48 ∷ 10 ∷ 49 ∷ 32 ∷ 50 ∷ 32 ∷ 49 ∷ 10 ∷ 101 ∷ 110 ∷ 100 ∷ 32 ∷ 50 ∷ 10 ∷ []))
+    -- "`late T TANK` after the late slot's line": with no core in slots 0 and 1 row 0, tank 10, is late at 2; with k = 1, 0, 0 row 1, tank 1, is at 3
+    ∷ prints (inputOf example 3 (0 ∷ 0 ∷ [])) (headerText ++ (48 ∷ 32 ∷ 48 ∷ 10 ∷ 49 ∷ 32 ∷ 48 ∷ 10 ∷ 108 ∷ 97 ∷ 116 ∷ 101 ∷ 32 ∷ 50 ∷ 32 ∷ 49 ∷ 48 ∷ 10 ∷ []))
+    ∷ prints (inputOf halfAndThirdBytes 4 (1 ∷ 0 ∷ 0 ∷ [])) (headerText ++ (48 ∷ 32 ∷ 49 ∷ 32 ∷ 48 ∷ 10 ∷ 49 ∷ 32 ∷ 48 ∷ 10 ∷ 50 ∷ 32 ∷ 48 ∷ 10 ∷ 108 ∷ 97 ∷ 116 ∷ 101 ∷ 32 ∷ 51 ∷ 32 ∷ 49 ∷ 10 ∷ []))
+    -- "A refused slot prints `refused N` in place of its line and ends."
+    ∷ prints (inputOf halfAndThirdBytes 2 (3 ∷ [])) (headerText ++ refusedText 33)
+    ∷ prints (inputOf halfAndThirdBytes 2 (1 ∷ 3 ∷ [])) (headerText ++ (48 ∷ 32 ∷ 49 ∷ 32 ∷ 48 ∷ 10 ∷ []) ++ refusedText 33)
+    -- "Missing or extra bytes": nothing, no whole number, k bytes or table bytes missing, one too many
+    ∷ prints [] inputText
+    ∷ prints (take 7 (inputOf [] 2 (1 ∷ 1 ∷ []))) inputText
+    ∷ prints (9 ∷ 0 ∷ 0 ∷ 0 ∷ 0 ∷ 0 ∷ []) inputText
+    ∷ prints (take 5 (inputOf [] 0 [])) inputText
+    ∷ prints (inputOf [] 0 [] ++ (0 ∷ [])) inputText
+    ∷ prints (inputOf [] 2 (1 ∷ 1 ∷ []) ++ (1 ∷ [])) inputText
+    -- "slots to run (2, at most 4,096)", "count of k values (2, at most the slots)"
+    ∷ prints (inputOf [] 4_096 []) (refusedText 10)
+    ∷ prints (inputOf [] 4_097 []) inputText
+    ∷ prints (inputOf [] 2 (1 ∷ 1 ∷ [])) (refusedText 10)
+    ∷ prints (inputOf [] 2 (1 ∷ 1 ∷ 1 ∷ [])) inputText
+    -- "input beyond 65,536 bytes": 6 bytes and a table of 65,530, and one byte more
+    ∷ prints (inputOf (replicate 65_530 0) 0 []) (refusedText 11)
+    ∷ prints (inputOf (replicate 65_531 0) 0 []) inputText
+    ∷ []

@@ -1,0 +1,116 @@
+-- Laws of a slot (01, "What comes back", "Share"): part of specs/Laws.antt.
+use mathlib.Core.List.{List, [], _∷_, _++_}
+use mathlib.Core.Bool.{true, false}
+use lib.ListN.{replicate}
+use Rattle.table.specs.declared.Row.{Row}
+use Rattle.table.specs.declared.Table.{Table}
+use Rattle.trace.specs.Said.{bare, named}
+use Rattle.demands.specs.Bench.{plainRow, earlyRelease, box}
+use Rattle.demands.specs.Law.{Law, slot, leaves}
+use Rattle.demands.specs.LawInputs.{risingRows, stateOf, halfAndThird, noRows}
+
+-- a row of phase 4 and one of early release
+abbrev pub laterAndEarly : Table
+laterAndEarly = box 6 2 (record { tank = 3; cost = 2; period = 3; phase = 4; kind = 0 } ∷ earlyRelease 5 2 6 ∷ [])
+
+-- a row of early release and phase 3, and one of the largest phase
+abbrev pub earlyLater : Row
+earlyLater = record { tank = 0; cost = 2; period = 6; phase = 3; kind = 1 }
+
+abbrev pub farRow : Row
+farRow = record { tank = 0; cost = 1; period = 2; phase = 65_535; kind = 0 }
+
+-- 31 rows of phase 100, and a row 31 of 1/2
+abbrev pub manyRows : Table
+manyRows =
+    record {
+      cycle = 64;
+      cores = 8;
+      boards = 0 ∷ 1 ∷ 2 ∷ 3 ∷ 4 ∷ 5 ∷ 6 ∷ 7 ∷ [];
+      count = 32;
+      rows = risingRows 0 31 ++ (plainRow 31 1 2 ∷ []);
+    }
+
+-- a table of one row, with wild places past it and past its one core
+abbrev pub wildPast : Table
+wildPast =
+    record {
+      cycle = 2;
+      cores = 1;
+      boards = 7 ∷ 7 ∷ 7 ∷ 7 ∷ 7 ∷ 7 ∷ 7 ∷ 7 ∷ [];
+      count = 1;
+      rows = plainRow 9 1 2 ∷ replicate 31 (record { tank = 0; cost = 9; period = 0; phase = 0; kind = 9 });
+    }
+
+-- 0, 1 and 30 to 34 of a slot
+abbrev pub slotLaws : List Law
+slotLaws =
+    -- 0, "done": "the record stands at the given place in the lent buffer, every other byte is as before, time is one higher, each picked row has one quantum
+    -- more"; k need not be c
+    slot (stateOf halfAndThird 0 false []) 2 5 1 (bare 0)
+    ∷ leaves (stateOf halfAndThird 0 false []) 2 6 1 (99 ∷ 2 ∷ 2 ∷ 0 ∷ 1 ∷ 99 ∷ []) 1 false (1 ∷ 1 ∷ [])
+    ∷ leaves (stateOf halfAndThird 1 false (1 ∷ 1 ∷ [])) 2 2 0 (2 ∷ 0 ∷ []) 2 false (1 ∷ 1 ∷ [])
+    ∷ leaves (stateOf halfAndThird 0 false []) 1 3 0 (1 ∷ 1 ∷ 0 ∷ []) 1 false (1 ∷ 0 ∷ [])
+    -- 1, "some row is late at the new time; names the lowest such row and that time"; "with 1 the state is also stopped"
+    ∷ slot (stateOf halfAndThird 2 false (1 ∷ 0 ∷ [])) 0 2 0 (named 1 1 3)
+    ∷ leaves (stateOf halfAndThird 2 false (1 ∷ 0 ∷ [])) 0 2 0 (0 ∷ 0 ∷ []) 3 true (1 ∷ 0 ∷ [])
+    ∷ slot (stateOf halfAndThird 5 false (2 ∷ 1 ∷ [])) 0 2 0 (named 1 0 6)
+    ∷ slot (stateOf manyRows 1 false []) 0 2 0 (named 1 31 2)
+    -- "phase f": before it nothing is asked of a row and nothing given, of early release too
+    ∷ leaves (stateOf (box 6 1 (earlyLater ∷ [])) 0 false []) 1 2 0 (1 ∷ 0 ∷ []) 1 false (0 ∷ [])
+    ∷ leaves (stateOf (box 6 1 (earlyLater ∷ [])) 4 false (1 ∷ [])) 1 3 0 (1 ∷ 1 ∷ 0 ∷ []) 5 false (2 ∷ [])
+    ∷ leaves (stateOf (box 2 1 (farRow ∷ [])) 65_534 false []) 1 2 0 (1 ∷ 0 ∷ []) 65_535 false (0 ∷ [])
+    ∷ leaves (stateOf (box 2 1 (farRow ∷ [])) 65_535 false []) 1 3 0 (1 ∷ 1 ∷ 0 ∷ []) 65_536 false (1 ∷ [])
+    ∷ leaves (stateOf laterAndEarly 0 false []) 2 3 0 (2 ∷ 1 ∷ 1 ∷ []) 1 false (0 ∷ 1 ∷ [])
+    ∷ leaves (stateOf laterAndEarly 3 false (0 ∷ 2 ∷ [])) 2 2 0 (2 ∷ 0 ∷ []) 4 false (0 ∷ 2 ∷ [])
+    ∷ leaves (stateOf laterAndEarly 4 false (0 ∷ 2 ∷ [])) 2 3 0 (2 ∷ 1 ∷ 0 ∷ []) 5 false (1 ∷ 2 ∷ [])
+    ∷ slot (stateOf laterAndEarly 5 false (0 ∷ 2 ∷ [])) 0 2 0 (named 1 0 6)
+    -- "if both have b = 1, larger D": at time 1 row 0 has d 3 and D 4, row 1, of phase 1, has d 3 and D 5
+    ∷ leaves (stateOf (box 4 2 (plainRow 0 3 4 ∷ record { tank = 1; cost = 3; period = 4; phase = 1; kind = 0 } ∷ [])) 1 false (1 ∷ [])) 1 3 0 (1 ∷ 1 ∷ 1 ∷ []) 2 false (1 ∷ 1 ∷ [])
+    -- "Places past row n, and board numbers past M, are ignored and returned as they came."
+    ∷ leaves (stateOf wildPast 0 false (0 ∷ 77 ∷ [])) 1 3 0 (1 ∷ 1 ∷ 0 ∷ []) 1 false (1 ∷ 77 ∷ 0 ∷ [])
+    -- 30: "if its table has a fault",
+    ∷ slot (stateOf (box 6 2 (plainRow 0 0 3 ∷ [])) 0 false []) 1 9 0 (bare 30)
+    ∷ slot (stateOf (box 6 1 (plainRow 0 2 3 ∷ plainRow 1 1 2 ∷ [])) 1 false (1 ∷ [])) 1 9 0 (bare 30)
+    -- "if time is above 1,000,000,000", and 32, "time is already 1,000,000,000"
+    ∷ slot (stateOf noRows 1_000_000_001 false []) 1 9 0 (bare 30)
+    ∷ slot (stateOf noRows 1_000_000_001 true []) 1 9 0 (bare 30)
+    ∷ slot (stateOf noRows 1_000_000_000 false []) 1 9 0 (bare 32)
+    ∷ slot (stateOf noRows 999_999_999 false []) 1 9 0 (bare 0)
+    -- "if a row's quanta exceed time" (also of a stopped state),
+    ∷ slot (stateOf (box 6 1 (earlyRelease 0 3 6 ∷ [])) 1 false (2 ∷ [])) 1 9 0 (bare 30)
+    ∷ slot (stateOf (box 6 1 (earlyRelease 0 3 6 ∷ [])) 1 true (2 ∷ [])) 1 9 0 (bare 30)
+    ∷ slot (stateOf halfAndThird 4 true (2 ∷ 5 ∷ [])) 1 9 0 (bare 30)
+    ∷ slot (stateOf (box 6 1 (earlyRelease 0 3 6 ∷ [])) 2 false (2 ∷ [])) 1 9 0 (bare 0)
+    -- "or if it is not stopped and some row is outside its share at its time": one quantum too few, just enough, as many as can be, one too many
+    ∷ slot (stateOf halfAndThird 4 false (1 ∷ 1 ∷ [])) 1 9 0 (bare 30)
+    ∷ slot (stateOf halfAndThird 4 false (2 ∷ 1 ∷ [])) 1 9 0 (bare 0)
+    ∷ slot (stateOf halfAndThird 4 false (2 ∷ 2 ∷ [])) 1 9 0 (bare 0)
+    ∷ slot (stateOf halfAndThird 4 false (3 ∷ 2 ∷ [])) 1 9 0 (bare 30)
+    ∷ slot (stateOf halfAndThird 4 false (2 ∷ [])) 1 9 0 (bare 30)
+    ∷ slot (stateOf (box 6 1 (earlyRelease 0 3 6 ∷ [])) 4 false (1 ∷ [])) 1 9 0 (bare 30)
+    ∷ slot (stateOf (box 6 1 (earlyRelease 0 3 6 ∷ [])) 6 false (4 ∷ [])) 1 9 0 (bare 30)
+    ∷ slot (stateOf (box 6 1 (earlyRelease 0 3 6 ∷ [])) 7 false (4 ∷ [])) 1 9 0 (bare 0)
+    ∷ slot (stateOf (box 6 1 (earlyRelease 0 3 6 ∷ [])) 4 false (3 ∷ [])) 1 9 0 (bare 0)
+    ∷ slot (stateOf (box 6 1 (earlyRelease 0 3 6 ∷ [])) 4 false (4 ∷ [])) 1 9 0 (bare 30)
+    -- 31, "state stopped by an earlier 1": also outside its share
+    ∷ slot (stateOf halfAndThird 4 true (1 ∷ 1 ∷ [])) 1 9 0 (bare 31)
+    -- 33, "k above M"
+    ∷ slot (stateOf halfAndThird 0 false []) 3 9 0 (bare 33)
+    ∷ slot (stateOf manyRows 0 false []) 8 10 0 (bare 0)
+    ∷ slot (stateOf manyRows 0 false []) 9 99 0 (bare 33)
+    -- 34, "the place is past the buffer's end, or fewer than 2 + c bytes remain after it"
+    ∷ slot (stateOf noRows 0 false []) 1 2 0 (bare 0)
+    ∷ slot (stateOf noRows 0 false []) 1 1 0 (bare 34)
+    ∷ slot (stateOf halfAndThird 0 false []) 2 9 5 (bare 0)
+    ∷ slot (stateOf halfAndThird 0 false []) 2 9 6 (bare 34)
+    ∷ slot (stateOf halfAndThird 0 false []) 2 9 10 (bare 34)
+    -- "With 30 to 34 the state returns equal and the buffer is untouched."
+    ∷ leaves (stateOf halfAndThird 0 false []) 2 3 0 (99 ∷ 99 ∷ 99 ∷ []) 0 false (0 ∷ 0 ∷ [])
+    -- "Order for a slot: 30, 31, 32, 33, 34": 30 and 31, 31 and 32, 32 and 33, 33 and 34; and 34 where the slot would be late
+    ∷ slot (stateOf (box 0 1 []) 0 true []) 1 9 0 (bare 30)
+    ∷ slot (stateOf noRows 1_000_000_000 true []) 1 9 0 (bare 31)
+    ∷ slot (stateOf noRows 1_000_000_000 false []) 2 9 0 (bare 32)
+    ∷ slot (stateOf noRows 0 false []) 2 0 1 (bare 33)
+    ∷ slot (stateOf halfAndThird 2 false (1 ∷ 0 ∷ [])) 0 1 0 (bare 34)
+    ∷ []
