@@ -2,6 +2,7 @@
 use Rattle.demands.specs.All.{All}
 use Rattle.demands.proofs.Determined.{every-promise-determines}
 use Rattle.demands.proofs.Cases.{cases}
+use Rattle.demands.proofs.Meanings.{meanings}
 use Rattle.demands.proofs.One.{demand-one}
 use Rattle.demands.proofs.Two.{demand-two}
 use Rattle.demands.proofs.Three.{demand-three}
@@ -16,6 +17,7 @@ all =
     record {
       determined = every-promise-determines;
       cases = cases;
+      meanings = meanings;
       one = demand-one;
       two = demand-two;
       three = demand-three;

@@ -1,6 +1,8 @@
 pub mod Determined
 pub mod Limits
 pub mod Cases
+pub mod Meanings
+pub mod Refusals
 pub mod One
 pub mod WithCount
 pub mod Two

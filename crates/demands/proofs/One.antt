@@ -11,11 +11,9 @@ use Rattle.windows.proofs.LeastTime.{walk-gives-least-time}
 use Rattle.windows.proofs.Group.{light-has-none}
 use borrow.Author.Tests.{lt-ltb, le-leb}
 use Rattle.windows.specs.Fits.{reach}
+use Rattle.windows.specs.Next.{InReach}
+use Rattle.windows.proofs.Next.{next-in-reach, due-in-reach}
 use Rattle.table.specs.Bytes.{tableNumber, tableIn}
-use Rattle.pd2.specs.Choice.{rowAt, quantaAt}
-use Rattle.pd2.proofs.Share.{row-can-be}
-use Rattle.dispatcher.specs.State.{rowsIn, quantaIn, timeOf}
-use Rattle.dispatcher.proofs.Whole.{is-whole, is-not-broken}
 use Rattle.table.proofs.Taken.{number-read, table-read, numbers-are-first-causes, numbers-are-10-to-22, taken-where-no-cause, no-table-read, past-is-zero}
 use Rattle.table.proofs.Faultless.{taken-exactly, faultless-exactly}
 use Rattle.trace.specs.Said.{bare}
@@ -26,8 +24,8 @@ use Rattle.checker.specs.Check.{traceSaid, checkOf}
 use Rattle.checker.proofs.Passes.{numbers-are-first-found, judges-table-first, trace-numbers, bare-unless-named}
 use Rattle.printer.proofs.Buffer.{is-too-short}
 use Rattle.checker.proofs.Sound.{rising-exactly}
-use Rattle.demands.specs.One.{Questions, Tables, BrokenExactly, Slots, Checks, HandsBack, DemandOne}
-use Rattle.demands.proofs.Limits.{in-limits}
+use Rattle.demands.specs.One.{Questions, Tables, Slots, Checks, HandsBack, DemandOne}
+use Rattle.demands.proofs.Refusals.{broken-exactly, slot-exactly}
 use Rattle.demands.proofs.Determined.{every-promise-determines}
 
 -- Numbers that 01 knows are far within reach.
@@ -35,7 +33,9 @@ questions : Questions
 questions =
     record {
       row = λ row q t cost weight few soon. rw (lt-ltb 0 (row .cost) cost, le-leb (row .cost) (row .period) weight, le-leb q reach (omega arith), le-leb t reach (omega arith)) refl;
-      next = λ e p f q cost weight near few. rw (lt-ltb 0 e cost, le-leb e p weight, le-leb f reach (omega arith), le-leb q reach (omega arith)) refl;
+      next-is = λ e p f q cost weight near few.
+          let reached : InReach e p f q = record { cost = cost; weight = weight; origin = omega arith; quanta = omega arith } in
+          record { time = λ of. next-in-reach of reached; due = due-in-reach reached };
     }
 
 tables : Tables
@@ -52,32 +52,12 @@ tables =
       no-table = no-table-read;
     }
 
--- A state that is not broken is whole, and its shares are the demand's limits.
-broken-exactly : BrokenExactly
-broken-exactly s = (
-  λ h.
-      let w = is-whole s h in
-      record {
-        table = w .table;
-        time = w .time;
-        quanta = w .quanta;
-        shares = λ runs i l. in-limits (rowAt (rowsIn s) i) (row-can-be (s .table) (w .table) i l) (quantaAt (quantaIn s) i) (timeOf s) .0 (w .shares runs i l);
-      },
-  λ n.
-      is-not-broken s
-      record {
-        table = n .table;
-        time = n .time;
-        quanta = n .quanta;
-        shares = λ runs i l. in-limits (rowAt (rowsIn s) i) (row-can-be (s .table) (n .table) i l) (quantaAt (quantaIn s) i) (timeOf s) .1 (n .shares runs i l);
-      },
-)
-
 slots : Slots
 slots =
     record {
       fresh = λ t. refl;
       broken-exactly = broken-exactly;
+      exactly = slot-exactly;
       numbers = slot-numbers;
       refused = refusals-are-first-causes;
       faulty = fault-answers-30;

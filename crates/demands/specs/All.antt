@@ -2,6 +2,7 @@
 -- asks for each of these fields by name and type.
 use Rattle.demands.specs.Determined.{EveryPromiseDetermines}
 use Rattle.demands.specs.Cases.{Cases}
+use Rattle.demands.specs.Meanings.{Meanings}
 use Rattle.demands.specs.One.{DemandOne}
 use Rattle.demands.specs.Two.{DemandTwo}
 use Rattle.demands.specs.Three.{DemandThree}
@@ -16,6 +17,8 @@ pub record All : Type 0 where
   pub determined : EveryPromiseDetermines
   -- 01's number and values for each case of an answer
   pub cases : Cases
+  -- what the definitions mean that the demands speak of, in 01's numbers and bytes
+  pub meanings : Meanings
   -- the three demands
   pub one : DemandOne
   pub two : DemandTwo

@@ -2,6 +2,7 @@ pub mod Promises
 pub mod Determined
 pub mod Limits
 pub mod Cases
+pub mod Meanings
 pub mod One
 pub mod Two
 pub mod RunPasses

@@ -1,6 +1,6 @@
 -- Demand 1: "Every table, trace, state or number that comes in is answered, with a result or with one of the refusals in document 01, given exactly
 -- when that paper says. A refusal hands back the state as it came and writes no byte. Nobody has to check anything before calling."
-use Prim.Native.Nat.{ℕ, _≤_, _<_}
+use Prim.Native.Nat.{ℕ, _+_, _≤_, _<_}
 use mathlib.Core.Path.{_≡_}
 use mathlib.Core.List.{List, []}
 use mathlib.Core.Logic.{_↔_, _⊎_}
@@ -8,9 +8,11 @@ use lib.ListN.{length, replicate}
 use mathlib.Core.Bool.{Bool, true, false}
 use Rattle.facts.specs.Findings.{FirstFound}
 use Rattle.windows.specs.Question.{WindowsAreAnswered}
-use Rattle.windows.specs.Windows.{NextStartIsDLessB}
+use Rattle.windows.specs.Windows.{deadline, bit, NextStartIsDLessB}
 use Rattle.windows.specs.LeastTime.{WalkGivesLeastTime, LightHasNone}
-use Rattle.windows.specs.Next.{nextAnswered}
+use Rattle.windows.specs.declared.Due.the-variants as due
+use Rattle.windows.specs.declared.Moment.the-variants as moment
+use Rattle.windows.specs.Next.{nextDue, next}
 use Rattle.table.specs.declared.Row.{Row}
 use Rattle.table.specs.declared.Table.{Table}
 use Rattle.table.specs.Value.{faultOf}
@@ -18,7 +20,7 @@ use Rattle.table.specs.Bytes.{tableNumber, tableIn, reading}
 use Rattle.table.specs.Taken.{NumbersAreFirstCauses, NumbersAre10To22, TakenWhereNoCause, PastIsZero}
 use Rattle.table.specs.Faultless.{FaultlessExactly, TakenExactly}
 use Rattle.pd2.specs.Verdict.{answered}
-use Rattle.pd2.specs.Choice.{rowAt, quantaAt}
+use Rattle.pd2.specs.Choice.{rowAt, quantaAt, pd2Picks}
 use Rattle.trace.specs.Record.{recordOf, marked, hasRoom, partAfter}
 use Rattle.trace.specs.Said.{Said, bare}
 use Rattle.trace.specs.Records.{freeAt, placeIn, rowsOfSlot}
@@ -26,6 +28,7 @@ use Rattle.trace.specs.Found.{isFound, partFound, partBegins, FoundIfAllInside}
 use Rattle.dispatcher.specs.declared.State.{State}
 use Rattle.dispatcher.specs.State.{rowsIn, quantaIn, timeOf, freshOf}
 use Rattle.dispatcher.specs.Broken.{broken}
+use Rattle.dispatcher.specs.Slot.{slotOf}
 use Rattle.dispatcher.specs.Kept.{RefusalsAreFirstCauses, RefusalChangesNothing, FaultAnswers30}
 use Rattle.dispatcher.specs.Places.{SlotNumbers, BareUnlessLate, PastIsReturned, PastIsIgnored}
 use Rattle.checker.specs.Causes.{RisingExactly}
@@ -45,10 +48,15 @@ pub record Windows : Type 0 where
   pub group : WalkGivesLeastTime
   pub light : LightHasNone
 
--- of a question about one row: it is answered for every row with 0 < e ≤ p, as far as 01's times, quanta and phases go;
+-- of a question about one row: it is answered for every row with 0 < e ≤ p, as far as 01's times, quanta and phases go, and a time of the next subtask, or
+-- its deadline and bit, is that of subtask q + 1;
+pub record NextIs (e p f q : ℕ) : Type 0 where
+  pub time : (of : ℕ → ℕ → ℕ → ℕ → ℕ) → next of e p f q ≡ moment.At (record { 0 = of e p f (q + 1) })
+  pub due : nextDue e p f q ≡ due.By (record { 0 = deadline e p f (q + 1) }) (bit e p (q + 1))
+
 pub record Questions : Type 0 where
   pub row : (row : Row) (q t : ℕ) → 0 < row .cost → row .cost ≤ row .period → q ≤ 1_000_000_001 → t ≤ 1_000_000_001 → answered row q t ≡ true
-  pub next : (e p f q : ℕ) → 0 < e → e ≤ p → f ≤ 65_535 → q ≤ 1_000_000_001 → nextAnswered e p f q ≡ true
+  pub next-is : (e p f q : ℕ) → 0 < e → e ≤ p → f ≤ 65_535 → q ≤ 1_000_000_001 → NextIs e p f q
 
 -- of a table: 10 to 22, each exactly if its cause is the first met, and 0 exactly if none is. With 0 the table that the bytes hold is handed back;
 -- "a table that is taken has 0 in every place past n and past M". "A table refusal yields no table";
@@ -76,6 +84,16 @@ pub record NotBroken (s : State) : Type 0 where
 abbrev pub BrokenExactly : Type 0
 BrokenExactly = (s : State) → (broken s ≡ false) ↔ NotBroken s
 
+-- "Given exactly when", of a slot's refusals, in the order 30, 31, 32, 33, 34: each with what was not met before it.
+pub record SlotExactly (s : State) (k : ℕ) (buffer : List ℕ) (place number : ℕ) : Type 0 where
+  pub is-30 : (number ≡ 30) ↔ (NotBroken s → ⊥)
+  pub is-31 : (number ≡ 31) ↔ (NotBroken s × (s .stopped ≡ true))
+  pub is-32 : (number ≡ 32) ↔ (NotBroken s × (s .stopped ≡ false) × (timeOf s ≡ 1_000_000_000))
+  pub is-33 : (number ≡ 33) ↔ (NotBroken s × (s .stopped ≡ false) × (timeOf s < 1_000_000_000) × (s .table .cores < k))
+  pub is-34 : (number ≡ 34)
+      ↔ (NotBroken s × (s .stopped ≡ false) × (timeOf s < 1_000_000_000) × (k ≤ s .table .cores)
+      × (length buffer < place + 2 + length (pd2Picks (rowsIn s) (quantaIn s) (timeOf s) k)))
+
 -- "A fresh state can be made from any table value: time 0, not stopped, all quanta 0"
 abbrev pub FreshIs : Type 0
 FreshIs = (t : Table) → freshOf t ≡ record { table = t; time = record { 0 = 0 }; stopped = false; quanta = replicate 32 (record { 0 = 0 }) }
@@ -85,6 +103,7 @@ FreshIs = (t : Table) → freshOf t ≡ record { table = t; time = record { 0 = 
 pub record Slots : Type 0 where
   pub fresh : FreshIs
   pub broken-exactly : BrokenExactly
+  pub exactly : (s : State) (k : ℕ) (buffer : List ℕ) (place : ℕ) → SlotExactly s k buffer place (slotOf s k buffer place .said .number)
   pub numbers : SlotNumbers
   pub refused : RefusalsAreFirstCauses
   pub faulty : FaultAnswers30

@@ -115,8 +115,8 @@ module _ (s : State) (k : ℕ) (buffer : List ℕ) (place : ℕ) where
       let room = le-ltb (length buffer - place) (2 + length (picksIn s k)) (omega (arith, g .room)) in
       rw (g .whole, g .runs, ne-eqb (timeOf s) timeLimit (λ e. omega (arith, g .time)), le-ltb (s .table .cores) k (g .cores), le-ltb (length buffer) place (omega (arith, g .room)), room)
 
-  -- a number above 1 is the refusal's
-  refused-number : (number : ℕ) → 1 < number → (slotOf s k buffer place .said .number ≡ number) ↔ (refusal s k buffer place ≡ number)
+  -- A number above 1 is the refusal's.
+  pub refused-number : (number : ℕ) → 1 < number → (slotOf s k buffer place .said .number ≡ number) ↔ (refusal s k buffer place ≡ number)
   unfolding slotOf
   refused-number number h = go (refusal s k buffer place)
     where

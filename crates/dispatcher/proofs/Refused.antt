@@ -69,7 +69,7 @@ module _ (s : State) (k : ℕ) (buffer : List ℕ) (place : ℕ) where
         first-33 h = rw (whole, runs, ne-eqb (timeOf s) timeLimit (λ e. omega arith), lt-ltb (s .table .cores) k h) refl
 
         module _ (enough : k ≤ s .table .cores) where
-          by-room : {lacks : Bool} → lacksRoom buffer place (length (picksIn s k)) ≡ lacks → refusal s k buffer place ≡ cond lacks 34 0
+          pub by-room : {lacks : Bool} → lacksRoom buffer place (length (picksIn s k)) ≡ lacks → refusal s k buffer place ≡ cond lacks 34 0
           unfolding refusal firstMet
           by-room {lacks} h =
               rw (whole, runs, ne-eqb (timeOf s) timeLimit (λ e. omega arith), le-ltb (s .table .cores) k enough, h) (go lacks)

@@ -1,10 +1,10 @@
 -- Records in two byte lists that agree from a place up to an end. Assumes nothing.
-use Prim.Native.Nat.{ℕ, zero, suc, _+_, _≤_, _<_}
+use Prim.Native.Nat.{ℕ, zero, suc, _+_, _-_, _≤_, _<_}
 use mathlib.Core.Path.{_≡_, refl, sym, ap, _∙_}
-use mathlib.Core.List.{List}
+use mathlib.Core.List.{List, _++_}
 use native.Mathlib.Omega.{arith}
 use lib.ListN.{length, take, drop, length-append, length-drop, List·getD-append}
-use lib.Seq.{drop-cons, length-take-le, getD-take, getD-append-add}
+use lib.Seq.{drop-cons, length-take-le, getD-take, getD-drop, getD-append-add}
 use Rattle.facts.proofs.Counting.{same-count}
 use Rattle.fields.specs.Fields.{byte}
 use Rattle.trace.specs.Record.{recordOf, withFront, withRecord}
@@ -80,6 +80,17 @@ module _ (b : List ℕ) (place k : ℕ) (rows : List ℕ) (room : place + length
         reaches = omega (arith, still-as-long);
         reaches-too = omega arith;
       }
+
+  -- and from behind the record on,
+  pub agrees-behind : (i : ℕ) → place + length (recordOf k rows) ≤ i → byte (withRecord b place (recordOf k rows)) i ≡ byte b i
+  unfolding withRecord withFront
+  agrees-behind i l =
+      let entry = recordOf k rows in
+      let rest = i - place - length entry in
+      ap (byte (withRecord b place entry)) {x = i} {y = length front + (length entry + rest)} (omega (arith, before))
+      ∙ (getD-append-add front (entry ++ drop (length entry) (drop place b)) (length entry + rest) 0
+      ∙ (getD-append-add entry (drop (length entry) (drop place b)) rest 0
+      ∙ (getD-drop (length entry) (drop place b) rest 0 ∙ (getD-drop place b (length entry + rest) 0 ∙ ap (byte b) {x = place + (length entry + rest)} {y = i} (omega arith)))))
 
   -- and the record is found there: the cores free, the count of its rows, and the rows.
   pub free-written : freeAt (withRecord b place (recordOf k rows)) place ≡ k

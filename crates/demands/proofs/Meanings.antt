@@ -1,0 +1,173 @@
+-- The definitions mean what 01 says, in numbers and bytes. Assumes nothing.
+use Prim.Native.Nat.{ℕ, _+_, _-_, _*_, _/_, _≤_, _<_}
+use mathlib.Core.Path.{_≡_, refl, sym, ap, _∙_}
+use mathlib.Core.List.{List, map}
+use mathlib.Core.Bool.{Bool, true, false, _&&_}
+use mathlib.Core.Logic.{_↔_}
+use native.Mathlib.Decide.{decLt}
+use native.Mathlib.Omega.{arith}
+use borrow.Author.Tests.{ltb-false, le-ltb, lt-ltb, leb-true, le-leb, lt-leb}
+use lib.Dec.{ltb, leb}
+use lib.ListN.{length, getD, take, length-map, List·getD-map, List·getD-eq-default}
+use lib.Seq.{getD-take}
+use Rattle.facts.specs.Rounding.{ceilDiv}
+use Rattle.facts.specs.Places.{places, padded}
+use Rattle.facts.proofs.Filling.{getD-any}
+use Rattle.facts.proofs.Places.{how-many-places, place-at, first-are-read}
+use Rattle.windows.specs.Windows.{start, deadline, bit, windowLength, jobStart}
+use Rattle.table.specs.declared.Row.{Row}
+use Rattle.table.specs.declared.Table.{Table}
+use Rattle.table.specs.Limits.{coreLimit, rowLimit}
+use Rattle.table.specs.Causes.{zeroRow, load}
+use Rattle.table.specs.Bytes.{rowInBytes}
+use Rattle.fields.specs.Fields.{byte}
+use Rattle.pd2.specs.Ready.{ready, late}
+use Rattle.trace.specs.Record.{recordOf, marked, withFront}
+use Rattle.trace.specs.Records.{names, placeOf, slotsIn, placeIn}
+use Rattle.trace.proofs.Records.{listed-are-named}
+use Rattle.trace.proofs.Found.{next-begins}
+use Rattle.checker.specs.WellFormed.{WellFormed}
+use Rattle.printer.specs.Text.{textOf}
+use Rattle.printer.specs.Buffer.{printedOf, outAfter}
+use Rattle.demands.specs.Meanings.{WindowMeans, TableMeans, ValueMeans, RowMeans, OrderMeans, Shaped, TraceMeans, WriteMeans, PrintMeans, Meanings}
+
+window-means : (e p f i : ℕ) → WindowMeans e p f i
+unfolding start deadline ceilDiv bit windowLength jobStart
+window-means e p f i = record { start-is = refl; deadline-is = refl; bit-is = refl; length-is = refl; job-start-is = refl }
+
+-- What was read at place i of an array.
+read-at : {A : Type 0} (read : ℕ → A) (nothing : A) (size from step n i : ℕ) (d : A) → i < n → getD (padded read nothing size from step n) i d ≡ read (from + step * i)
+read-at read nothing size from step n i d l =
+    let there : i < length (places from step n) = omega (arith, how-many-places from step n) in
+    sym (getD-take n (padded read nothing size from step n) i d l)
+    ∙ (ap (λ array. getD array i d) (first-are-read read nothing size from step n)
+    ∙ (getD-any (map read (places from step n)) i d (read 0) (omega (arith, there, length-map (places from step n) read))
+    ∙ (List·getD-map read (places from step n) i 0 ∙ ap read (place-at from step n i 0 l))))
+
+table-means : (s : List ℕ) → TableMeans s
+table-means s =
+    record {
+      cycle = omega arith;
+      cores = refl;
+      boards = λ j l. read-at (byte s) 0 coreLimit 6 1 (byte s 5) j 0 l ∙ ap (byte s) {x = 6 + 1 * j} {y = 6 + j} (omega arith);
+      count = refl;
+      rows = λ i l.
+          read-at (rowInBytes s) zeroRow rowLimit (6 + byte s 5 + 1) 9 (byte s (6 + byte s 5)) i zeroRow l
+          ∙ ap (rowInBytes s) {x = 6 + byte s 5 + 1 + 9 * i} {y = 7 + byte s 5 + 9 * i} (omega arith)
+          ∙ fields (7 + byte s 5 + 9 * i);
+    }
+  where
+    -- the second byte of a number stands behind the first
+    fields : (at : ℕ) →
+        rowInBytes s at
+        ≡ record {
+          tank = byte s at + 256 * byte s (at + 1);
+          cost = byte s (at + 2) + 256 * byte s (at + 3);
+          period = byte s (at + 4) + 256 * byte s (at + 5);
+          phase = byte s (at + 6) + 256 * byte s (at + 7);
+          kind = byte s (at + 8);
+        }
+    fields at =
+        let on : (n : ℕ) → byte s (at + n + 1) ≡ byte s (at + (n + 1)) = λ n. ap (byte s) {x = at + n + 1} {y = at + (n + 1)} (omega arith) in
+        rw (on 2, on 4, on 6) refl
+
+value-means : (t : Table) → ValueMeans t
+unfolding load
+value-means t = record { rows = refl; boards = refl; no-load = λ cycle. refl; load-is = λ cycle row rows. refl }
+
+-- A test that one number is at or below another, and that it is.
+at-most : (a b : ℕ) → (leb a b ≡ true) ↔ (a ≤ b)
+at-most a b = (leb-true a b, le-leb a b)
+
+row-means : (row : Row) (q t : ℕ) → RowMeans row q t
+unfolding ready late start deadline ceilDiv jobStart
+row-means row q t =
+    let e = row .cost in
+    let p = row .period in
+    let f = row .phase in
+    let plain : f + (q + 1 - 1) * p / e ≡ f + q * p / e = ap (λ x. f + x * p / e) {x = q + 1 - 1} {y = q} (omega arith) in
+    let early : f + (q + 1 - 1) / e * p ≡ f + q / e * p = ap (λ x. f + x / e * p) {x = q + 1 - 1} {y = q} (omega arith) in
+    record {
+      ready-plain = λ kind. rw (kind, plain) (at-most (f + q * p / e) t);
+      ready-early = λ kind. rw (kind, early) (at-most (f + q / e * p) t);
+      late-is = at-most (f + ((q + 1) * p + (e - 1)) / e) t;
+    }
+
+order-means : (rows : List Row) (quanta : List ℕ) (j i : ℕ) → OrderMeans rows quanta j i
+order-means rows quanta j i = record { ready-is = λ t. refl; rank-is = λ row q. refl; goes-before = refl }
+
+-- A test that one number is below another fails where it is not.
+not-below : (a b : ℕ) → (ltb a b ≡ false) ↔ (b ≤ a)
+not-below a b = (ltb-false a b, le-ltb a b)
+
+shaped : (s : List ℕ) (table : Table) → WellFormed table s ↔ Shaped table s
+shaped s table = (
+  λ well.
+      record {
+        count = not-below (length s) 4 .0 (well .count);
+        limit = not-below 1_000_000_000 (slotsIn s) .0 (well .limit);
+        heads = λ t l. not-below (length s) (placeIn s t + 2) .0 (well .records t l .head);
+        free = λ t l. not-below (table .cores) (getD s (placeIn s t) 0) .0 (well .records t l .cores);
+        picked = λ t l. not-below (getD s (placeIn s t) 0) (getD s (placeIn s t + 1) 0) .0 (well .records t l .count);
+        whole = λ t l. not-below (length s) (placeIn s t + 2 + getD s (placeIn s t + 1) 0) .0 (well .records t l .rows);
+        rows = λ t l. well .records t l .numbers;
+        end = not-below (placeIn s (slotsIn s)) (length s) .0 (well .end);
+      },
+  λ shape.
+      record {
+        count = not-below (length s) 4 .1 (shape .count);
+        limit = not-below 1_000_000_000 (slotsIn s) .1 (shape .limit);
+        records = λ t l.
+            record {
+              head = not-below (length s) (placeIn s t + 2) .1 (shape .heads t l);
+              cores = not-below (table .cores) (getD s (placeIn s t) 0) .1 (shape .free t l);
+              count = not-below (getD s (placeIn s t) 0) (getD s (placeIn s t + 1) 0) .1 (shape .picked t l);
+              rows = not-below (length s) (placeIn s t + 2 + getD s (placeIn s t + 1) 0) .1 (shape .whole t l);
+              numbers = shape .rows t l;
+            };
+        end = not-below (placeIn s (slotsIn s)) (length s) .1 (shape .end);
+      },
+)
+
+trace-means : (s : List ℕ) → TraceMeans s
+unfolding placeOf
+trace-means s = record { slots = omega arith; first = refl; next = next-begins s; rows = λ t. refl; well-formed = shaped s }
+
+-- The marked rows are named, and no others.
+marked-are-named : (marks : List Bool) (i : ℕ) → names (marked marks) i ≡ getD marks i false
+marked-are-named marks i = listed-are-named (λ j. getD marks j false) (length marks) i ∙ go (decLt i (length marks))
+  where
+    go : Dec (i < length marks) → ltb i (length marks) && getD marks i false ≡ getD marks i false
+    go (yes l) = rw (lt-ltb i (length marks) l) refl
+    go (no l) = rw (le-ltb i (length marks) (omega arith)) (sym (List·getD-eq-default marks false {n = i} (omega arith)))
+
+write-means : (part : List ℕ) (free : ℕ) (marks : List Bool) → WriteMeans part free marks
+unfolding withFront
+write-means part free marks =
+    record {
+      names-marked = marked-are-named marks;
+      record-is = refl;
+      written = λ fits. rw (le-leb (length (recordOf free (marked marks))) (length part) fits) (refl, refl);
+      no-room = λ short. rw (lt-leb (length (recordOf free (marked marks))) (length part) short) (refl, refl);
+    }
+
+print-means : (input out : List ℕ) → PrintMeans input out
+unfolding printedOf outAfter
+print-means input out =
+    record {
+      printed = λ fits. rw (le-leb (length (textOf input)) (length out) fits) (refl, refl);
+      too-short = λ short. rw (lt-leb (length (textOf input)) (length out) short) (refl, refl);
+    }
+
+pub meanings : Meanings
+meanings =
+    record {
+      window = window-means;
+      table = table-means;
+      value = value-means;
+      row = row-means;
+      order = order-means;
+      trace = trace-means;
+      write = write-means;
+      print = print-means;
+    }

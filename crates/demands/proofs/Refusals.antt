@@ -1,0 +1,156 @@
+-- Each refusal of a slot is given exactly when 01 says. Assumes nothing.
+use Prim.Native.Nat.{ℕ, _+_, _-_, _≤_, _<_}
+use mathlib.Core.Path.{_≡_, refl, sym, _∙_}
+use mathlib.Core.List.{List}
+use mathlib.Core.Bool.{Bool, true, false, true≢false}
+use mathlib.Core.Logic.{_↔_}
+use native.Mathlib.Decide.{decLt}
+use native.Mathlib.Omega.{arith}
+use borrow.Author.Tests.{lt-ltb, le-ltb}
+use lib.ListN.{length}
+use Rattle.pd2.specs.Choice.{rowAt, quantaAt}
+use Rattle.pd2.proofs.Share.{row-can-be}
+use Rattle.dispatcher.specs.declared.State.{State}
+use Rattle.dispatcher.specs.State.{rowsIn, quantaIn, timeOf}
+use Rattle.dispatcher.specs.Broken.{broken}
+use Rattle.dispatcher.specs.Slot.{picksIn, lacksRoom, refusal, slotOf}
+use Rattle.dispatcher.proofs.Whole.{is-whole, is-not-broken}
+use Rattle.dispatcher.proofs.Refused.{first-30, first-31, first-32, first-33, by-room}
+use Rattle.dispatcher.proofs.Kept.{refused-number, not-refused-is-done}
+use Rattle.demands.specs.One.{NotBroken, BrokenExactly, SlotExactly}
+use Rattle.demands.proofs.Limits.{in-limits}
+
+-- Whether a record of c rows has room: the two tests of 01 are one.
+lacks-room : (buffer : List ℕ) (place c : ℕ) → length buffer < place + 2 + c → lacksRoom buffer place c ≡ true
+lacks-room buffer place c short = go (decLt (length buffer) place)
+  where
+    go : Dec (length buffer < place) → lacksRoom buffer place c ≡ true
+    go (yes past) = rw (lt-ltb (length buffer) place past) refl
+    go (no inside) = rw (le-ltb (length buffer) place (omega arith), lt-ltb (length buffer - place) (2 + c) (omega arith)) refl
+
+has-room-for : (buffer : List ℕ) (place c : ℕ) → place + 2 + c ≤ length buffer → lacksRoom buffer place c ≡ false
+has-room-for buffer place c long = rw (le-ltb (length buffer) place (omega arith), le-ltb (length buffer - place) (2 + c) (omega arith)) refl
+
+-- A state that is not broken is whole, and its shares are the demand's limits.
+pub broken-exactly : BrokenExactly
+broken-exactly s = (
+  λ h.
+      let w = is-whole s h in
+      record {
+        table = w .table;
+        time = w .time;
+        quanta = w .quanta;
+        shares = λ runs i l. in-limits (rowAt (rowsIn s) i) (row-can-be (s .table) (w .table) i l) (quantaAt (quantaIn s) i) (timeOf s) .0 (w .shares runs i l);
+      },
+  λ n.
+      is-not-broken s
+      record {
+        table = n .table;
+        time = n .time;
+        quanta = n .quanta;
+        shares = λ runs i l. in-limits (rowAt (rowsIn s) i) (row-can-be (s .table) (n .table) i l) (quantaAt (quantaIn s) i) (timeOf s) .1 (n .shares runs i l);
+      },
+)
+
+-- A number that is another one, and a cause that is not there.
+neither-is : {P : Type 0} {number other : ℕ} → (number ≡ other → ⊥) → (P → ⊥) → (number ≡ other) ↔ P
+neither-is differs none = (λ e. absurd (differs e), λ p. absurd (none p))
+
+-- A number that is so, and a cause that is there.
+both-are : {P : Type 0} {number other : ℕ} → number ≡ other → P → (number ≡ other) ↔ P
+both-are same there = (λ _. there, λ _. same)
+
+-- The causes are gone through in 01's order: each decides the number, or is not there.
+module _ (s : State) (k : ℕ) (buffer : List ℕ) (place : ℕ) where
+  abbrev number : ℕ
+  number = slotOf s k buffer place .said .number
+
+  abbrev room : ℕ
+  room = place + 2 + length (picksIn s k)
+
+  -- the number is the refusal's
+  says : {n : ℕ} → 1 < n → refusal s k buffer place ≡ n → number ≡ n
+  says {n} above e = refused-number s k buffer place n above .1 e
+
+  module _ (whole : broken s ≡ false) (runs : s .stopped ≡ false) (early : timeOf s < 1_000_000_000) (enough : k ≤ s .table .cores) where
+    fits : NotBroken s
+    fits = broken-exactly s .0 whole
+
+    by-place : Dec (length buffer < room) → SlotExactly s k buffer place number
+    by-place (yes short) =
+        let lacks = lacks-room buffer place (length (picksIn s k)) short in
+        let said = says (omega arith) (by-room s k buffer place whole runs early enough {lacks = true} lacks) in
+        record {
+          is-30 = neither-is (λ e. omega (arith, said, e)) (λ n. n fits);
+          is-31 = neither-is (λ e. omega (arith, said, e)) (λ h. true≢false (sym (h .1) ∙ runs));
+          is-32 = neither-is (λ e. omega (arith, said, e)) (λ h. omega (arith, h .2, early));
+          is-33 = neither-is (λ e. omega (arith, said, e)) (λ h. omega (arith, h .3, enough));
+          is-34 = both-are said (fits, runs, early, enough, short);
+        }
+    by-place (no long) =
+        let lacks = has-room-for buffer place (length (picksIn s k)) (omega arith) in
+        let done = not-refused-is-done s k buffer place (by-room s k buffer place whole runs early enough {lacks = false} lacks) in
+        record {
+          is-30 = neither-is (λ e. omega (arith, done, e)) (λ n. n fits);
+          is-31 = neither-is (λ e. omega (arith, done, e)) (λ h. true≢false (sym (h .1) ∙ runs));
+          is-32 = neither-is (λ e. omega (arith, done, e)) (λ h. omega (arith, h .2, early));
+          is-33 = neither-is (λ e. omega (arith, done, e)) (λ h. omega (arith, h .3, enough));
+          is-34 = neither-is (λ e. omega (arith, done, e)) (λ h. long (h .4));
+        }
+
+  module _ (whole : broken s ≡ false) (runs : s .stopped ≡ false) where
+    by-cores : timeOf s < 1_000_000_000 → Dec (s .table .cores < k) → SlotExactly s k buffer place number
+    by-cores early (yes many) =
+        let fit = broken-exactly s .0 whole in
+        let said = says (omega arith) (first-33 s k buffer place whole runs early many) in
+        record {
+          is-30 = neither-is (λ e. omega (arith, said, e)) (λ n. n fit);
+          is-31 = neither-is (λ e. omega (arith, said, e)) (λ h. true≢false (sym (h .1) ∙ runs));
+          is-32 = neither-is (λ e. omega (arith, said, e)) (λ h. omega (arith, h .2, early));
+          is-33 = both-are said (fit, runs, early, many);
+          is-34 = neither-is (λ e. omega (arith, said, e)) (λ h. omega (arith, h .3, many));
+        }
+    by-cores early (no few) = by-place whole runs early (omega arith) (decLt (length buffer) room)
+
+    by-time : Dec (timeOf s < 1_000_000_000) → SlotExactly s k buffer place number
+    by-time (yes early) = by-cores early (decLt (s .table .cores) k)
+    by-time (no at) =
+        let fit = broken-exactly s .0 whole in
+        let limit : timeOf s ≡ 1_000_000_000 = omega (arith, fit .time) in
+        let said = says (omega arith) (first-32 s k buffer place whole runs limit) in
+        record {
+          is-30 = neither-is (λ e. omega (arith, said, e)) (λ n. n fit);
+          is-31 = neither-is (λ e. omega (arith, said, e)) (λ h. true≢false (sym (h .1) ∙ runs));
+          is-32 = both-are said (fit, runs, limit);
+          is-33 = neither-is (λ e. omega (arith, said, e)) (λ h. at (h .2));
+          is-34 = neither-is (λ e. omega (arith, said, e)) (λ h. at (h .2));
+        }
+
+  by-mark : broken s ≡ false → (stopped : Bool) → s .stopped ≡ stopped → SlotExactly s k buffer place number
+  by-mark whole false runs = by-time whole runs (decLt (timeOf s) 1_000_000_000)
+  by-mark whole true stopped =
+      let fit = broken-exactly s .0 whole in
+      let said = says (omega arith) (first-31 s k buffer place whole stopped) in
+      record {
+        is-30 = neither-is (λ e. omega (arith, said, e)) (λ n. n fit);
+        is-31 = both-are said (fit, stopped);
+        is-32 = neither-is (λ e. omega (arith, said, e)) (λ h. true≢false (sym stopped ∙ h .1));
+        is-33 = neither-is (λ e. omega (arith, said, e)) (λ h. true≢false (sym stopped ∙ h .1));
+        is-34 = neither-is (λ e. omega (arith, said, e)) (λ h. true≢false (sym stopped ∙ h .1));
+      }
+
+  pub slot-exactly : SlotExactly s k buffer place number
+  slot-exactly = go (broken s) refl
+    where
+      go : (b : Bool) → broken s ≡ b → SlotExactly s k buffer place number
+      go false whole = by-mark whole (s .stopped) refl
+      go true is-broken =
+          let said = says (omega arith) (first-30 s k buffer place is-broken) in
+          let unfit : NotBroken s → ⊥ = λ n. true≢false (sym is-broken ∙ broken-exactly s .1 n) in
+          record {
+            is-30 = both-are said unfit;
+            is-31 = neither-is (λ e. omega (arith, said, e)) (λ h. unfit (h .0));
+            is-32 = neither-is (λ e. omega (arith, said, e)) (λ h. unfit (h .0));
+            is-33 = neither-is (λ e. omega (arith, said, e)) (λ h. unfit (h .0));
+            is-34 = neither-is (λ e. omega (arith, said, e)) (λ h. unfit (h .0));
+          }

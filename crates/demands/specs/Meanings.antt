@@ -1,0 +1,123 @@
+-- What the definitions that the demands speak of mean, once more in 01's own numbers and bytes: a demand that names a definition is worth what the definition
+-- is worth.
+use Prim.Native.Nat.{ℕ, _+_, _-_, _*_, _/_, _%_, _≤_, _<_}
+use mathlib.Core.Path.{_≡_}
+use mathlib.Core.List.{List, [], _∷_, _++_}
+use mathlib.Core.Bool.{Bool, true, false, cond}
+use mathlib.Core.Logic.{_↔_}
+use lib.Dec.{eqb}
+use lib.ListN.{length, getD, take, drop}
+use Rattle.windows.specs.Windows.{start, deadline, bit, windowLength, jobStart}
+use Rattle.windows.specs.Group.{groupDeadline}
+use Rattle.table.specs.declared.Row.{Row}
+use Rattle.table.specs.declared.Table.{Table}
+use Rattle.table.specs.Causes.{zeroRow, load}
+use Rattle.table.specs.Value.{rowsOf, boardsOf}
+use Rattle.table.specs.Bytes.{tableIn}
+use Rattle.pd2.specs.Ready.{ready, late}
+use Rattle.pd2.specs.Order.{rankOf, before}
+use Rattle.pd2.specs.Choice.{rowAt, quantaAt, readyIn, firstBy}
+use Rattle.trace.specs.Record.{recordOf, marked, writeNumber, partAfter}
+use Rattle.trace.specs.Records.{names, slotsIn, placeIn, rowsOfSlot}
+use Rattle.checker.specs.Causes.{badRows}
+use Rattle.checker.specs.WellFormed.{WellFormed}
+use Rattle.printer.specs.declared.Printed.the-variants.{Text, TooShort}
+use Rattle.printer.specs.Text.{textOf}
+use Rattle.printer.specs.Buffer.{printedOf, outAfter}
+
+-- "start r = f + floor((i-1)·p/e); deadline d = f + ceil(i·p/e)", "bit b = 0 if e divides i·p, else 1", "f + floor((i-1)/e)·p"
+pub record WindowMeans (e p f i : ℕ) : Type 0 where
+  pub start-is : start e p f i ≡ f + (i - 1) * p / e
+  pub deadline-is : deadline e p f i ≡ f + (i * p + (e - 1)) / e
+  pub bit-is : bit e p i ≡ cond (eqb (i * p % e) 0) 0 1
+  pub length-is : windowLength e p f i ≡ deadline e p f i - start e p f i
+  pub job-start-is : jobStart e p f i ≡ f + (i - 1) / e * p
+
+-- The table in bytes: format at 0, L in the four bytes from 1 on, M at 5, the board numbers behind it, n, and the rows of nine bytes each.
+pub record TableMeans (s : List ℕ) : Type 0 where
+  pub cycle : tableIn s .cycle ≡ getD s 1 0 + 256 * getD s 2 0 + 65_536 * getD s 3 0 + 16_777_216 * getD s 4 0
+  pub cores : tableIn s .cores ≡ getD s 5 0
+  pub boards : (j : ℕ) → j < getD s 5 0 → getD (tableIn s .boards) j 0 ≡ getD s (6 + j) 0
+  pub count : tableIn s .count ≡ getD s (6 + getD s 5 0) 0
+  pub rows : (i : ℕ) → i < getD s (6 + getD s 5 0) 0 →
+      let at = 7 + getD s 5 0 + 9 * i in
+      getD (tableIn s .rows) i zeroRow
+      ≡ record {
+        tank = getD s at 0 + 256 * getD s (at + 1) 0;
+        cost = getD s (at + 2) 0 + 256 * getD s (at + 3) 0;
+        period = getD s (at + 4) 0 + 256 * getD s (at + 5) 0;
+        phase = getD s (at + 6) 0 + 256 * getD s (at + 7) 0;
+        kind = getD s (at + 8) 0;
+      }
+
+-- Its rows are those below n, its boards those below M; "The sum of e·(L/p)" goes over the rows.
+pub record ValueMeans (t : Table) : Type 0 where
+  pub rows : rowsOf t ≡ take (t .count) (t .rows)
+  pub boards : boardsOf t ≡ take (t .cores) (t .boards)
+  pub no-load : (cycle : ℕ) → load cycle [] ≡ 0
+  pub load-is : (cycle : ℕ) (row : Row) (rows : List Row) → load cycle (row ∷ rows) ≡ row .cost * (cycle / row .period) + load cycle rows
+
+-- "A plain row is ready in slot t if t is at or past r of its next subtask. An early-release row is ready if t is at or past the start of the job that holds it";
+-- "late at time t if its next subtask has d at or before t". With q quanta the next subtask is q + 1.
+pub record RowMeans (row : Row) (q t : ℕ) : Type 0 where
+  pub ready-plain : eqb (row .kind) 1 ≡ false → (ready row q t ≡ true) ↔ (row .phase + q * row .period / row .cost ≤ t)
+  pub ready-early : eqb (row .kind) 1 ≡ true → (ready row q t ≡ true) ↔ (row .phase + q / row .cost * row .period ≤ t)
+  pub late-is : (late row q t ≡ true) ↔ (row .phase + ((q + 1) * row .period + (row .cost - 1)) / row .cost ≤ t)
+
+-- The order looks at d, b and D of the next subtask, and at the row's number.
+pub record OrderMeans (rows : List Row) (quanta : List ℕ) (j i : ℕ) : Type 0 where
+  pub ready-is : (t : ℕ) → readyIn rows quanta t i ≡ ready (rowAt rows i) (quantaAt quanta i) t
+  pub rank-is : (row : Row) (q : ℕ) →
+      rankOf row i q
+      ≡ record {
+        d = deadline (row .cost) (row .period) (row .phase) (q + 1);
+        b = bit (row .cost) (row .period) (q + 1);
+        D = groupDeadline (row .cost) (row .period) (row .phase) (q + 1);
+        row = i;
+      }
+  pub goes-before : firstBy before rows quanta j i ≡ before (rankOf (rowAt rows j) j (quantaAt quanta j)) (rankOf (rowAt rows i) i (quantaAt quanta i))
+
+-- "A trace is well formed .. when its bytes give no cause for 40 to 43, 46 or 47 anywhere": the count, the records one behind the other, and nothing after them.
+pub record Shaped (table : Table) (s : List ℕ) : Type 0 where
+  pub count : 4 ≤ length s
+  pub limit : slotsIn s ≤ 1_000_000_000
+  pub heads : (t : ℕ) → t < slotsIn s → placeIn s t + 2 ≤ length s
+  pub free : (t : ℕ) → t < slotsIn s → getD s (placeIn s t) 0 ≤ table .cores
+  pub picked : (t : ℕ) → t < slotsIn s → getD s (placeIn s t + 1) 0 ≤ getD s (placeIn s t) 0
+  pub whole : (t : ℕ) → t < slotsIn s → placeIn s t + 2 + getD s (placeIn s t + 1) 0 ≤ length s
+  pub rows : (t : ℕ) → t < slotsIn s → badRows (length (rowsOf table)) 0 (rowsOfSlot s t) ≡ false
+  pub end : length s ≤ placeIn s (slotsIn s)
+
+pub record TraceMeans (s : List ℕ) : Type 0 where
+  pub slots : slotsIn s ≡ getD s 0 0 + 256 * getD s 1 0 + 65_536 * getD s 2 0 + 16_777_216 * getD s 3 0
+  pub first : placeIn s 0 ≡ 4
+  pub next : (t : ℕ) → placeIn s (t + 1) ≡ placeIn s t + 2 + getD s (placeIn s t + 1) 0
+  pub rows : (t : ℕ) → rowsOfSlot s t ≡ take (getD s (placeIn s t + 1) 0) (drop (placeIn s t + 2) s)
+  pub well-formed : (table : Table) → WellFormed table s ↔ Shaped table s
+
+-- The record writer: "cores free k (1), rows picked c (1), and c row numbers", of the marked rows, or 34.
+pub record WriteMeans (part : List ℕ) (free : ℕ) (marks : List Bool) : Type 0 where
+  pub names-marked : (i : ℕ) → names (marked marks) i ≡ getD marks i false
+  pub record-is : recordOf free (marked marks) ≡ free ∷ length (marked marks) ∷ marked marks
+  pub written : length (recordOf free (marked marks)) ≤ length part →
+      let entry = recordOf free (marked marks) in
+      (writeNumber part entry ≡ 0) × (partAfter part entry ≡ entry ++ drop (length entry) part)
+  pub no-room : length part < length (recordOf free (marked marks)) →
+      let entry = recordOf free (marked marks) in
+      (writeNumber part entry ≡ 34) × (partAfter part entry ≡ part)
+
+-- The printer: the text at the front of the buffer, or nothing where it is too short.
+pub record PrintMeans (input out : List ℕ) : Type 0 where
+  pub printed : length (textOf input) ≤ length out →
+      (printedOf input out ≡ Text (length (textOf input))) × (outAfter input out ≡ textOf input ++ drop (length (textOf input)) out)
+  pub too-short : length out < length (textOf input) → (printedOf input out ≡ TooShort) × (outAfter input out ≡ out)
+
+pub record Meanings : Type 0 where
+  pub window : (e p f i : ℕ) → WindowMeans e p f i
+  pub table : (s : List ℕ) → TableMeans s
+  pub value : (t : Table) → ValueMeans t
+  pub row : (row : Row) (q t : ℕ) → RowMeans row q t
+  pub order : (rows : List Row) (quanta : List ℕ) (j i : ℕ) → OrderMeans rows quanta j i
+  pub trace : (s : List ℕ) → TraceMeans s
+  pub write : (part : List ℕ) (free : ℕ) (marks : List Bool) → WriteMeans part free marks
+  pub print : (input out : List ℕ) → PrintMeans input out
