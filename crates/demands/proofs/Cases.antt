@@ -1,6 +1,6 @@
 -- What each case of an answer says is so by definition. Assumes nothing.
 use mathlib.Core.Path.{refl}
-use Rattle.demands.specs.Cases.{WindowCases, StoredCases, SlotCases, TableCases, CheckCases, Cases}
+use Rattle.demands.specs.Cases.{WindowCases, StoredCases, SlotCases, TableCases, CheckCases, OwnCases, Cases}
 
 window-cases : WindowCases
 window-cases = record { window = λ r d D b. refl; refused = refl }
@@ -43,6 +43,7 @@ check-cases =
     record {
       passed = refl;
       table = table-cases;
+      refused = λ f. refl;
       cut = refl;
       too-many-cores = refl;
       too-many-rows = refl;
@@ -53,5 +54,18 @@ check-cases =
       too-long = refl;
     }
 
+own-cases : OwnCases
+own-cases =
+    record {
+      yes = refl;
+      no = refl;
+      unanswered = λ holds. refl;
+      yes-is = refl;
+      no-is = refl;
+      unanswered-is = refl;
+      text = λ length. refl;
+      too-short = refl;
+    }
+
 pub cases : Cases
-cases = record { windows = window-cases; stored = stored-cases; slots = slot-cases; checks = check-cases }
+cases = record { windows = window-cases; stored = stored-cases; slots = slot-cases; checks = check-cases; own = own-cases }

@@ -1,5 +1,7 @@
 -- Our own table, computed from the definitions. Assumes nothing.
-use mathlib.Core.Path.{refl}
+use mathlib.Core.Path.{_≡_, refl}
+use mathlib.Core.List.{List, [], _∷_, _++_}
+use mathlib.Core.Bool.{true}
 use Rattle.facts.specs.Rounding.{ceilDiv}
 use Rattle.facts.specs.First.{atFirst}
 use Rattle.facts.specs.Counting.{howMany, those}
@@ -29,10 +31,58 @@ use Rattle.printer.specs.Lines.{digitsBy, decimal, spaced}
 use Rattle.printer.specs.Text.{slotsText, textOf}
 use Rattle.demands.specs.RunPasses.{wordBytes}
 use Rattle.demands.specs.Bench.{same}
-use Rattle.demands.specs.Law.{allLawsHold}
+use Rattle.facts.proofs.Tests.{both, hold-both}
+use Rattle.demands.specs.Law.{Law, lawHolds, allLawsHold}
 use Rattle.demands.specs.LawInputs.{alikeRows, risingRows}
-use Rattle.demands.specs.Laws.{LawsHold}
+use Rattle.demands.specs.TableLaws.{tableLaws}
+use Rattle.demands.specs.ReadingLaws.{readingOrder, valueLaws}
+use Rattle.demands.specs.SlotLaws.{slotLaws}
+use Rattle.demands.specs.TraceLaws.{partLaws, traceLaws}
+use Rattle.demands.specs.PrinterLaws.{idleSlots, printerLaws}
+use Rattle.demands.specs.Laws.{windowLaws, LawsHold}
+
+-- Laws that hold in two lists hold in both together.
+both-hold : (a b : List Law) → allLawsHold a ≡ true → allLawsHold b ≡ true → allLawsHold (a ++ b) ≡ true
+unfolding allLawsHold
+both-hold [] b p q = q
+both-hold (law ∷ a) b p q = let x = both (lawHolds law) (allLawsHold a) p in hold-both (x .0) (both-hold a b (x .1) q)
+
+-- Each part is computed.
+window-laws : allLawsHold windowLaws ≡ true
+unfolding ceilDiv atFirst howMany those firstMet rising firstFound places padded start deadline bit windowLength jobStart heavy stops stopTime groupDeadline windowReply load faultOf tableNumber reading ready late lower upper before picked given withFront withRecord placeOf names isFound broken refusal slotOf badRows recordsFindings traceSaid checkOf freeIn unfit digitsBy decimal spaced slotsText textOf wordBytes same allLawsHold alikeRows risingRows idleSlots
+window-laws = refl
+
+table-laws : allLawsHold tableLaws ≡ true
+unfolding ceilDiv atFirst howMany those firstMet rising firstFound places padded start deadline bit windowLength jobStart heavy stops stopTime groupDeadline windowReply load faultOf tableNumber reading ready late lower upper before picked given withFront withRecord placeOf names isFound broken refusal slotOf badRows recordsFindings traceSaid checkOf freeIn unfit digitsBy decimal spaced slotsText textOf wordBytes same allLawsHold alikeRows risingRows idleSlots
+table-laws = refl
+
+reading-laws : allLawsHold readingOrder ≡ true
+unfolding ceilDiv atFirst howMany those firstMet rising firstFound places padded start deadline bit windowLength jobStart heavy stops stopTime groupDeadline windowReply load faultOf tableNumber reading ready late lower upper before picked given withFront withRecord placeOf names isFound broken refusal slotOf badRows recordsFindings traceSaid checkOf freeIn unfit digitsBy decimal spaced slotsText textOf wordBytes same allLawsHold alikeRows risingRows idleSlots
+reading-laws = refl
+
+value-laws : allLawsHold valueLaws ≡ true
+unfolding ceilDiv atFirst howMany those firstMet rising firstFound places padded start deadline bit windowLength jobStart heavy stops stopTime groupDeadline windowReply load faultOf tableNumber reading ready late lower upper before picked given withFront withRecord placeOf names isFound broken refusal slotOf badRows recordsFindings traceSaid checkOf freeIn unfit digitsBy decimal spaced slotsText textOf wordBytes same allLawsHold alikeRows risingRows idleSlots
+value-laws = refl
+
+slot-laws : allLawsHold slotLaws ≡ true
+unfolding ceilDiv atFirst howMany those firstMet rising firstFound places padded start deadline bit windowLength jobStart heavy stops stopTime groupDeadline windowReply load faultOf tableNumber reading ready late lower upper before picked given withFront withRecord placeOf names isFound broken refusal slotOf badRows recordsFindings traceSaid checkOf freeIn unfit digitsBy decimal spaced slotsText textOf wordBytes same allLawsHold alikeRows risingRows idleSlots
+slot-laws = refl
+
+part-laws : allLawsHold partLaws ≡ true
+unfolding ceilDiv atFirst howMany those firstMet rising firstFound places padded start deadline bit windowLength jobStart heavy stops stopTime groupDeadline windowReply load faultOf tableNumber reading ready late lower upper before picked given withFront withRecord placeOf names isFound broken refusal slotOf badRows recordsFindings traceSaid checkOf freeIn unfit digitsBy decimal spaced slotsText textOf wordBytes same allLawsHold alikeRows risingRows idleSlots
+part-laws = refl
+
+trace-laws : allLawsHold traceLaws ≡ true
+unfolding ceilDiv atFirst howMany those firstMet rising firstFound places padded start deadline bit windowLength jobStart heavy stops stopTime groupDeadline windowReply load faultOf tableNumber reading ready late lower upper before picked given withFront withRecord placeOf names isFound broken refusal slotOf badRows recordsFindings traceSaid checkOf freeIn unfit digitsBy decimal spaced slotsText textOf wordBytes same allLawsHold alikeRows risingRows idleSlots
+trace-laws = refl
+
+printer-laws : allLawsHold printerLaws ≡ true
+unfolding ceilDiv atFirst howMany those firstMet rising firstFound places padded start deadline bit windowLength jobStart heavy stops stopTime groupDeadline windowReply load faultOf tableNumber reading ready late lower upper before picked given withFront withRecord placeOf names isFound broken refusal slotOf badRows recordsFindings traceSaid checkOf freeIn unfit digitsBy decimal spaced slotsText textOf wordBytes same allLawsHold alikeRows risingRows idleSlots
+printer-laws = refl
 
 pub laws-hold : LawsHold
-unfolding ceilDiv atFirst howMany those firstMet rising firstFound places padded start deadline bit windowLength jobStart heavy stops stopTime groupDeadline windowReply load faultOf tableNumber reading ready late lower upper before picked given withFront withRecord placeOf names isFound broken refusal slotOf badRows recordsFindings traceSaid checkOf freeIn unfit digitsBy decimal spaced slotsText textOf wordBytes same allLawsHold alikeRows risingRows
-laws-hold = refl
+laws-hold =
+    both-hold windowLaws _ window-laws
+    (both-hold tableLaws _ table-laws
+    (both-hold readingOrder _ reading-laws
+    (both-hold valueLaws _ value-laws (both-hold slotLaws _ slot-laws (both-hold partLaws _ part-laws (both-hold traceLaws _ trace-laws printer-laws))))))

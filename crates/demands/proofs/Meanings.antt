@@ -12,6 +12,8 @@ use lib.ListN.{length, getD, take, length-map, List·getD-map, List·getD-eq-def
 use lib.Seq.{getD-take}
 use Rattle.facts.specs.Rounding.{ceilDiv}
 use Rattle.facts.specs.Places.{places, padded}
+use Rattle.facts.specs.First.{Lowest}
+use Rattle.facts.proofs.Counting.{lowest-is-first}
 use Rattle.facts.proofs.Filling.{getD-any}
 use Rattle.facts.proofs.Places.{how-many-places, place-at, first-are-read}
 use Rattle.windows.specs.Windows.{start, deadline, bit, windowLength, jobStart}
@@ -19,6 +21,7 @@ use Rattle.table.specs.declared.Row.{Row}
 use Rattle.table.specs.declared.Table.{Table}
 use Rattle.table.specs.Limits.{coreLimit, rowLimit}
 use Rattle.table.specs.Causes.{zeroRow, load}
+use Rattle.table.specs.Value.{rowsOf}
 use Rattle.table.specs.Bytes.{rowInBytes}
 use Rattle.fields.specs.Fields.{byte}
 use Rattle.pd2.specs.Ready.{ready, late}
@@ -26,10 +29,12 @@ use Rattle.trace.specs.Record.{recordOf, marked, withFront}
 use Rattle.trace.specs.Records.{names, placeOf, slotsIn, placeIn}
 use Rattle.trace.proofs.Records.{listed-are-named}
 use Rattle.trace.proofs.Found.{next-begins}
+use Rattle.dispatcher.specs.declared.State.{State}
 use Rattle.checker.specs.WellFormed.{WellFormed}
+use Rattle.slots_run.specs.Slots.{slotsFrom}
 use Rattle.printer.specs.Text.{textOf}
 use Rattle.printer.specs.Buffer.{printedOf, outAfter}
-use Rattle.demands.specs.Meanings.{WindowMeans, TableMeans, ValueMeans, RowMeans, OrderMeans, Shaped, TraceMeans, WriteMeans, PrintMeans, Meanings}
+use Rattle.demands.specs.Meanings.{WindowMeans, TableMeans, ValueMeans, RowMeans, OrderMeans, Shaped, TraceMeans, NamedMeans, WriteMeans, PrintMeans, SlotsMean, Meanings}
 
 window-means : (e p f i : ℕ) → WindowMeans e p f i
 unfolding start deadline ceilDiv bit windowLength jobStart
@@ -159,6 +164,20 @@ print-means input out =
       too-short = λ short. rw (lt-leb (length (textOf input)) (length out) short) (refl, refl);
     }
 
+named-means : (table : Table) (s : List ℕ) (t i : ℕ) → NamedMeans table s t i
+named-means table s t i =
+    record {
+      early-is = refl;
+      late-is = refl;
+      lowest-is = λ is l passes none.
+          let low : Lowest is (length (rowsOf table)) i = record { within = omega arith; passes = λ _. passes; none-before = none } in
+          ap (λ rows. getD rows 0 0) (lowest-is-first is (length (rowsOf table)) i low l .1);
+    }
+
+slots-mean : (s : State) (k : ℕ) (bytes : List ℕ) → SlotsMean s k bytes
+unfolding slotsFrom
+slots-mean s k bytes = record { none = refl; one-more = λ m. refl }
+
 pub meanings : Meanings
 meanings =
     record {
@@ -168,6 +187,8 @@ meanings =
       row = row-means;
       order = order-means;
       trace = trace-means;
+      named = named-means;
       write = write-means;
       print = print-means;
+      slots = slots-mean;
     }

@@ -1,11 +1,15 @@
 -- Demand 2. Assumes nothing.
-use mathlib.Core.Path.{_≡_, sym, ap, _∙_}
+use Prim.Native.Nat.{zero-le}
+use mathlib.Core.Path.{_≡_, refl, sym, ap, _∙_}
 use mathlib.Core.Logic.{_↔_}
 use native.Mathlib.Decide.{ℕ-discrete}
-use lib.ListN.{length}
+use native.Mathlib.Omega.{arith}
+use borrow.Author.Tests.{lt-ltb}
+use lib.ListN.{length, getD}
 use Rattle.table.specs.Bytes.{tableNumber, tableIn}
 use Rattle.table.proofs.Taken.{taken-value-has-no-fault}
 use Rattle.pd2.specs.Order.{before}
+use Rattle.pd2.specs.Picks.{picked}
 use Rattle.pd2.specs.Choice.{quantaAt, readyIn, firstBy}
 use Rattle.pd2.proofs.Order.{before-means-rule}
 use Rattle.pd2.proofs.Picks.{picks-are-best}
@@ -13,7 +17,8 @@ use Rattle.pd2.proofs.Choice.{pd2-is-strict}
 use Rattle.choice.proofs.Chosen.{chosen-as-pd2}
 use Rattle.trace.specs.Records.{freeAt, rowsAt, names}
 use Rattle.trace.specs.Said.{bare}
-use Rattle.trace.proofs.Agree.{free-written, rows-written}
+use Rattle.trace.proofs.Records.{listed-are-named}
+use Rattle.trace.proofs.Agree.{still-as-long, agrees-before, agrees-behind, free-written, rows-written}
 use Rattle.dispatcher.specs.State.{rowsIn, quantaIn, timeOf}
 use Rattle.dispatcher.specs.Slot.{picksIn}
 use Rattle.dispatcher.proofs.Whole.{is-whole}
@@ -33,6 +38,13 @@ picks-are-pd2s s k buffer place done =
     let rows = ap (λ b. rowsAt b place) (step .1) ∙ rows-written buffer place k (picksIn s k) (so .room) in
     record {
       bytes = step .1;
+      size = ap length (step .1) ∙ still-as-long buffer place k (picksIn s k) (so .room);
+      before-it = λ j l. ap (λ b. getD b j 0) (step .1) ∙ agrees-before buffer place k (picksIn s k) (so .room) 0 .same j zero-le l;
+      behind-it = λ j l. ap (λ b. getD b j 0) (step .1) ∙ agrees-behind buffer place k (picksIn s k) (so .room) j (omega arith);
+      picked-rows = λ i l.
+          ap (λ named. names named i) rows
+          ∙ (listed-are-named (picked (readyIn (rowsIn s) (quantaIn s) (timeOf s)) (firstBy before (rowsIn s) (quantaIn s)) (length (rowsIn s)) k) (length (rowsIn s)) i
+          ∙ rw (lt-ltb i (length (rowsIn s)) l) refl);
       free = ap (λ b. freeAt b place) (step .1) ∙ free-written buffer place k (picksIn s k) (so .room);
       rows = rows;
       best = picks-are-best (readyIn (rowsIn s) (quantaIn s) (timeOf s)) (firstBy before (rowsIn s) (quantaIn s)) (length (rowsIn s)) k (pd2-is-strict (rowsIn s) (quantaIn s) (timeOf s) (length (rowsIn s)));

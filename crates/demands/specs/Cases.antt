@@ -2,17 +2,23 @@
 -- what each case says, written out. (The row that is read is an enum inside `table`: table/specs/RowRead.antt.)
 use Prim.Native.Nat.{ℕ}
 use mathlib.Core.Path.{_≡_}
+use mathlib.Core.Bool.{Bool, true, false}
 use Rattle.counts.specs.declared.Slot.{Slot}
 use Rattle.windows.specs.declared.Answer.the-variants.{Window, Refused}
 use Rattle.windows.specs.Question.{replyOf}
+use Rattle.pd2.specs.declared.Verdict.the-variants.{Yes, No, Unanswered}
+use Rattle.pd2.specs.Verdict.{isYes, verdict}
 use Rattle.trace.specs.declared.Stored.the-variants as stored
 use Rattle.trace.specs.Record.{storedNumber}
 use Rattle.trace.specs.Said.{bare, named}
 use Rattle.dispatcher.specs.declared.Answer.the-variants as slot
 use Rattle.dispatcher.specs.Answer.{saidOf}
+use Rattle.checker.specs.declared.TableFault.{TableFault}
 use Rattle.checker.specs.declared.TableFault.the-variants as fault
 use Rattle.checker.specs.declared.Answer.the-variants as check
 use Rattle.checker.specs.Answer as checked
+use Rattle.printer.specs.declared.Printed.the-variants.{Text, TooShort}
+use Rattle.printer.specs.Buffer.{lengthOf}
 
 -- a window
 pub record WindowCases : Type 0 where
@@ -54,6 +60,7 @@ pub record TableCases : Type 0 where
 pub record CheckCases : Type 0 where
   pub passed : checked.saidOf check.Passed ≡ bare 0
   pub table : TableCases
+  pub refused : (f : TableFault) → checked.saidOf (check.Table f) ≡ bare (checked.faultNumber f)
   pub cut : checked.saidOf check.Cut ≡ bare 40
   pub too-many-cores : checked.saidOf check.TooManyCores ≡ bare 41
   pub too-many-rows : checked.saidOf check.TooManyRows ≡ bare 42
@@ -63,8 +70,20 @@ pub record CheckCases : Type 0 where
   pub extra : checked.saidOf check.Extra ≡ bare 46
   pub too-long : checked.saidOf check.TooLong ≡ bare 47
 
+-- and those of our own that are no answers of 01: what is said of one row, and how long a text is
+pub record OwnCases : Type 0 where
+  pub yes : verdict true true ≡ Yes
+  pub no : verdict true false ≡ No
+  pub unanswered : (holds : Bool) → verdict false holds ≡ Unanswered
+  pub yes-is : isYes Yes ≡ true
+  pub no-is : isYes No ≡ false
+  pub unanswered-is : isYes Unanswered ≡ false
+  pub text : (length : ℕ) → lengthOf (Text length) ≡ length
+  pub too-short : lengthOf TooShort ≡ 0
+
 pub record Cases : Type 0 where
   pub windows : WindowCases
   pub stored : StoredCases
   pub slots : SlotCases
   pub checks : CheckCases
+  pub own : OwnCases

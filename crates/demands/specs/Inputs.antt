@@ -8,7 +8,6 @@ use lib.Dec.{ltb}
 use lib.ListN.{length}
 use Rattle.table.specs.declared.Row.{Row}
 use Rattle.table.specs.declared.Table.{Table}
-use Rattle.table.specs.Limits.{rowLimit, coreLimit}
 use Rattle.dispatcher.specs.declared.State.{State}
 use Rattle.dispatcher.specs.State.{quantaIn, timeOf}
 
@@ -34,9 +33,9 @@ tableFits t = ltb (t .cycle) (2 ^ 32) && allBelow 256 (t .cores ∷ t .count ∷
 
 -- A slot can be asked so: the state holds 8 board numbers, 32 rows and 32 quanta; time, quanta and place are numbers of 64 bits, and k is a byte.
 pub record Possible (s : State) (k : ℕ) (buffer : List ℕ) (place : ℕ) : Type 0 where
-  pub boards : length (s .table .boards) ≡ coreLimit
-  pub rows : length (s .table .rows) ≡ rowLimit
-  pub quanta : length (s .quanta) ≡ rowLimit
+  pub boards : length (s .table .boards) ≡ 8
+  pub rows : length (s .table .rows) ≡ 32
+  pub quanta : length (s .quanta) ≡ 32
   pub table : tableFits (s .table) ≡ true
   pub counts : allBelow (2 ^ 64) (place ∷ timeOf s ∷ quantaIn s) ≡ true
   pub free : ltb k 256 ≡ true

@@ -25,6 +25,10 @@ windowLaws =
     -- "group deadline D: 0 for a light row": also one of two quanta, whose bit is 1
     ∷ window 2 5 0 1 0 0 3 1 0
     ∷ window 3 6 0 1 0 0 2 0 0
+    -- "one less than the deadline of a subtask of this row whose window is 3 slots long": also far out
+    ∷ window 8 11 0 1_000_000_001 0 1_375_000_000 1_375_000_002 1 1_375_000_004
+    ∷ window 9 13 0 2 0 1 3 1 4
+    ∷ window 3 5 0 1 0 0 2 1 3
     ∷ []
 
 abbrev pub laws : List Law

@@ -1,9 +1,9 @@
 -- What the definitions that the demands speak of mean, once more in 01's own numbers and bytes: a demand that names a definition is worth what the definition
 -- is worth.
-use Prim.Native.Nat.{ℕ, _+_, _-_, _*_, _/_, _%_, _≤_, _<_}
+use Prim.Native.Nat.{ℕ, suc, _+_, _-_, _*_, _/_, _%_, _≤_, _<_}
 use mathlib.Core.Path.{_≡_}
 use mathlib.Core.List.{List, [], _∷_, _++_}
-use mathlib.Core.Bool.{Bool, true, false, cond}
+use mathlib.Core.Bool.{Bool, true, false, cond, not, _&&_}
 use mathlib.Core.Logic.{_↔_}
 use lib.Dec.{eqb}
 use lib.ListN.{length, getD, take, drop}
@@ -18,12 +18,15 @@ use Rattle.pd2.specs.Ready.{ready, late}
 use Rattle.pd2.specs.Order.{rankOf, before}
 use Rattle.pd2.specs.Choice.{rowAt, quantaAt, readyIn, firstBy}
 use Rattle.trace.specs.Record.{recordOf, marked, writeNumber, partAfter}
-use Rattle.trace.specs.Records.{names, slotsIn, placeIn, rowsOfSlot}
-use Rattle.checker.specs.Causes.{badRows}
+use Rattle.trace.specs.Records.{names, slotsIn, placeIn, rowsOfSlot, timesNamed}
+use Rattle.dispatcher.specs.declared.State.{State}
+use Rattle.dispatcher.specs.Slot.{slotOf}
+use Rattle.checker.specs.Causes.{badRows, tooEarly, tooLate, lowest}
 use Rattle.checker.specs.WellFormed.{WellFormed}
 use Rattle.printer.specs.declared.Printed.the-variants.{Text, TooShort}
 use Rattle.printer.specs.Text.{textOf}
 use Rattle.printer.specs.Buffer.{printedOf, outAfter}
+use Rattle.slots_run.specs.Slots.{slotsFrom}
 
 -- "start r = f + floor((i-1)·p/e); deadline d = f + ceil(i·p/e)", "bit b = 0 if e divides i·p, else 1", "f + floor((i-1)/e)·p"
 pub record WindowMeans (e p f i : ℕ) : Type 0 where
@@ -95,6 +98,12 @@ pub record TraceMeans (s : List ℕ) : Type 0 where
   pub rows : (t : ℕ) → rowsOfSlot s t ≡ take (getD s (placeIn s t + 1) 0) (drop (placeIn s t + 2) s)
   pub well-formed : (table : Table) → WellFormed table s ↔ Shaped table s
 
+-- 44 and 45: a row that was named and not ready, a row that is late, "for the lowest row", with the quanta that the records before have given it.
+pub record NamedMeans (table : Table) (s : List ℕ) (t i : ℕ) : Type 0 where
+  pub early-is : tooEarly table s t i ≡ names (rowsOfSlot s t) i && not (ready (rowAt (rowsOf table) i) (timesNamed s i t) t)
+  pub late-is : tooLate table s t i ≡ late (rowAt (rowsOf table) i) (timesNamed s i t) t
+  pub lowest-is : (is : ℕ → Bool) → i < length (rowsOf table) → is i ≡ true → ((j : ℕ) → j < i → is j ≡ false) → lowest table is ≡ i
+
 -- The record writer: "cores free k (1), rows picked c (1), and c row numbers", of the marked rows, or 34.
 pub record WriteMeans (part : List ℕ) (free : ℕ) (marks : List Bool) : Type 0 where
   pub names-marked : (i : ℕ) → names (marked marks) i ≡ getD marks i false
@@ -112,6 +121,14 @@ pub record PrintMeans (input out : List ℕ) : Type 0 where
       (printedOf input out ≡ Text (length (textOf input))) × (outAfter input out ≡ textOf input ++ drop (length (textOf input)) out)
   pub too-short : length out < length (textOf input) → (printedOf input out ≡ TooShort) × (outAfter input out ≡ out)
 
+-- Slots one after the other, for the speed bench.
+pub record SlotsMean (s : State) (k : ℕ) (bytes : List ℕ) : Type 0 where
+  pub none : slotsFrom s k bytes 0 ≡ record { state = s; bytes = bytes }
+  pub one-more : (m : ℕ) →
+      let left = slotsFrom s k bytes m in
+      let after = slotOf (left .state) k (left .bytes) 0 in
+      slotsFrom s k bytes (suc m) ≡ record { state = after .state; bytes = after .bytes }
+
 pub record Meanings : Type 0 where
   pub window : (e p f i : ℕ) → WindowMeans e p f i
   pub table : (s : List ℕ) → TableMeans s
@@ -119,5 +136,7 @@ pub record Meanings : Type 0 where
   pub row : (row : Row) (q t : ℕ) → RowMeans row q t
   pub order : (rows : List Row) (quanta : List ℕ) (j i : ℕ) → OrderMeans rows quanta j i
   pub trace : (s : List ℕ) → TraceMeans s
+  pub named : (table : Table) (s : List ℕ) (t i : ℕ) → NamedMeans table s t i
   pub write : (part : List ℕ) (free : ℕ) (marks : List Bool) → WriteMeans part free marks
   pub print : (input out : List ℕ) → PrintMeans input out
+  pub slots : (s : State) (k : ℕ) (bytes : List ℕ) → SlotsMean s k bytes

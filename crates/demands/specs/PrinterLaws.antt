@@ -1,5 +1,5 @@
 -- Laws of the slot printer (01, "Slot printer"): part of specs/Laws.antt.
-use Prim.Native.Nat.{ℕ, _+_, _/_, _%_}
+use Prim.Native.Nat.{ℕ, zero, suc, _+_, _/_, _%_}
 use mathlib.Core.List.{List, [], _∷_, _++_}
 use lib.ListN.{length, take, replicate}
 use Rattle.table.specs.Example.{example}
@@ -23,6 +23,11 @@ headerText = 115 ∷ 108 ∷ 111 ∷ 116 ∷ 32 ∷ 102 ∷ 114 ∷ 101 ∷ 101 
 abbrev pub inputOf : List ℕ → ℕ → List ℕ → List ℕ
 inputOf table slots free = halfBytes (length table) ++ (table ++ (halfBytes slots ++ (halfBytes (length free) ++ free)))
 
+-- the lines of so many slots with one core and no rows, from the slot with this digit on
+unfoldable pub idleSlots : ℕ → ℕ → List ℕ
+idleSlots digit zero = []
+idleSlots digit (suc n) = digit ∷ 32 ∷ 49 ∷ 10 ∷ idleSlots (digit + 1) n
+
 -- The slot printer.
 abbrev pub printerLaws : List Law
 printerLaws =
@@ -33,6 +38,10 @@ printerLaws =
     ∷ prints (inputOf [] 0 []) (refusedText 10)
     -- "per slot its number, k, and the picked tanks in row order": tank 12,345
     ∷ prints (inputOf (front 2 (0 ∷ []) ++ (1 ∷ rowBytes 12_345 1 2 0 0)) 1 []) (headerText ++ (48 ∷ 32 ∷ 49 ∷ 32 ∷ 49 ∷ 50 ∷ 51 ∷ 52 ∷ 53 ∷ 10 ∷ 101 ∷ 110 ∷ 100 ∷ 32 ∷ 49 ∷ 10 ∷ []))
+    -- eleven slots of no rows: `0 1`, .., `9 1`, `10 1`, `end 11`
+    ∷ prints (inputOf (front 1 (0 ∷ []) ++ (0 ∷ [])) 11 []) (headerText ++ (idleSlots 48 10 ++ (49 ∷ 48 ∷ 32 ∷ 49 ∷ 10 ∷ 101 ∷ 110 ∷ 100 ∷ 32 ∷ 49 ∷ 49 ∷ 10 ∷ [])))
+    -- tanks 100 and 9,999
+    ∷ prints (inputOf (front 2 (0 ∷ []) ++ (2 ∷ rowBytes 100 1 2 0 0 ++ rowBytes 9_999 1 2 0 0)) 2 []) (headerText ++ (48 ∷ 32 ∷ 49 ∷ 32 ∷ 49 ∷ 48 ∷ 48 ∷ 10 ∷ 49 ∷ 32 ∷ 49 ∷ 32 ∷ 57 ∷ 57 ∷ 57 ∷ 57 ∷ 10 ∷ 101 ∷ 110 ∷ 100 ∷ 32 ∷ 50 ∷ 10 ∷ []))
     -- "Slots past the k list use all M cores": `0 1 0`, and in slot 1, past the list, `1 2 1`
     ∷ prints (inputOf halfAndThirdBytes 2 (1 ∷ [])) (headerText ++ (48 ∷ 32 ∷ 49 ∷ 32 ∷ 48 ∷ 10 ∷ 49 ∷ 32 ∷ 50 ∷ 32 ∷ 49 ∷ 10 ∷ 101 ∷ 110 ∷ 100 ∷ 32 ∷ 50 ∷ 10 ∷ []))
     -- "`late T TANK` after the late slot's line": with no core in slots 0 and 1 row 0, tank 10, is late at 2; with k = 1, 0, 0 row 1, tank 1, is at 3

@@ -20,6 +20,10 @@ earlyLater = record { tank = 0; cost = 2; period = 6; phase = 3; kind = 1 }
 abbrev pub farRow : Row
 farRow = record { tank = 0; cost = 1; period = 2; phase = 65_535; kind = 0 }
 
+-- one core, and five rows of 1/5
+abbrev pub fiveFifths : Table
+fiveFifths = box 5 1 (plainRow 0 1 5 ∷ plainRow 1 1 5 ∷ plainRow 2 1 5 ∷ plainRow 3 1 5 ∷ plainRow 4 1 5 ∷ [])
+
 -- 31 rows of phase 100, and a row 31 of 1/2
 abbrev pub manyRows : Table
 manyRows =
@@ -51,6 +55,12 @@ slotLaws =
     ∷ leaves (stateOf halfAndThird 0 false []) 2 6 1 (99 ∷ 2 ∷ 2 ∷ 0 ∷ 1 ∷ 99 ∷ []) 1 false (1 ∷ 1 ∷ [])
     ∷ leaves (stateOf halfAndThird 1 false (1 ∷ 1 ∷ [])) 2 2 0 (2 ∷ 0 ∷ []) 2 false (1 ∷ 1 ∷ [])
     ∷ leaves (stateOf halfAndThird 0 false []) 1 3 0 (1 ∷ 1 ∷ 0 ∷ []) 1 false (1 ∷ 0 ∷ [])
+    ∷ leaves (stateOf halfAndThird 0 false []) 2 20 9 (replicate 9 99 ++ ((2 ∷ 2 ∷ 0 ∷ 1 ∷ []) ++ replicate 7 99)) 1 false (1 ∷ 1 ∷ [])
+    -- "then the lower row number": of rows 3 and 4 row 3; a row that is ready at once
+    ∷ leaves (stateOf fiveFifths 3 false (1 ∷ 1 ∷ 1 ∷ [])) 1 3 0 (1 ∷ 1 ∷ 3 ∷ []) 4 false (1 ∷ 1 ∷ 1 ∷ 1 ∷ 0 ∷ [])
+    ∷ leaves (stateOf (box 100 1 (plainRow 0 1 100 ∷ [])) 0 false []) 1 3 0 (1 ∷ 1 ∷ 0 ∷ []) 1 false (1 ∷ [])
+    -- a row that has not begun at time 100 is not late without a core
+    ∷ slot (stateOf (box 2 1 (record { tank = 0; cost = 1; period = 2; phase = 200; kind = 0 } ∷ [])) 100 false []) 0 2 0 (bare 0)
     -- 1, "some row is late at the new time; names the lowest such row and that time"; "with 1 the state is also stopped"
     ∷ slot (stateOf halfAndThird 2 false (1 ∷ 0 ∷ [])) 0 2 0 (named 1 1 3)
     ∷ leaves (stateOf halfAndThird 2 false (1 ∷ 0 ∷ [])) 0 2 0 (0 ∷ 0 ∷ []) 3 true (1 ∷ 0 ∷ [])

@@ -1,9 +1,14 @@
 -- Laws of the table in bytes (01, "The table, in bytes", "What comes back"): part of specs/Laws.antt.
+use Prim.Native.Nat.{ℕ}
 use mathlib.Core.List.{List, [], _∷_, _++_}
 use lib.ListN.{take}
 use Rattle.demands.specs.RunPasses.{wordBytes}
 use Rattle.demands.specs.Law.{Law, reads, has-sizes, has-row, has-board, allZero}
 use Rattle.demands.specs.LawInputs.{front, rowBytes, alikeRows, halfAndThirdBytes}
+
+-- a table of two rows 1/6 and a third
+abbrev pub threeRows : List ℕ → List ℕ
+threeRows third = front 6 (0 ∷ []) ++ (3 ∷ rowBytes 0 1 6 0 0 ++ rowBytes 1 1 6 0 0 ++ third)
 
 -- 10 to 22, each number with an input that gives it, and each limit on both sides
 abbrev pub tableLaws : List Law
@@ -63,6 +68,12 @@ tableLaws =
     ∷ reads (front 6 (0 ∷ []) ++ (1 ∷ rowBytes 0 1 3 0 255)) 20
     ∷ reads (front 6 (0 ∷ []) ++ (1 ∷ rowBytes 0 1 3 0 2)) 20
     ∷ reads (front 6 (0 ∷ []) ++ (1 ∷ rowBytes 0 1 3 0 1)) 0
+    -- 17 to 20 in a third row
+    ∷ reads (threeRows (rowBytes 2 0 6 0 0)) 17
+    ∷ reads (threeRows (rowBytes 2 6 6 0 0)) 18
+    ∷ reads (threeRows (rowBytes 2 1 4 0 0)) 19
+    ∷ reads (threeRows (rowBytes 2 1 6 0 2)) 20
+    ∷ has-row (threeRows (rowBytes 2 1 6 7 1)) 2 (record { tank = 2; cost = 1; period = 6; phase = 7; kind = 1 })
     -- 21, "bytes after the last row"
     ∷ reads (halfAndThirdBytes ++ (0 ∷ [])) 21
     -- 22, "sum above M·L"; a full box is taken

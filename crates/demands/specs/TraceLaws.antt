@@ -42,6 +42,7 @@ traceLaws =
     -- 41, "k above M"
     ∷ check halfAndThirdBytes (wordBytes 1 ++ (3 ∷ 2 ∷ 0 ∷ 1 ∷ [])) (bare 41)
     ∷ check halfAndThirdBytes (wordBytes 2 ++ (2 ∷ 2 ∷ 0 ∷ 1 ∷ 3 ∷ 0 ∷ [])) (bare 41)
+    ∷ check (front 1 (0 ∷ []) ++ (0 ∷ [])) (wordBytes 41 ++ (replicate 80 0 ++ (2 ∷ 0 ∷ []))) (bare 41)
     -- 42, "c above k"
     ∷ check halfAndThirdBytes (wordBytes 2 ++ (2 ∷ 2 ∷ 0 ∷ 1 ∷ 0 ∷ 1 ∷ 0 ∷ [])) (bare 42)
     ∷ check halfAndThirdBytes (wordBytes 1 ++ (1 ∷ 2 ∷ 0 ∷ 1 ∷ [])) (bare 42)
@@ -53,6 +54,7 @@ traceLaws =
     -- 44, "quantum before its row was ready (row, slot)", "for the lowest row"
     ∷ check halfAndThirdBytes (wordBytes 2 ++ (2 ∷ 2 ∷ 0 ∷ 1 ∷ 2 ∷ 1 ∷ 1 ∷ [])) (named 44 1 1)
     ∷ check halfAndThirdBytes (wordBytes 2 ++ (2 ∷ 2 ∷ 0 ∷ 1 ∷ 2 ∷ 2 ∷ 0 ∷ 1 ∷ [])) (named 44 0 1)
+    ∷ check (front 3 (0 ∷ 1 ∷ 2 ∷ []) ++ (3 ∷ rowBytes 0 2 3 0 0 ++ rowBytes 1 2 3 0 0 ++ rowBytes 2 2 3 0 0)) (wordBytes 3 ++ (3 ∷ 3 ∷ 0 ∷ 1 ∷ 2 ∷ 3 ∷ 3 ∷ 0 ∷ 1 ∷ 2 ∷ 3 ∷ 2 ∷ 1 ∷ 2 ∷ [])) (named 44 1 2)
     -- 45, "row late (row, time)", "for the lowest late row at the slot's end"
     ∷ check halfAndThirdBytes (wordBytes 3 ++ (1 ∷ 1 ∷ 0 ∷ 0 ∷ 0 ∷ 0 ∷ 0 ∷ [])) (named 45 1 3)
     ∷ check (front 3 (0 ∷ []) ++ (2 ∷ rowBytes 0 1 3 0 0 ++ rowBytes 1 1 3 0 0)) (wordBytes 3 ++ replicate 6 0) (named 45 0 3)

@@ -1,15 +1,14 @@
 -- Demand 2: "The rows picked for a slot are those that PD2 picks: as many as there are free cores, or all that are ready if fewer, best first by its
 -- order. The trace checker passes a trace exactly when the trace is well formed and each quantum falls inside its allowed slots, none overdue."
-use Prim.Native.Nat.{ℕ, _+_, _<_}
+use Prim.Native.Nat.{ℕ, _+_, _≤_, _<_}
 use mathlib.Core.Path.{_≡_}
 use mathlib.Core.List.{List}
 use mathlib.Core.Bool.{true, false, cond}
 use mathlib.Core.Logic.{_↔_}
-use lib.ListN.{length}
-use Rattle.table.specs.Limits.{rowLimit}
+use lib.ListN.{length, getD}
 use Rattle.table.specs.Bytes.{tableNumber, tableIn}
 use Rattle.pd2.specs.Order.{Rank, Before, before}
-use Rattle.pd2.specs.Picks.{AreBest}
+use Rattle.pd2.specs.Picks.{picked, AreBest}
 use Rattle.pd2.specs.Choice.{quantaAt, readyIn, firstBy, pd2Picks}
 use Rattle.choice.specs.Choice.{ChosenAsPd2}
 use Rattle.trace.specs.Record.{withRecord, recordOf}
@@ -27,13 +26,18 @@ use Rattle.checker.specs.Passes.{InWindows}
 pub record Picks (s : State) (k : ℕ) (buffer : List ℕ) (place : ℕ) (after : Given) : Type 0 where
   -- "those that PD2 picks": the record that stands at the place names them, "every other byte is as before",
   pub bytes : after .bytes ≡ withRecord buffer place (recordOf k (pd2Picks (rowsIn s) (quantaIn s) (timeOf s) k))
+  pub size : length (after .bytes) ≡ length buffer
+  pub before-it : (j : ℕ) → j < place → getD (after .bytes) j 0 ≡ getD buffer j 0
+  pub behind-it : (j : ℕ) → place + 2 + length (pd2Picks (rowsIn s) (quantaIn s) (timeOf s) k) ≤ j → getD (after .bytes) j 0 ≡ getD buffer j 0
   pub free : freeAt (after .bytes) place ≡ k
   pub rows : rowsAt (after .bytes) place ≡ pd2Picks (rowsIn s) (quantaIn s) (timeOf s) k
   -- they are ready, "as many as there are free cores, or all that are ready if fewer, best first by its order",
+  pub picked-rows : (i : ℕ) → i < length (rowsIn s) →
+      names (rowsAt (after .bytes) place) i ≡ picked (readyIn (rowsIn s) (quantaIn s) (timeOf s)) (firstBy before (rowsIn s) (quantaIn s)) (length (rowsIn s)) k i
   pub best : AreBest (readyIn (rowsIn s) (quantaIn s) (timeOf s)) (firstBy before (rowsIn s) (quantaIn s)) (length (rowsIn s)) k
   pub ready : (i : ℕ) → names (rowsAt (after .bytes) place) i ≡ true → (i < length (rowsIn s)) × (readyIn (rowsIn s) (quantaIn s) (timeOf s) i ≡ true)
   -- "each picked row has one quantum more", and no other (a state has 32 quanta, always), "time is one higher",
-  pub quanta : length (s .quanta) ≡ rowLimit → (i : ℕ) →
+  pub quanta : length (s .quanta) ≡ 32 → (i : ℕ) →
       quantaAt (quantaIn (after .state)) i ≡ quantaAt (quantaIn s) i + cond (names (rowsAt (after .bytes) place) i) 1 0
   pub time : timeOf (after .state) ≡ timeOf s + 1
   -- "with 1 the state is also stopped", and with 0 it is not.
