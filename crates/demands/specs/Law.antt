@@ -46,8 +46,8 @@ sameRow a b =
     eqb (a .tank) (b .tank) && eqb (a .cost) (b .cost) && eqb (a .period) (b .period) && eqb (a .phase) (b .phase) && eqb (a .kind) (b .kind)
 
 -- a row that no table here has: what stands at a place that is not there
-abbrev pub anyRow : Row
-anyRow = record { tank = 9; cost = 9; period = 9; phase = 9; kind = 9 }
+abbrev pub noSuchRow : Row
+noSuchRow = record { tank = 9; cost = 9; period = 9; phase = 9; kind = 9 }
 
 -- "has 0 in every place past n"
 abbrev pub allZero : Row
@@ -66,7 +66,7 @@ lawHolds (reads bytes number) = eqb (reading bytes .number) number
 lawHolds (has-sizes bytes cycle cores count) =
     let table = reading bytes .table in
     eqb (table .cycle) cycle && eqb (table .cores) cores && eqb (table .count) count
-lawHolds (has-row bytes i row) = sameRow (getD (reading bytes .table .rows) i anyRow) row
+lawHolds (has-row bytes i row) = sameRow (getD (reading bytes .table .rows) i noSuchRow) row
 lawHolds (has-board bytes j board) = eqb (getD (reading bytes .table .boards) j 256) board
 lawHolds (faulty table number) = eqb (faultOf table) number
 lawHolds (slot s k bytes place said) = sameSaid (slotOf s k (replicate bytes 99) place .said) said
