@@ -1,21 +1,17 @@
 -- The definitions mean what 01 says, in numbers and bytes. Assumes nothing.
 use Prim.Native.Nat.{ℕ, _+_, _-_, _*_, _/_, _≤_, _<_}
-use mathlib.Core.Path.{_≡_, refl, sym, ap, _∙_}
-use mathlib.Core.List.{List, map}
-use mathlib.Core.Bool.{Bool, true, false, _&&_}
+use mathlib.Core.Path.{_≡_, refl, ap, _∙_}
+use mathlib.Core.List.{List}
+use mathlib.Core.Bool.{Bool, true, false}
 use mathlib.Core.Logic.{_↔_}
-use native.Mathlib.Decide.{decLt}
 use native.Mathlib.Omega.{arith}
-use borrow.Author.Tests.{ltb-false, le-ltb, lt-ltb, leb-true, le-leb, lt-leb}
+use borrow.Author.Tests.{ltb-false, le-ltb, leb-true, le-leb, lt-leb}
 use lib.Dec.{ltb, leb}
-use lib.ListN.{length, getD, take, length-map, List·getD-map, List·getD-eq-default}
-use lib.Seq.{getD-take}
+use lib.ListN.{length, getD}
 use Rattle.facts.specs.Rounding.{ceilDiv}
-use Rattle.facts.specs.Places.{places, padded}
 use Rattle.facts.specs.First.{Lowest}
 use Rattle.facts.proofs.Counting.{lowest-is-first}
-use Rattle.facts.proofs.Filling.{getD-any}
-use Rattle.facts.proofs.Places.{how-many-places, place-at, first-are-read}
+use Rattle.facts.proofs.Places.{read-there}
 use Rattle.windows.specs.Windows.{start, deadline, bit, windowLength, jobStart}
 use Rattle.table.specs.declared.Row.{Row}
 use Rattle.table.specs.declared.Table.{Table}
@@ -26,8 +22,8 @@ use Rattle.table.specs.Bytes.{rowInBytes}
 use Rattle.fields.specs.Fields.{byte}
 use Rattle.pd2.specs.Ready.{ready, late}
 use Rattle.trace.specs.Record.{recordOf, marked, withFront}
-use Rattle.trace.specs.Records.{names, placeOf, slotsIn, placeIn}
-use Rattle.trace.proofs.Records.{listed-are-named}
+use Rattle.trace.specs.Records.{placeOf, slotsIn, placeIn}
+use Rattle.trace.proofs.Records.{marked-are-named}
 use Rattle.trace.proofs.Found.{next-begins}
 use Rattle.dispatcher.specs.declared.State.{State}
 use Rattle.checker.specs.WellFormed.{WellFormed}
@@ -40,24 +36,15 @@ window-means : (e p f i : ℕ) → WindowMeans e p f i
 unfolding start deadline ceilDiv bit windowLength jobStart
 window-means e p f i = record { start-is = refl; deadline-is = refl; bit-is = refl; length-is = refl; job-start-is = refl }
 
--- What was read at place i of an array.
-read-at : {A : Type 0} (read : ℕ → A) (nothing : A) (size from step n i : ℕ) (d : A) → i < n → getD (padded read nothing size from step n) i d ≡ read (from + step * i)
-read-at read nothing size from step n i d l =
-    let there : i < length (places from step n) = omega (arith, how-many-places from step n) in
-    sym (getD-take n (padded read nothing size from step n) i d l)
-    ∙ (ap (λ array. getD array i d) (first-are-read read nothing size from step n)
-    ∙ (getD-any (map read (places from step n)) i d (read 0) (omega (arith, there, length-map (places from step n) read))
-    ∙ (List·getD-map read (places from step n) i 0 ∙ ap read (place-at from step n i 0 l))))
-
 table-means : (s : List ℕ) → TableMeans s
 table-means s =
     record {
       cycle = omega arith;
       cores = refl;
-      boards = λ j l. read-at (byte s) 0 coreLimit 6 1 (byte s 5) j 0 l ∙ ap (byte s) {x = 6 + 1 * j} {y = 6 + j} (omega arith);
+      boards = λ j l. read-there (byte s) 0 coreLimit 6 1 0 l ∙ ap (byte s) {x = 6 + 1 * j} {y = 6 + j} (omega arith);
       count = refl;
       rows = λ i l.
-          read-at (rowInBytes s) zeroRow rowLimit (6 + byte s 5 + 1) 9 (byte s (6 + byte s 5)) i zeroRow l
+          read-there (rowInBytes s) zeroRow rowLimit (6 + byte s 5 + 1) 9 zeroRow l
           ∙ ap (rowInBytes s) {x = 6 + byte s 5 + 1 + 9 * i} {y = 7 + byte s 5 + 9 * i} (omega arith)
           ∙ fields (7 + byte s 5 + 9 * i);
     }
@@ -137,14 +124,6 @@ shaped s table = (
 trace-means : (s : List ℕ) → TraceMeans s
 unfolding placeOf
 trace-means s = record { slots = omega arith; first = refl; next = next-begins s; rows = λ t. refl; well-formed = shaped s }
-
--- The marked rows are named, and no others.
-marked-are-named : (marks : List Bool) (i : ℕ) → names (marked marks) i ≡ getD marks i false
-marked-are-named marks i = listed-are-named (λ j. getD marks j false) (length marks) i ∙ go (decLt i (length marks))
-  where
-    go : Dec (i < length marks) → ltb i (length marks) && getD marks i false ≡ getD marks i false
-    go (yes l) = rw (lt-ltb i (length marks) l) refl
-    go (no l) = rw (le-ltb i (length marks) (omega arith)) (sym (List·getD-eq-default marks false {n = i} (omega arith)))
 
 write-means : (part : List ℕ) (free : ℕ) (marks : List Bool) → WriteMeans part free marks
 unfolding withFront

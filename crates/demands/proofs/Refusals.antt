@@ -1,35 +1,23 @@
 -- Each refusal of a slot is given exactly when 01 says. Assumes nothing.
-use Prim.Native.Nat.{ℕ, _+_, _-_, _≤_, _<_}
+use Prim.Native.Nat.{ℕ, _+_, _≤_, _<_}
 use mathlib.Core.Path.{_≡_, refl, sym, _∙_}
 use mathlib.Core.List.{List}
 use mathlib.Core.Bool.{Bool, true, false, true≢false}
 use mathlib.Core.Logic.{_↔_}
 use native.Mathlib.Decide.{decLt}
 use native.Mathlib.Omega.{arith}
-use borrow.Author.Tests.{lt-ltb, le-ltb}
 use lib.ListN.{length}
 use Rattle.pd2.specs.Choice.{rowAt, quantaAt}
 use Rattle.pd2.proofs.Share.{row-can-be}
 use Rattle.dispatcher.specs.declared.State.{State}
 use Rattle.dispatcher.specs.State.{rowsIn, quantaIn, timeOf}
 use Rattle.dispatcher.specs.Broken.{broken}
-use Rattle.dispatcher.specs.Slot.{picksIn, lacksRoom, refusal, slotOf}
+use Rattle.dispatcher.specs.Slot.{picksIn, refusal, slotOf}
 use Rattle.dispatcher.proofs.Whole.{is-whole, is-not-broken}
-use Rattle.dispatcher.proofs.Refused.{first-30, first-31, first-32, first-33, by-room}
+use Rattle.dispatcher.proofs.Refused.{lacks-room, has-room-for, first-30, first-31, first-32, first-33, by-room}
 use Rattle.dispatcher.proofs.Kept.{refused-number, not-refused-is-done}
 use Rattle.demands.specs.One.{NotBroken, BrokenExactly, SlotExactly}
 use Rattle.demands.proofs.Limits.{in-limits}
-
--- Whether a record of c rows has room: the two tests of 01 are one.
-lacks-room : (buffer : List ℕ) (place c : ℕ) → length buffer < place + 2 + c → lacksRoom buffer place c ≡ true
-lacks-room buffer place c short = go (decLt (length buffer) place)
-  where
-    go : Dec (length buffer < place) → lacksRoom buffer place c ≡ true
-    go (yes past) = rw (lt-ltb (length buffer) place past) refl
-    go (no inside) = rw (le-ltb (length buffer) place (omega arith), lt-ltb (length buffer - place) (2 + c) (omega arith)) refl
-
-has-room-for : (buffer : List ℕ) (place c : ℕ) → place + 2 + c ≤ length buffer → lacksRoom buffer place c ≡ false
-has-room-for buffer place c long = rw (le-ltb (length buffer) place (omega arith), le-ltb (length buffer - place) (2 + c) (omega arith)) refl
 
 -- A state that is not broken is whole, and its shares are the demand's limits.
 pub broken-exactly : BrokenExactly

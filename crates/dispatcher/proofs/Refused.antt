@@ -4,10 +4,9 @@ use mathlib.Core.Path.{_≡_, refl, sym, ap, _∙_}
 use mathlib.Core.List.{List, _++_}
 use mathlib.Core.Bool.{Bool, true, false, cond}
 use mathlib.Core.Logic.{_⊎_, inl, inr}
-use native.Mathlib.Decide.{decLe}
+use native.Mathlib.Decide.{decLe, decLt}
 use native.Mathlib.Omega.{arith}
 use borrow.Author.Tests.{lt-ltb, le-ltb, lt-leb, le-leb, eq-eqb, ne-eqb}
-use lib.Dec.{ltb}
 use lib.ListN.{length, take, drop, length-drop, take-append-drop}
 use Rattle.facts.specs.Faults.{firstMet, _orElse_}
 use Rattle.counts.specs.Limits.{timeLimit}
@@ -24,6 +23,17 @@ use Rattle.trace.specs.Said.{bare}
 use Rattle.dispatcher.specs.Answer.{saidOf, doneSaid}
 use Rattle.dispatcher.specs.Slot.{picksIn, recordIn, lateIn, lacksRoom, oneOn, stepped, refusal, slotOf}
 use Rattle.dispatcher.specs.Usable.{Admitted, CauseIs}
+
+-- Whether a record of c rows has room: the two tests of 01 are one.
+pub lacks-room : (buffer : List ℕ) (place c : ℕ) → length buffer < place + 2 + c → lacksRoom buffer place c ≡ true
+lacks-room buffer place c short = go (decLt (length buffer) place)
+  where
+    go : Dec (length buffer < place) → lacksRoom buffer place c ≡ true
+    go (yes past) = rw (lt-ltb (length buffer) place past) refl
+    go (no inside) = rw (le-ltb (length buffer) place (omega arith), lt-ltb (length buffer - place) (2 + c) (omega arith)) refl
+
+pub has-room-for : (buffer : List ℕ) (place c : ℕ) → place + 2 + c ≤ length buffer → lacksRoom buffer place c ≡ false
+has-room-for buffer place c long = rw (le-ltb (length buffer) place (omega arith), le-ltb (length buffer - place) (2 + c) (omega arith)) refl
 
 module _ (s : State) (k : ℕ) (buffer : List ℕ) (place : ℕ) where
   -- What a slot gives back, as its promise has it.
@@ -80,7 +90,7 @@ module _ (s : State) (k : ℕ) (buffer : List ℕ) (place : ℕ) where
 
           -- the place is past the end,
           pub past-end : length buffer < place → refusal s k buffer place ≡ 34
-          past-end h = by-room {lacks = true} (rw (lt-ltb (length buffer) place h) refl)
+          past-end h = by-room {lacks = true} (lacks-room buffer place (length (picksIn s k)) (omega arith))
 
           module _ (inside : place ≤ length buffer) {marks : List ℕ} (same : marks ≡ picksIn s k) (stored : Stored)
               (wrote : storedNumber stored ≡ writeNumber (drop place buffer) (recordOf k marks)) where
@@ -96,20 +106,17 @@ module _ (s : State) (k : ℕ) (buffer : List ℕ) (place : ℕ) where
                 long : length (drop place buffer) ≡ length buffer - place
                 long = length-drop place buffer
 
-                past : ltb (length buffer) place ≡ false
-                past = le-ltb (length buffer) place inside
-
                 count : length (picksIn s k) ≡ length marks
                 count = sym (ap length same)
 
                 go : Dec (2 + length marks ≤ length buffer - place) → room true ⊎ room false
                 go (yes l) =
                     let fits = le-leb (length (recordOf k marks)) (length (drop place buffer)) (omega (arith, long)) in
-                    let lacks : lacksRoom buffer place (length (picksIn s k)) ≡ false = rw (past, count) (le-ltb (length buffer - place) (2 + length marks) l) in
+                    let lacks = has-room-for buffer place (length (picksIn s k)) (omega (arith, count, inside)) in
                     inl (wrote ∙ ap (λ has. cond has 0 34) fits, by-room {lacks = false} lacks, rw fits refl)
                 go (no l) =
                     let short = lt-leb (length (recordOf k marks)) (length (drop place buffer)) (omega (arith, long)) in
-                    let lacks : lacksRoom buffer place (length (picksIn s k)) ≡ true = rw (past, count) (lt-ltb (length buffer - place) (2 + length marks) (omega arith)) in
+                    let lacks = lacks-room buffer place (length (picksIn s k)) (omega (arith, count)) in
                     inr (wrote ∙ ap (λ has. cond has 0 34) short, by-room {lacks = true} lacks, rw short refl)
 
             module _ {part : List ℕ} (left : part ≡ partAfter (drop place buffer) (recordOf k marks)) where

@@ -5,11 +5,11 @@ use Prim.Native.Nat.{ℕ, zero, suc, _+_, _-_, _*_, _≤_, _<_}
 use native.Mathlib.Nat.{le-of-suc-le-suc, not-suc-le-zero}
 use native.Mathlib.Numerals.{add-one}
 use native.Mathlib.Omega.{arith}
-use lib.ListN.{length, getD, set, take, replicate, length-append, length-replicate, length-map, getD-replicate}
-use lib.Seq.{take-at, getD-append-add}
+use lib.ListN.{length, getD, set, take, replicate, length-append, length-replicate, length-map, getD-replicate, List·getD-map}
+use lib.Seq.{take-at, getD-take, getD-append-add}
 use Rattle.facts.specs.Places.{places, padded, ReadAnswer, ReadSoFar}
 use Rattle.facts.specs.Faults.{Test, firstMet}
-use Rattle.facts.proofs.Filling.{filled-one-more}
+use Rattle.facts.proofs.Filling.{filled-one-more, getD-any}
 use Rattle.facts.proofs.Faults.{none-passed, all-passed, stops-at-fault, one-more-passed}
 
 -- for callers
@@ -55,6 +55,14 @@ module _ {A : Type 0} (read : ℕ → A) (nothing : A) (size from step : ℕ) wh
   pub first-are-read : (n : ℕ) → take n (padded read nothing size from step n) ≡ map read (places from step n)
   unfolding padded
   first-are-read n = take-at (map read (places from step n)) _ n (how-many-read n)
+
+  -- each where it stands,
+  pub read-there : {n i : ℕ} (d : A) → i < n → getD (padded read nothing size from step n) i d ≡ read (from + step * i)
+  read-there {n} {i} d l =
+      sym (getD-take n (padded read nothing size from step n) i d l)
+      ∙ (ap (λ array. getD array i d) (first-are-read n)
+      ∙ (getD-any (map read (places from step n)) i d (read 0) (omega (arith, how-many-read n))
+      ∙ (List·getD-map read (places from step n) i 0 ∙ ap read (place-at from step n i 0 l))))
 
   -- the others are nothing,
   pub others-are-nothing : {n i : ℕ} (d : A) → n ≤ i → i < size → getD (padded read nothing size from step n) i d ≡ nothing

@@ -8,12 +8,12 @@ use native.Mathlib.Numerals.{add-one}
 use native.Mathlib.Omega.{arith}
 use borrow.Author.Tests.{lt-ltb, le-ltb, eq-eqb, ne-eqb}
 use lib.Dec.{ltb, eqb}
-use lib.ListN.{length, take, drop, length-drop, take-append-drop, List·getD-append}
+use lib.ListN.{length, getD, take, drop, length-drop, take-append-drop, List·getD-append, List·getD-eq-default}
 use lib.Seq.{length-take-le, take-append-seam, take-append-le, drop-append-le, drop-append-add, getD-append-add}
 use Rattle.facts.specs.Counting.{howMany, those}
 use Rattle.facts.proofs.Counting.{same-count, counted-if-passed, uncounted-if-failed, none-listed, listed-if-passed, unlisted-if-failed}
 use Rattle.fields.specs.Fields.{byte}
-use Rattle.trace.specs.Record.{recordOf, withFront, withRecord}
+use Rattle.trace.specs.Record.{recordOf, marked, withFront, withRecord}
 use Rattle.trace.specs.Records.{countAt, rowsAt, pastRecord, placeOf, names, namedIn, count}
 
 -- A longer list names what its parts name.
@@ -65,6 +65,14 @@ listed-are-named a (suc n) row =
         let h : row ≤ row = omega arith in
         let k : row < row + 1 = omega arith in
         rw same (simp (le-ltb _ _ h, lt-ltb _ _ k, eq-eqb row row refl, and-true (a row)))
+
+-- The marked rows are named, and no others.
+pub marked-are-named : (marks : List Bool) (i : ℕ) → names (marked marks) i ≡ getD marks i false
+marked-are-named marks i = listed-are-named (λ j. getD marks j false) (length marks) i ∙ go (decLt i (length marks))
+  where
+    go : Dec (i < length marks) → ltb i (length marks) && getD marks i false ≡ getD marks i false
+    go (yes l) = rw (lt-ltb i (length marks) l) refl
+    go (no l) = rw (le-ltb i (length marks) (omega arith)) (sym (List·getD-eq-default marks false {n = i} (omega arith)))
 
 -- Records stand one behind the other: a later one begins at a later place.
 pub places-rise : (s : List ℕ) (from j t : ℕ) → j ≤ t → placeOf s from j ≤ placeOf s from t
