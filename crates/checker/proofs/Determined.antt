@@ -8,7 +8,7 @@ use Rattle.facts.specs.Determined.{Determined, TellsApart}
 use Rattle.facts.proofs.Determined.{by-meaning}
 use Rattle.trace.specs.Said.{Said}
 use Rattle.checker.specs.declared.TableFault.{TableFault}
-use Rattle.checker.specs.declared.TableFault.the-variants.{Ends, Format, Cycle, Cores, Boards, Count, Tanks, Cost, Weight, Period, Kind, After, Sum}
+use Rattle.checker.specs.declared.TableFault.the-variants.{Ends, Format, Cycle, Cores, Boards, RowCount, Tanks, Cost, Weight, Period, Kind, After, Sum}
 use Rattle.checker.specs.declared.Answer.{Answer}
 use Rattle.checker.specs.declared.Answer.the-variants.{Passed, Table, Cut, TooManyCores, TooManyRows, BadRow, Early, Late, Extra, TooLong}
 use Rattle.checker.specs.Answer.{saidOf}
@@ -22,7 +22,7 @@ faultFor n =
     (cond (eqb n 12) Cycle
     (cond (eqb n 13) Cores
     (cond (eqb n 14) Boards
-    (cond (eqb n 15) Count
+    (cond (eqb n 15) RowCount
     (cond (eqb n 16) Tanks
     (cond (eqb n 17) Cost
     (cond (eqb n 18) Weight
@@ -50,7 +50,7 @@ refused-back Format = refl
 refused-back Cycle = refl
 refused-back Cores = refl
 refused-back Boards = refl
-refused-back Count = refl
+refused-back RowCount = refl
 refused-back Tanks = refl
 refused-back Cost = refl
 refused-back Weight = refl

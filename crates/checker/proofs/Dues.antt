@@ -16,15 +16,15 @@ use Rattle.table.specs.declared.Row.{Row}
 use Rattle.table.specs.declared.Table.{Table}
 use Rattle.table.specs.Limits.{rowLimit}
 use Rattle.table.specs.Value.{rowsOf}
-use Rattle.pd2.specs.Ready.{origin}
+use Rattle.pd2.specs.Ready.{originOf}
 use Rattle.pd2.specs.Choice.{rowAt}
 use Rattle.pd2.proofs.Share.{row-can-be}
 use Rattle.pd2.proofs.Choice.{row-there}
 use Rattle.checker.specs.Passes.{due}
-use Rattle.checker.specs.Walking.{givenTo, CanCheck, CanBeDue, DueAre}
+use Rattle.checker.specs.Walking.{quantaAt, CanCheck, CanBeDue, DueAre}
 
 -- A row that can be asked is answered.
-pub due-is-said : (row : Row) (q : ℕ) → CanBeDue row q → row .phase < 65_536 → {o : ℕ} → o ≡ origin row → {r : Due} → r ≡ nextDue (row .cost) (row .period) o q →
+pub due-is-said : (row : Row) (q : ℕ) → CanBeDue row q → row .phase < 65_536 → {o : ℕ} → o ≡ originOf row → {r : Due} → r ≡ nextDue (row .cost) (row .period) o q →
     r ≡ By (record { 0 = due row (q + 1) }) (bit (row .cost) (row .period) (q + 1))
 due-is-said row q can small same e =
     rw (e, same)
@@ -32,19 +32,19 @@ due-is-said row q can small same e =
 
 -- A row of the table can be asked.
 pub can-be-due : (table : Table) → CanCheck table → (i : ℕ) → i < length (rowsOf table) → (d : Row) {q : ℕ} → q ≤ 70_368_744_177_664 → CanBeDue (getD (table .rows) i d) q
-can-be-due table can i l d few = record { can = rw (row-there (table .rows) (table .count) i d l) (row-can-be table (can .sound) i l); few = few }
+can-be-due table can i l d few = record { can = rw (row-there (table .rows) (table .n) i d l) (row-can-be table (can .sound) i l); few = few }
 
 -- An array that is filled with what is due, row after row,
 pub dues-are-filled : (table : Table) (dues : List ℕ) {i : ℕ} → Filled (λ j. due (rowAt (rowsOf table) j) 1) 0 0 rowLimit i dues → length (rowsOf table) ≤ i → DueAre table (λ _. 0) dues
 dues-are-filled table dues so h = record { long = so .long; each = λ j l. so .first j (omega arith) }
 
 -- and one in which a row is due later, since it was given a quantum.
-pub one-due-later : (table : Table) (after dues : List ℕ) → DueAre table (givenTo after) dues → length after ≡ rowLimit → (row : ℕ) → row < rowLimit → (v : ℕ) {x : ℕ} →
-    x ≡ due (rowAt (rowsOf table) row) (v + 1) → DueAre table (givenTo (set after row v)) (set dues row x)
+pub one-due-later : (table : Table) (after dues : List ℕ) → DueAre table (quantaAt after) dues → length after ≡ rowLimit → (row : ℕ) → row < rowLimit → (v : ℕ) {x : ℕ} →
+    x ≡ due (rowAt (rowsOf table) row) (v + 1) → DueAre table (quantaAt (set after row v)) (set dues row x)
 one-due-later table after dues so long row fits v {x} e =
     record { long = length-set dues row x ∙ so .long; each = λ i l. at i l (ℕ-discrete i row) }
   where
-    at : (i : ℕ) → i < length (rowsOf table) → Dec (i ≡ row) → getD (set dues row x) i 0 ≡ due (rowAt (rowsOf table) i) (givenTo (set after row v) i + 1)
+    at : (i : ℕ) → i < length (rowsOf table) → Dec (i ≡ row) → getD (set dues row x) i 0 ≡ due (rowAt (rowsOf table) i) (quantaAt (set after row v) i + 1)
     at i l (yes same) =
         rw same
         (getD-set-same dues row x 0 (omega (arith, so .long))

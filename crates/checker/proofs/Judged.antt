@@ -24,7 +24,7 @@ use Rattle.checker.specs.declared.Answer.{Answer}
 use Rattle.checker.specs.Answer.{saidOf}
 use Rattle.checker.specs.Causes.{tooEarly, tooLate, lowest, anyRow}
 use Rattle.checker.specs.Check.{shapeAt, timeFindings, recordFindings}
-use Rattle.checker.specs.Walking.{givenTo, Askable, DueAre, CanJudge, Walked, Leads, Read, CanGive, Gave, isEarly}
+use Rattle.checker.specs.Walking.{quantaAt, Askable, DueAre, CanJudge, Walked, Leads, Read, CanGive, Gave, isEarly}
 use Rattle.checker.specs.Passes.{due}
 
 -- The lowest row that is so is the one that is named.
@@ -59,23 +59,23 @@ module _ (table : Table) (s : List ℕ) (t at : ℕ) (counts dues : List ℕ) (c
       let at = can .reached in
       record { can = can .can; long = at .long; few = λ i l. omega (arith, at .quanta i l, at .few i); time = omega (arith, can .time) }
 
-  module _ {first count : ℕ} (read : Read (table .cores) (length (rowsOf table)) s at first count) where
+  module _ {first picked : ℕ} (read : Read (table .cores) (length (rowsOf table)) s at first picked) where
     sound : NoneFound (shapeAt (table .cores) (length (rowsOf table)) s (placeIn s t))
     sound = subst (λ place. NoneFound (shapeAt (table .cores) (length (rowsOf table)) s place)) (can .reached .place) (read .sound)
 
     -- the rows that are named, as they stand in the record
     abbrev named-rows : List ℕ
-    named-rows = take count (drop first s)
+    named-rows = take picked (drop first s)
 
     rows-are : named-rows ≡ rowsOfSlot s t
     rows-are = rw (read .begins, read .all, can .reached .place) refl
 
     -- They lie inside the trace,
-    pub rows-inside : first + count ≤ length s
+    pub rows-inside : first + picked ≤ length s
     rows-inside = omega (arith, read .begins, read .all, read .inside)
 
     -- and can be given quanta.
-    pub can-give : CanGive table s first count counts t dues
+    pub can-give : CanGive table s first picked counts t dues
     can-give =
         record {
           inside = rows-inside;
@@ -92,23 +92,23 @@ module _ (table : Table) (s : List ℕ) (t at : ℕ) (counts dues : List ℕ) (c
     early-is {i} low =
         same-lowest (isEarly table counts named-rows t) (tooEarly table s t) (length (rowsOf table)) i (λ j l. rw (rows-are, can .reached .quanta j l) refl) low
 
-    module _ {early : ℕ} {after : List ℕ} {dues′ : List ℕ} (gave : Gave table named-rows counts t early after dues′) where
+    module _ {lowest-early : ℕ} {after : List ℕ} {dues′ : List ℕ} (gave : Gave table named-rows counts t lowest-early after dues′) where
       -- An early row ends the check,
-      pub early-ends : early < length (rowsOf table) → FirstFound (recordFindings table s t) (named 44 early t)
+      pub early-ends : lowest-early < length (rowsOf table) → FirstFound (recordFindings table s t) (named 44 lowest-early t)
       early-ends l =
-          let is = is-lowest table (tooEarly table s t) early (early-is (gave .lowest)) l in
+          let is = is-lowest table (tooEarly table s t) lowest-early (early-is (gave .lowest)) l in
           first-behind sound (subst (λ row. FirstFound (timeFindings table s t) (named 44 row t)) (is .1) (FirstFound.here (is .0)))
 
-      module _ (none : length (rowsOf table) ≤ early) where
+      module _ (none : length (rowsOf table) ≤ lowest-early) where
         no-early : anyRow table (tooEarly table s t) ≡ false
-        no-early = none-is table (tooEarly table s t) early (early-is (gave .lowest)) none
+        no-early = none-is table (tooEarly table s t) lowest-early (early-is (gave .lowest)) none
 
         -- the quanta after the slot,
-        quanta-after : (j : ℕ) → j < length (rowsOf table) → givenTo after j ≡ timesNamed s j (t + 1)
+        quanta-after : (j : ℕ) → j < length (rowsOf table) → quantaAt after j ≡ timesNamed s j (t + 1)
         quanta-after j l = gave .gave none .each j ∙ go (names (rowsOfSlot s t) j) refl
           where
             go : (b : Bool) → names (rowsOfSlot s t) j ≡ b →
-                cond (names named-rows j) (kept (givenTo counts j + 1)) (givenTo counts j) ≡ timesNamed s j (t + 1)
+                cond (names named-rows j) (kept (quantaAt counts j + 1)) (quantaAt counts j) ≡ timesNamed s j (t + 1)
             go true e =
                 rw (rows-are, e, can .reached .quanta j l)
                 (omega (arith, can .reached .few j, can .time) ∙ sym (counted-if-named s firstPlace j t e))
@@ -130,14 +130,14 @@ module _ (table : Table) (s : List ℕ) (t at : ℕ) (counts dues : List ℕ) (c
             }
 
         -- the lowest late row, as it was found in the array
-        late-is : {time k : ℕ} → time ≡ t + 1 → Lowest (λ i. leb (getD dues′ i 0) time) (table .count) k → Lowest (tooLate table s (t + 1)) (length (rowsOf table)) k
+        late-is : {time k : ℕ} → time ≡ t + 1 → Lowest (λ i. leb (getD dues′ i 0) time) (table .n) k → Lowest (tooLate table s (t + 1)) (length (rowsOf table)) k
         unfolding late
         late-is {time} {k} e low =
             same-lowest (λ i. leb (getD dues′ i 0) (t + 1)) (tooLate table s (t + 1)) (length (rowsOf table)) k (λ j l. rw (due-after .each j l) refl)
-            (subst (λ n. Lowest (λ i. leb (getD dues′ i 0) (t + 1)) n k) (sym (can .can .all)) (subst (λ time. Lowest (λ i. leb (getD dues′ i 0) time) (table .count) k) e low))
+            (subst (λ n. Lowest (λ i. leb (getD dues′ i 0) (t + 1)) n k) (sym (can .can .all)) (subst (λ time. Lowest (λ i. leb (getD dues′ i 0) time) (table .n) k) e low))
 
         -- a late row ends it,
-        pub late-ends : {time k : ℕ} → time ≡ t + 1 → Lowest (λ i. leb (getD dues′ i 0) time) (table .count) k → k < length (rowsOf table) →
+        pub late-ends : {time k : ℕ} → time ≡ t + 1 → Lowest (λ i. leb (getD dues′ i 0) time) (table .n) k → k < length (rowsOf table) →
             FirstFound (recordFindings table s t) (named 45 k (t + 1))
         late-ends {k = k} e low l =
             let is = is-lowest table (tooLate table s (t + 1)) k (late-is e low) l in
@@ -145,8 +145,8 @@ module _ (table : Table) (s : List ℕ) (t at : ℕ) (counts dues : List ℕ) (c
             (FirstFound.later no-early (subst (λ row. FirstFound ((anyRow table (tooLate table s (t + 1)) says named 45 (lowest table (tooLate table s (t + 1))) (t + 1)) ∷ []) (named 45 row (t + 1))) (is .1) (FirstFound.here (is .0))))
 
         -- and else the walk goes on.
-        pub goes-on : {time k : ℕ} → time ≡ t + 1 → Lowest (λ i. leb (getD dues′ i 0) time) (table .count) k → length (rowsOf table) ≤ k →
-            Walked table s t (first + count) after dues′
+        pub goes-on : {time k : ℕ} → time ≡ t + 1 → Lowest (λ i. leb (getD dues′ i 0) time) (table .n) k → length (rowsOf table) ≤ k →
+            Walked table s t (first + picked) after dues′
         unfolding placeOf
         goes-on {k = k} e low h =
             record {

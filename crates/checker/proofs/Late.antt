@@ -45,7 +45,7 @@ module _ (table : Table) (s : List ℕ) where
         ((i : ℕ) → i < length (rowsOf table) → names (rowsOfSlot s m) i ≡ true → ready (rowAt (rowsOf table) i) (timesNamed s i m) m ≡ true) →
         traceSaid table s ≡ named 45 row (m + 1)
     unfolding traceSaid
-    late-is-said well slots in-time readied = first-is-said (bare 0) (FirstFound.later (well .count) (FirstFound.later (well .limit) (first-in-front (lastFindings s) found)))
+    late-is-said well slots in-time readied = first-is-said (bare 0) (FirstFound.later (well .slot-count) (FirstFound.later (well .limit) (first-in-front (lastFindings s) found)))
       where
         shape : (t : ℕ) → t < suc m → NoneFound (shapeAt (table .cores) (length (rowsOf table)) s (placeIn s t))
         shape t l = none-in-shape table s (placeIn s t) .1 (well .records t (omega (arith, slots)))

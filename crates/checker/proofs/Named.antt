@@ -17,7 +17,7 @@ use Rattle.counts.specs.Limits.{kept}
 use Rattle.trace.specs.Records.{names}
 use Rattle.trace.proofs.Records.{names-either}
 use Rattle.checker.specs.Causes.{badRows}
-use Rattle.checker.specs.Walking.{givenTo, GaveNamed}
+use Rattle.checker.specs.Walking.{quantaAt, GaveNamed}
 
 -- the c numbers from a place on, and the j-th of them
 pub how-many-rows : (s : List ℕ) (first c : ℕ) → first + c ≤ length s → length (take c (drop first s)) ≡ c
@@ -192,16 +192,16 @@ module _ (rows : List ℕ) (n : ℕ) (rise : badRows n 0 rows ≡ false) where
     giving-begins = record { within = omega arith; gave = record { places = refl; each = λ i. refl } }
 
     -- has not come to the row that is next,
-    pub not-given-yet : {after : List ℕ} {j row : ℕ} → GaveSoFar rows before after j → j < length rows → row ≡ getD rows j 0 → givenTo after row ≡ givenTo before row
+    pub not-given-yet : {after : List ℕ} {j row : ℕ} → GaveSoFar rows before after j → j < length rows → row ≡ getD rows j 0 → quantaAt after row ≡ quantaAt before row
     not-given-yet {j = j} {row = row} so l same = so .gave .each row ∙ rw (same, not-named-yet n 0 rows rise j l) refl
 
     -- goes on row by row,
     pub gives-one-more : {after : List ℕ} {j row : ℕ} → GaveSoFar rows before after j → j < length rows → row ≡ getD rows j 0 → row < length after → (v : ℕ) →
-        v ≡ kept (givenTo after row + 1) → GaveSoFar rows before (set after row v) (j + 1)
+        v ≡ kept (quantaAt after row + 1) → GaveSoFar rows before (set after row v) (j + 1)
     gives-one-more {after} {j} {row} so l same there v e =
         record { within = omega arith; gave = record { places = length-set after row v ∙ so .gave .places; each = λ i. at i (ℕ-discrete i row) } }
       where
-        at : (i : ℕ) → Dec (i ≡ row) → givenTo (set after row v) i ≡ cond (names (take (j + 1) rows) i) (kept (givenTo before i + 1)) (givenTo before i)
+        at : (i : ℕ) → Dec (i ≡ row) → quantaAt (set after row v) i ≡ cond (names (take (j + 1) rows) i) (kept (quantaAt before i + 1)) (quantaAt before i)
         at i (yes i-is) =
             rw (i-is, ap (names (take (j + 1) rows)) same ∙ own-named j l)
             (getD-set-same after row v 0 there ∙ (e ∙ ap (λ q. kept (q + 1)) (not-given-yet so l same)))

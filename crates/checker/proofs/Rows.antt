@@ -16,7 +16,7 @@ use Rattle.windows.proofs.Windows.{window-has-a-slot, due-in-order}
 use Rattle.table.specs.declared.Row.{Row}
 use Rattle.table.specs.declared.Table.{Table}
 use Rattle.table.specs.Value.{faultOf, rowsOf}
-use Rattle.pd2.specs.Ready.{origin, early, readyPlain, readyEarly, ready, late}
+use Rattle.pd2.specs.Ready.{originOf, isEarlyRelease, readyPlain, readyEarlyRelease, ready, late}
 use Rattle.pd2.specs.Share.{lower, upper, within, CanBe}
 use Rattle.pd2.specs.Choice.{rowAt}
 use Rattle.pd2.proofs.Share.{row-can-be, nothing-is-within, upper-kept-when-idle, upper-after-quantum-means-ready, late-means-below}
@@ -28,11 +28,11 @@ use Rattle.checker.proofs.Sound.{InTime}
 -- A row is ready from the first allowed slot of its next subtask on,
 ready-from-first-allowed : (row : Row) (q t : ℕ) → ready row q t ≡ leb (firstAllowed row (q + 1)) t
 unfolding ready
-ready-from-first-allowed row q t = go (early row)
+ready-from-first-allowed row q t = go (isEarlyRelease row)
   where
     go : (kind : Bool) →
-        cond kind (readyEarly row q t) (readyPlain row q t)
-        ≡ leb (cond kind (jobStart (row .cost) (row .period) (origin row) (q + 1)) (start (row .cost) (row .period) (origin row) (q + 1))) t
+        cond kind (readyEarlyRelease row q t) (readyPlain row q t)
+        ≡ leb (cond kind (jobStart (row .cost) (row .period) (originOf row) (q + 1)) (start (row .cost) (row .period) (originOf row) (q + 1))) t
     go true = refl
     go false = refl
 
@@ -90,7 +90,7 @@ module _ (table : Table) (s : List ℕ) (sound : faultOf table ≡ 0) (i : ℕ) 
   due-ahead : (n : ℕ) → ((t : ℕ) → t < n → InTime table s t) → n < due row (quanta n + 1)
   due-ahead zero each =
       let period : 0 < row .period = omega (arith, can .cost, can .weight) in
-      omega (arith, window-has-a-slot (row .cost) (row .period) (origin row) (can .cost) period {i = quanta 0 + 1} (omega arith))
+      omega (arith, window-has-a-slot (row .cost) (row .period) (originOf row) (can .cost) period {i = quanta 0 + 1} (omega arith))
   due-ahead (suc t) each =
       rw (← add-one t)
       (leb-false _ (t + 1) (sym (late-from-due row (quanta (t + 1)) (t + 1)) ∙ each t (omega arith) .none-late i l))
@@ -104,7 +104,7 @@ module _ (table : Table) (s : List ℕ) (sound : faultOf table ≡ 0) (i : ℕ) 
   -- and what is due after them has been held,
   pub in-time-is-held : (j : ℕ) → ((t : ℕ) → t < due row j → InTime table s t) → j ≤ quanta (due row j)
   in-time-is-held j each =
-      omega (arith, due-in-order (row .cost) (row .period) (origin row) (can .cost) (can .weight) j (quanta (due row j) + 1) (due-ahead (due row j) each))
+      omega (arith, due-in-order (row .cost) (row .period) (originOf row) (can .cost) (can .weight) j (quanta (due row j) + 1) (due-ahead (due row j) each))
 
   -- and the other way round: with each quantum inside its allowed slots it was ready where it is named,
   pub allowed-was-ready : InWindows table s → (t : ℕ) → t < slotsIn s → names (rowsOfSlot s t) i ≡ true → ready row (quanta t) t ≡ true

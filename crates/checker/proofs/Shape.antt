@@ -9,15 +9,15 @@ use lib.Dec.{ltb}
 use lib.ListN.{length}
 use Rattle.facts.specs.Findings.{FirstFound, NoneFound}
 use Rattle.trace.specs.Said.{bare}
-use Rattle.trace.specs.Records.{freeAt, countAt, pastRecord}
+use Rattle.trace.specs.Records.{freeAt, pickedAt, pastRecord}
 use Rattle.checker.specs.Causes.{badRow}
 use Rattle.checker.specs.Check.{shapeAt}
 use Rattle.checker.specs.Walking.{ReadLeads}
 
 module _ (M n : ℕ) (s : List ℕ) (at : ℕ) where
   -- A record that is refused with a number.
-  pub refuses : (number : ℕ) → {r first count : ℕ} → r ≡ number → 40 ≤ number → number ≤ 43 → FirstFound (shapeAt M n s at) (bare number) →
-      ReadLeads M n s at r first count
+  pub refuses : (number : ℕ) → {r first picked : ℕ} → r ≡ number → 40 ≤ number → number ≤ 43 → FirstFound (shapeAt M n s at) (bare number) →
+      ReadLeads M n s at r first picked
   refuses number e low high f =
       record {
         read = λ none. absurd (omega arith);
@@ -41,12 +41,12 @@ module _ (M n : ℕ) (s : List ℕ) (at : ℕ) where
       enough = le-ltb (M) (freeAt s at) cores
 
       -- more rows are named than cores are free,
-      pub rows-are-too-many : freeAt s at < countAt s at → FirstFound (shapeAt M n s at) (bare 42)
-      rows-are-too-many h = FirstFound.later head-there (FirstFound.later enough (FirstFound.here (lt-ltb (freeAt s at) (countAt s at) h)))
+      pub rows-are-too-many : freeAt s at < pickedAt s at → FirstFound (shapeAt M n s at) (bare 42)
+      rows-are-too-many h = FirstFound.later head-there (FirstFound.later enough (FirstFound.here (lt-ltb (freeAt s at) (pickedAt s at) h)))
 
-      module _ (few : countAt s at ≤ freeAt s at) where
-        fit : ltb (freeAt s at) (countAt s at) ≡ false
-        fit = le-ltb (freeAt s at) (countAt s at) few
+      module _ (few : pickedAt s at ≤ freeAt s at) where
+        fit : ltb (freeAt s at) (pickedAt s at) ≡ false
+        fit = le-ltb (freeAt s at) (pickedAt s at) few
 
         -- the rows are missing,
         pub rows-are-cut : length s < pastRecord s at → FirstFound (shapeAt M n s at) (bare 40)
@@ -64,7 +64,7 @@ module _ (M n : ℕ) (s : List ℕ) (at : ℕ) where
               (FirstFound.later enough (FirstFound.later fit (FirstFound.later there (FirstFound.here (sym named ∙ h)))))
 
           -- else the record is sound.
-          pub record-is-read : bad ≡ false → {count : ℕ} → count ≡ countAt s at → ReadLeads M n s at 0 (at + 2) count
+          pub record-is-read : bad ≡ false → {picked : ℕ} → picked ≡ pickedAt s at → ReadLeads M n s at 0 (at + 2) picked
           record-is-read h e =
               record {
                 read = λ _. record {

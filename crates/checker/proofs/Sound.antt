@@ -126,12 +126,12 @@ module _ (table : Table) (s : List ℕ) where
     to,
     λ sound.
         NoneFound.later (sound .head)
-        (NoneFound.later (sound .cores) (NoneFound.later (sound .count) (NoneFound.later (sound .rows) (NoneFound.later (sound .numbers) NoneFound.end)))),
+        (NoneFound.later (sound .cores) (NoneFound.later (sound .picked) (NoneFound.later (sound .rows) (NoneFound.later (sound .numbers) NoneFound.end)))),
   )
     where
       to : NoneFound (shapeAt (table .cores) (length (rowsOf table)) s place) → SoundRecord table s place
       to (NoneFound.later a (NoneFound.later b (NoneFound.later c (NoneFound.later d (NoneFound.later e NoneFound.end))))) =
-          record { head = a; cores = b; count = c; rows = d; numbers = e }
+          record { head = a; cores = b; picked = c; rows = d; numbers = e }
 
   -- A row is not early exactly if it was ready where it is named.
   pub not-early : (t row : ℕ) → (tooEarly table s t row ≡ false) ↔ (names (rowsOfSlot s t) row ≡ true → ready (rowAt (rowsOf table) row) (timesNamed s row t) t ≡ true)
@@ -187,7 +187,7 @@ module _ (table : Table) (s : List ℕ) where
           let parts = none-apart (recordsFindings table s 0 (slotsIn s)) rest in
           let each : (t : ℕ) → t < slotsIn s → NoneFound (shapeAt (table .cores) (length (rowsOf table)) s (placeIn s t)) × NoneFound (timeFindings table s t) =
           λ t l. none-apart (shapeAt (table .cores) (length (rowsOf table)) s (placeIn s t)) (none-in-each 0 (slotsIn s) (parts .0) t (omega arith) (omega arith)) in (
-            record { count = a; limit = b; records = λ t l. none-in-shape (placeIn s t) .0 (each t l .0); end = none-last (parts .1) },
+            record { slot-count = a; limit = b; records = λ t l. none-in-shape (placeIn s t) .0 (each t l .0); end = none-last (parts .1) },
             λ t l. none-in-time t .0 (each t l .1),
           )
         where
@@ -199,4 +199,4 @@ module _ (table : Table) (s : List ℕ) where
           let each : (t : ℕ) → t < slotsIn s → NoneFound (recordFindings table s t) =
           λ t l. none-joined (none-in-shape (placeIn s t) .1 (well .records t l)) (none-in-time t .1 (in-time t l)) in
           let records = none-in-all 0 (slotsIn s) (λ t l k. each t (omega arith)) in
-          NoneFound.later (well .count) (NoneFound.later (well .limit) (none-joined records (NoneFound.later (well .end) NoneFound.end)))
+          NoneFound.later (well .slot-count) (NoneFound.later (well .limit) (none-joined records (NoneFound.later (well .end) NoneFound.end)))

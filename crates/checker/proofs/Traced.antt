@@ -17,14 +17,14 @@ use Rattle.trace.specs.Said.{Said, bare}
 use Rattle.trace.specs.Records.{placeOf, namedIn, firstPlace, slotsIn}
 use Rattle.checker.specs.Causes.{slotLimit}
 use Rattle.checker.specs.Check.{recordFindings, recordsFindings, lastFindings, traceSaid}
-use Rattle.checker.specs.Walking.{givenTo, DueAre, Reached, Walked}
+use Rattle.checker.specs.Walking.{quantaAt, DueAre, Reached, Walked}
 use Rattle.checker.specs.Passes.{due}
 
 -- nothing has been given at the start
-nothing : (i : ℕ) → givenTo (replicate 32 0) i ≡ 0
+nothing : (i : ℕ) → quantaAt (replicate 32 0) i ≡ 0
 nothing i = go (decLt i 32)
   where
-    go : Dec (i < 32) → givenTo (replicate 32 0) i ≡ 0
+    go : Dec (i < 32) → quantaAt (replicate 32 0) i ≡ 0
     go (yes l) = getD-replicate 32 i 0 0 l
     go (no l) = List·getD-eq-default (replicate 32 0) 0 {n = i} (omega (arith, length-replicate {A = ℕ} 32 0))
 
@@ -33,14 +33,14 @@ module _ (table : Table) (s : List ℕ) where
   pub record Come (slots t at : ℕ) (counts dues : List ℕ) : Type 0 where
     pub reached : Reached table s t at counts dues
     pub within : t ≤ slots
-    pub count : slots ≡ slotsIn s
+    pub slot-count : slots ≡ slotsIn s
     pub few : slots ≤ slotLimit
     pub rest : traceSaid table s ≡ firstFound (bare 0) (recordsFindings table s t (slots - t) ++ lastFindings s)
 
   -- A trace without its count is cut,
-  pub count-is-cut : length s < 4 → bare 40 ≡ traceSaid table s
+  pub slot-count-is-cut : length s < 4 → bare 40 ≡ traceSaid table s
   unfolding traceSaid
-  count-is-cut h = sym (first-is-said (bare 0) (FirstFound.here (lt-ltb (length s) 4 h)))
+  slot-count-is-cut h = sym (first-is-said (bare 0) (FirstFound.here (lt-ltb (length s) 4 h)))
 
   module _ (there : 4 ≤ length s) where
     -- a count above its limit is too long,
@@ -66,7 +66,7 @@ module _ (table : Table) (s : List ℕ) where
                 };
               };
           within = omega arith;
-          count = e;
+          slot-count = e;
           few = few;
           rest =
               after-none (bare 0) (recordsFindings table s 0 (slotsIn s) ++ lastFindings s)
@@ -89,7 +89,7 @@ module _ (table : Table) (s : List ℕ) where
         record {
           reached = walked .reached;
           within = omega arith;
-          count = so .count;
+          slot-count = so .slot-count;
           few = so .few;
           rest =
               left
@@ -103,7 +103,7 @@ module _ (table : Table) (s : List ℕ) where
     last = so .rest ∙ ap (λ m. firstFound (bare 0) (recordsFindings table s t m ++ lastFindings s)) {x = slots - t} {y = 0} (omega arith)
 
     place-is : at ≡ placeOf s firstPlace (slotsIn s)
-    place-is = so .reached .place ∙ ap (placeOf s firstPlace) (omega (arith, so .within, so .count))
+    place-is = so .reached .place ∙ ap (placeOf s firstPlace) (omega (arith, so .within, so .slot-count))
 
     -- At the end there are bytes left,
     pub bytes-are-left : at < length s → bare 46 ≡ traceSaid table s

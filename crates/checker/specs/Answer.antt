@@ -2,7 +2,7 @@
 use Prim.Native.Nat.{ℕ}
 use Rattle.trace.specs.Said.{Said, bare, named}
 use Rattle.checker.specs.declared.TableFault.{TableFault}
-use Rattle.checker.specs.declared.TableFault.the-variants.{Ends, Format, Cycle, Cores, Boards, Count, Tanks, Cost, Weight, Period, Kind, After, Sum}
+use Rattle.checker.specs.declared.TableFault.the-variants.{Ends, Format, Cycle, Cores, Boards, RowCount, Tanks, Cost, Weight, Period, Kind, After, Sum}
 use Rattle.checker.specs.declared.Answer.{Answer}
 use Rattle.checker.specs.declared.Answer.the-variants.{Passed, Table, Cut, TooManyCores, TooManyRows, BadRow, Early, Late, Extra, TooLong}
 
@@ -13,7 +13,7 @@ faultNumber Format = 11
 faultNumber Cycle = 12
 faultNumber Cores = 13
 faultNumber Boards = 14
-faultNumber Count = 15
+faultNumber RowCount = 15
 faultNumber Tanks = 16
 faultNumber Cost = 17
 faultNumber Weight = 18

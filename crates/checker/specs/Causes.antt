@@ -12,7 +12,7 @@ use Rattle.table.specs.declared.Table.{Table}
 use Rattle.table.specs.Value.{rowsOf}
 use Rattle.pd2.specs.Ready.{ready, late}
 use Rattle.pd2.specs.Choice.{rowAt}
-use Rattle.trace.specs.Records.{freeAt, countAt, rowsAt, pastRecord, names, slotsIn, placeIn, rowsOfSlot, timesNamed}
+use Rattle.trace.specs.Records.{freeAt, pickedAt, rowsAt, pastRecord, names, slotsIn, placeIn, rowsOfSlot, timesNamed}
 
 -- "Slot count (4, at most 1,000,000,000)"
 abbrev pub slotLimit : ℕ
@@ -23,8 +23,8 @@ abbrev pub tooLong : List ℕ → Bool
 tooLong s = ltb slotLimit (slotsIn s)
 
 -- 40, "trace ends inside its count or a record": before its count is there,
-abbrev pub countCut : List ℕ → Bool
-countCut s = shorter s 4
+abbrev pub slotCountCut : List ℕ → Bool
+slotCountCut s = shorter s 4
 
 -- before the first two bytes of the record at a place are,
 abbrev pub headCut : List ℕ → ℕ → Bool
@@ -39,7 +39,7 @@ abbrev pub tooManyCores : ℕ → List ℕ → ℕ → Bool
 tooManyCores M s place = ltb M (freeAt s place)
 
 abbrev pub tooManyRows : List ℕ → ℕ → Bool
-tooManyRows s place = ltb (freeAt s place) (countAt s place)
+tooManyRows s place = ltb (freeAt s place) (pickedAt s place)
 
 -- 43, "row number not below n, or not rising": the least that may stand next is one above the last
 unfoldable pub badRows : ℕ → ℕ → List ℕ → Bool

@@ -9,7 +9,7 @@ use Rattle.table.specs.Value.{rowsOf}
 use Rattle.table.specs.Bytes.{tableNumber, tableIn}
 use Rattle.trace.specs.Records.{slotsIn, placeIn}
 use Rattle.trace.specs.Said.{Said, bare, named}
-use Rattle.checker.specs.Causes.{countCut, tooLong, headCut, tooManyCores, tooManyRows, rowsCut, badRow, tooEarly, tooLate, lowest, anyRow, extra}
+use Rattle.checker.specs.Causes.{slotCountCut, tooLong, headCut, tooManyCores, tooManyRows, rowsCut, badRow, tooEarly, tooLate, lowest, anyRow, extra}
 
 -- "and for each record 40 (its first two bytes), 41, 42, 40 (its rows), 43 ..": what is looked for in the shape of the record at a place,
 -- for a table of M cores and n rows
@@ -41,8 +41,8 @@ recordsFindings table s t (suc m) =
     recordFindings table s t ++ later
 
 -- "40 for the count, 47 ..": before the records
-abbrev pub countFindings : List ℕ → List (Finding Said)
-countFindings s = (countCut s says bare 40) ∷ (tooLong s says bare 47) ∷ []
+abbrev pub slotCountFindings : List ℕ → List (Finding Said)
+slotCountFindings s = (slotCountCut s says bare 40) ∷ (tooLong s says bare 47) ∷ []
 
 -- "Last 46."
 abbrev pub lastFindings : List ℕ → List (Finding Said)
@@ -50,7 +50,7 @@ lastFindings s = (extra s says bare 46) ∷ []
 
 -- all that is looked for in a trace, in order
 abbrev pub traceFindings : Table → List ℕ → List (Finding Said)
-traceFindings table s = countFindings s ++ (recordsFindings table s 0 (slotsIn s) ++ lastFindings s)
+traceFindings table s = slotCountFindings s ++ (recordsFindings table s 0 (slotsIn s) ++ lastFindings s)
 
 unfoldable pub traceSaid : Table → List ℕ → Said
 traceSaid table s = firstFound (bare 0) (traceFindings table s)

@@ -11,7 +11,7 @@ use Rattle.table.specs.declared.Row.{Row}
 use Rattle.table.specs.declared.Table.{Table}
 use Rattle.table.specs.Value.{faultOf, rowsOf}
 use Rattle.table.specs.Bytes.{tableNumber, tableIn}
-use Rattle.pd2.specs.Ready.{origin, early}
+use Rattle.pd2.specs.Ready.{originOf, isEarlyRelease}
 use Rattle.pd2.specs.Share.{within}
 use Rattle.pd2.specs.Choice.{rowAt}
 use Rattle.trace.specs.Records.{names, slotsIn, rowsOfSlot, timesNamed}
@@ -47,10 +47,10 @@ BareUnlessNamed =
 -- "Allowed slots: r up to d-1; in an early-release row they begin at its job's start instead": the first allowed slot of subtask i
 abbrev pub firstAllowed : Row → ℕ → ℕ
 firstAllowed row i =
-    cond (early row) (jobStart (row .cost) (row .period) (origin row) i) (start (row .cost) (row .period) (origin row) i)
+    cond (isEarlyRelease row) (jobStart (row .cost) (row .period) (originOf row) i) (start (row .cost) (row .period) (originOf row) i)
 
 abbrev pub due : Row → ℕ → ℕ
-due row i = deadline (row .cost) (row .period) (origin row) i
+due row i = deadline (row .cost) (row .period) (originOf row) i
 
 -- Slot t holds subtask i of the row: its record names the row, and i - 1 records before it do.
 abbrev pub Holds : List ℕ → ℕ → ℕ → ℕ → Type 0

@@ -16,7 +16,7 @@ use Rattle.pd2.specs.Ready.{ready}
 use Rattle.pd2.specs.Share.{CanBe}
 use Rattle.pd2.specs.Choice.{rowAt}
 use Rattle.trace.specs.Said.{bare}
-use Rattle.trace.specs.Records.{countAt, pastRecord, names, placeIn, timesNamed}
+use Rattle.trace.specs.Records.{pickedAt, pastRecord, names, placeIn, timesNamed}
 use Rattle.checker.specs.declared.Answer.{Answer}
 use Rattle.checker.specs.Answer.{saidOf}
 use Rattle.checker.specs.Causes.{slotLimit, badRows, badRow}
@@ -26,18 +26,18 @@ use Rattle.checker.specs.Passes.{due}
 -- A table without fault, whose rows stand in their array.
 pub record CanCheck (table : Table) : Type 0 where
   pub sound : faultOf table ≡ 0
-  pub few : table .count ≤ rowLimit
-  pub all : length (rowsOf table) ≡ table .count
+  pub few : table .n ≤ rowLimit
+  pub all : length (rowsOf table) ≡ table .n
 
 -- how many quanta a row has been given, by the array of counts
-abbrev pub givenTo : List ℕ → ℕ → ℕ
-givenTo counts i = getD counts i 0
+abbrev pub quantaAt : List ℕ → ℕ → ℕ
+quantaAt counts i = getD counts i 0
 
 -- The rows can be asked: their quanta and the time are within their limits.
 pub record Askable (table : Table) (counts : List ℕ) (t : ℕ) : Type 0 where
   pub can : CanCheck table
   pub long : length counts ≡ rowLimit
-  pub few : (i : ℕ) → i < length (rowsOf table) → givenTo counts i ≤ t
+  pub few : (i : ℕ) → i < length (rowsOf table) → quantaAt counts i ≤ t
   pub time : t ≤ slotLimit
 
 -- A row can be asked when its next quantum is due.
@@ -55,7 +55,7 @@ pub record Reached (table : Table) (s : List ℕ) (t at : ℕ) (counts dues : Li
   pub place : at ≡ placeIn s t
   pub inside : at ≤ length s
   pub long : length counts ≡ rowLimit
-  pub quanta : (i : ℕ) → i < length (rowsOf table) → givenTo counts i ≡ timesNamed s i t
+  pub quanta : (i : ℕ) → i < length (rowsOf table) → quantaAt counts i ≡ timesNamed s i t
   pub few : (i : ℕ) → timesNamed s i t ≤ t
   pub due : DueAre table (λ i. timesNamed s i t) dues
 
@@ -76,35 +76,35 @@ pub record Leads (table : Table) (s : List ℕ) (t : ℕ) (ended : Bool) (answer
 
 -- What reading the record at a place leads to, for a table of M cores and n rows: where its rows begin and how many there are, if it is sound;
 -- or the number of what is found first.
-pub record Read (M n : ℕ) (s : List ℕ) (at first count : ℕ) : Type 0 where
+pub record Read (M n : ℕ) (s : List ℕ) (at first picked : ℕ) : Type 0 where
   pub sound : NoneFound (shapeAt M n s at)
   pub begins : first ≡ at + 2
-  pub all : count ≡ countAt s at
+  pub all : picked ≡ pickedAt s at
   pub inside : pastRecord s at ≤ length s
   pub rise : badRow n s at ≡ false
 
-pub record ReadLeads (M n : ℕ) (s : List ℕ) (at number first count : ℕ) : Type 0 where
-  pub read : number ≡ 0 → Read M n s at first count
+pub record ReadLeads (M n : ℕ) (s : List ℕ) (at number first picked : ℕ) : Type 0 where
+  pub read : number ≡ 0 → Read M n s at first picked
   pub refused : (number ≡ 0 → ⊥) → (40 ≤ number) × (number ≤ 43) × FirstFound (shapeAt M n s at) (bare number)
 
 -- Row i is named and not ready.
 abbrev pub isEarly : Table → List ℕ → List ℕ → ℕ → ℕ → Bool
-isEarly table counts rows t i = names rows i && not (ready (rowAt (rowsOf table) i) (givenTo counts i) t)
+isEarly table counts rows t i = names rows i && not (ready (rowAt (rowsOf table) i) (quantaAt counts i) t)
 
 -- Each row that is named has one quantum more.
 pub record GaveNamed (rows : List ℕ) (before after : List ℕ) : Type 0 where
   pub places : length after ≡ length before
-  pub each : (i : ℕ) → givenTo after i ≡ cond (names rows i) (kept (givenTo before i + 1)) (givenTo before i)
+  pub each : (i : ℕ) → quantaAt after i ≡ cond (names rows i) (kept (quantaAt before i + 1)) (quantaAt before i)
 
 -- The c rows from a place on can be given quanta: they lie inside the trace, they rise, and the rows can be asked.
 pub record CanGive (table : Table) (s : List ℕ) (first c : ℕ) (counts : List ℕ) (t : ℕ) (dues : List ℕ) : Type 0 where
   pub inside : first + c ≤ length s
   pub rise : badRows (length (rowsOf table)) 0 (take c (drop first s)) ≡ false
   pub ask : Askable table counts t
-  pub due : DueAre table (givenTo counts) dues
+  pub due : DueAre table (quantaAt counts) dues
 
 -- What giving leads to: the lowest row that is early; and if there is none, each named row has one quantum more, and is due as its next one is.
-pub record Gave (table : Table) (rows : List ℕ) (before : List ℕ) (t early : ℕ) (after dues : List ℕ) : Type 0 where
-  pub lowest : Lowest (isEarly table before rows t) (length (rowsOf table)) early
-  pub gave : length (rowsOf table) ≤ early → GaveNamed rows before after
-  pub due : length (rowsOf table) ≤ early → DueAre table (givenTo after) dues
+pub record Gave (table : Table) (rows : List ℕ) (before : List ℕ) (t lowest-early : ℕ) (after dues : List ℕ) : Type 0 where
+  pub lowest : Lowest (isEarly table before rows t) (length (rowsOf table)) lowest-early
+  pub gave : length (rowsOf table) ≤ lowest-early → GaveNamed rows before after
+  pub due : length (rowsOf table) ≤ lowest-early → DueAre table (quantaAt after) dues

@@ -19,7 +19,7 @@ pub(crate) fn first_dues(table: Table) -> [u64; 32]
     ensures { λ r. ⌜ DueAre table (λ _. 0) r ⌝ }
 {
     let mut dues = [0u64; 32];
-    let n = table.count as usize;
+    let n = table.n as usize;
     let mut i: usize = 0;
     while i < n {
         let row = table.rows[i];
@@ -55,7 +55,7 @@ pub(crate) fn give(
     requires { ⌜ CanGive table (now trace) first c (now counts) (slot .0) (now dues) ⌝ }
     ensures { λ r. ⌜ Gave table (take c (drop first (now (trace .entry)))) (now (counts .entry)) (slot .0) r (now (counts .exit)) (now (dues .exit)) ⌝ }
 {
-    let n = table.count as usize;
+    let n = table.n as usize;
     let mut j: usize = 0;
     while j < c {
         let i = fields::byte(trace, first + j) as usize;

@@ -17,7 +17,7 @@ ghost use Rattle.checker.specs.Walking.{CanJudge, Leads, ReadLeads};
 struct RecordRead {
     number: u8,
     first: usize,
-    count: usize,
+    picked: usize,
 }
 
 // Judges the record of a slot and goes behind it.
@@ -32,21 +32,21 @@ pub(crate) fn judge(
     requires { ⌜ CanJudge table (now trace) (slot .0) at (now counts) (now dues) ⌝ }
     ensures { λ r. ⌜ Leads table (now (trace .entry)) (slot .0) (r .ended) (r .answer) (r .next) (now (counts .exit)) (now (dues .exit)) ⌝ }
 {
-    let read = read_at(table.cores, table.count, trace, at);
+    let read = read_at(table.cores, table.n, trace, at);
     if read.number != 0 {
         return refused(read.number);
     }
-    let n = table.count as usize;
-    let early = giving::give(trace, read.first, read.count, table, counts, dues, slot);
-    if early < n {
-        return early_in(early, slot);
+    let n = table.n as usize;
+    let lowest_early = giving::give(trace, read.first, read.picked, table, counts, dues, slot);
+    if lowest_early < n {
+        return early_in(lowest_early, slot);
     }
     let time = slot.later(1);
     let late = giving::lowest_late(dues, n, time);
     if late < n {
         return late_at(late, time);
     }
-    let next = read.first + read.count;
+    let next = read.first + read.picked;
     Step {
         ended: false,
         answer: Answer::Passed,
@@ -110,20 +110,20 @@ fn ended(answer: Answer) -> Step
 // Reads the record at a place, and judges its shape, for a table of so many cores and of n rows.
 fn read_at(cores: u8, n: u8, trace: &[u8], at: usize) -> RecordRead
     requires { ⌜ (n ≤ 32) × (at ≤ length (now trace)) ⌝ }
-    ensures { λ r. ⌜ ReadLeads cores n (now (trace .entry)) at (r .number) (r .first) (r .count) ⌝ }
+    ensures { λ r. ⌜ ReadLeads cores n (now (trace .entry)) at (r .number) (r .first) (r .picked) ⌝ }
 {
     if trace.len() - at < 2 {
         return found(40);
     }
     let free = fields::byte(trace, at);
-    let count = fields::byte(trace, at + 1);
+    let picked = fields::byte(trace, at + 1);
     if cores < free {
         return found(41);
     }
-    if free < count {
+    if free < picked {
         return found(42);
     }
-    let c = count as usize;
+    let c = picked as usize;
     let first = at + 2;
     if trace.len() - first < c {
         return found(40);
@@ -134,7 +134,7 @@ fn read_at(cores: u8, n: u8, trace: &[u8], at: usize) -> RecordRead
     RecordRead {
         number: 0,
         first,
-        count: c,
+        picked: c,
     }
 }
 
@@ -144,7 +144,7 @@ fn found(number: u8) -> RecordRead
     RecordRead {
         number,
         first: 0,
-        count: 0,
+        picked: 0,
     }
 }
 

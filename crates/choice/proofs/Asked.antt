@@ -17,7 +17,7 @@ use Rattle.windows.proofs.Next.{due-in-reach, next-in-reach}
 use Rattle.windows.specs.Windows.{deadline, bit}
 use Rattle.windows.proofs.Windows.{deadline-is-near}
 use Rattle.table.specs.declared.Row.{Row}
-use Rattle.pd2.specs.Ready.{origin, ready}
+use Rattle.pd2.specs.Ready.{originOf, ready}
 use Rattle.pd2.specs.Verdict.{answered}
 use Rattle.pd2.specs.Choice.{rowAt, quantaAt}
 use Rattle.pd2.proofs.Verdicts.{in-reach, yes-is-answered}
@@ -49,29 +49,29 @@ unready-key row q t h = rw h (refl, λ e. absurd (false≢true e))
 
 module _ (row : Row) (q : ℕ) (u : HasWindow row q) where
   -- Its windows are within reach, since a phase is.
-  pub row-in-reach : row .phase < 65_536 → InReach (row .cost) (row .period) (origin row) q
+  pub row-in-reach : row .phase < 65_536 → InReach (row .cost) (row .period) (originOf row) q
   row-in-reach small = record { cost = u .cost; weight = u .weight; origin = omega arith; quanta = u .quanta }
 
   -- When its next quantum is due is answered,
-  pub due-is-said : row .phase < 65_536 → {o : ℕ} → o ≡ origin row → {r : Due} → r ≡ nextDue (row .cost) (row .period) o q →
-      r ≡ By (record { 0 = deadline (row .cost) (row .period) (origin row) (q + 1) }) (bit (row .cost) (row .period) (q + 1))
+  pub due-is-said : row .phase < 65_536 → {o : ℕ} → o ≡ originOf row → {r : Due} → r ≡ nextDue (row .cost) (row .period) o q →
+      r ≡ By (record { 0 = deadline (row .cost) (row .period) (originOf row) (q + 1) }) (bit (row .cost) (row .period) (q + 1))
   due-is-said small same e = rw (e, same) (due-in-reach (row-in-reach small))
 
   -- and its group deadline.
-  pub group-is-said : row .phase < 65_536 → {o : ℕ} → o ≡ origin row → {r : Moment} → r ≡ next groupDeadline (row .cost) (row .period) o q →
-      r ≡ At (record { 0 = groupDeadline (row .cost) (row .period) (origin row) (q + 1) })
+  pub group-is-said : row .phase < 65_536 → {o : ℕ} → o ≡ originOf row → {r : Moment} → r ≡ next groupDeadline (row .cost) (row .period) o q →
+      r ≡ At (record { 0 = groupDeadline (row .cost) (row .period) (originOf row) (q + 1) })
   group-is-said small same e = rw (e, same) (next-in-reach groupDeadline (row-in-reach small))
 
   -- Its deadline is far from the largest number.
-  pub deadline-is-small : row .phase < 65_536 → row .period < 65_536 → deadline (row .cost) (row .period) (origin row) (q + 1) < 5_000_000_000_000_000_000
+  pub deadline-is-small : row .phase < 65_536 → row .period < 65_536 → deadline (row .cost) (row .period) (originOf row) (q + 1) < 5_000_000_000_000_000_000
   deadline-is-small phase period =
-      let near = deadline-is-near (row .cost) (row .period) (origin row) (q + 1) (u .cost) in
+      let near = deadline-is-near (row .cost) (row .period) (originOf row) (q + 1) (u .cost) in
       let product = mul-le-mul {n₁ = q + 1} {m₁ = row .period} {n₂ = 70_368_744_177_665} {m₂ = 65_535} (omega (arith, u .quanta)) (omega arith) in
       omega arith
 
   -- The key of a row that is ready.
   pub ready-key : row .phase < 65_536 → row .period < 65_536 → (t : ℕ) → saysReady row q t ≡ true → {d b : ℕ} →
-      d ≡ deadline (row .cost) (row .period) (origin row) (q + 1) → b ≡ bit (row .cost) (row .period) (q + 1) →
+      d ≡ deadline (row .cost) (row .period) (originOf row) (q + 1) → b ≡ bit (row .cost) (row .period) (q + 1) →
       (2 * d + (1 - b) ≡ keyOf row q t) × (saysReady row q t ≡ true → 2 * d + (1 - b) < most)
   unfolding keyOf
   ready-key phase period t h pd pb =
@@ -79,7 +79,7 @@ module _ (row : Row) (q : ℕ) (u : HasWindow row q) where
       rw (h, pd, pb) (refl, λ e. omega arith)
 
   -- The group deadline that is asked for,
-  pub group-asked : (key class : ℕ) → key ≡ class → (class % 2 ≡ 1 → ⊥) → {D : ℕ} → D ≡ groupDeadline (row .cost) (row .period) (origin row) (q + 1) →
+  pub group-asked : (key class : ℕ) → key ≡ class → (class % 2 ≡ 1 → ⊥) → {D : ℕ} → D ≡ groupDeadline (row .cost) (row .period) (originOf row) (q + 1) →
       D ≡ groupOf row q key class
   unfolding groupOf
   group-asked key class same even e = rw (eq-eqb key class same, ne-eqb (class % 2) 1 even) e

@@ -16,38 +16,38 @@ use Rattle.table.specs.declared.Row.{Row}
 use Rattle.pd2.specs.Verdict.{answered}
 use Rattle.pd2.specs.Order.{before}
 use Rattle.pd2.specs.Picks.{ahead, picked}
-use Rattle.pd2.specs.Choice.{readyIn, firstBy}
+use Rattle.pd2.specs.Choice.{readyIn, goesBeforeBy}
 use Rattle.pd2.proofs.Verdicts.{yes-when-answered}
 use Rattle.trace.specs.Record.{marked}
 use Rattle.trace.specs.Records.{names}
 use Rattle.trace.proofs.Records.{listed-are-named}
 use Rattle.choice.specs.Arrays.{InPlace}
-use Rattle.choice.specs.Choice.{readyAt, chosen, ChosenAsPd2}
+use Rattle.choice.specs.Choice.{saysReadyIn, chosen, ChosenAsPd2}
 
 -- for callers
 
 -- Where every row is answered, the rows that are chosen are those that PD2 picks.
 pub chosen-as-pd2 : ChosenAsPd2
 unfolding picked
-chosen-as-pd2 rows quanta t k all = same-list (picked asked first n k) (picked (readyIn rows quanta t) first n k) n each
+chosen-as-pd2 rows quanta t k all = same-list (picked asked goesBefore n k) (picked (readyIn rows quanta t) goesBefore n k) n each
   where
     n : ℕ
     n = length rows
 
     asked : ℕ → Bool
-    asked = readyAt rows quanta t
+    asked = saysReadyIn rows quanta t
 
-    first : ℕ → ℕ → Bool
-    first = firstBy before rows quanta
+    goesBefore : ℕ → ℕ → Bool
+    goesBefore = goesBeforeBy before rows quanta
 
     same : (i : ℕ) → i < n → asked i ≡ readyIn rows quanta t i
     same i l = yes-when-answered (readyIn rows quanta t i) (all i l)
 
-    each : (i : ℕ) → i < n → asked i && ltb (ahead asked first n i) k ≡ readyIn rows quanta t i && ltb (ahead (readyIn rows quanta t) first n i) k
+    each : (i : ℕ) → i < n → asked i && ltb (ahead asked goesBefore n i) k ≡ readyIn rows quanta t i && ltb (ahead (readyIn rows quanta t) goesBefore n i) k
     each i l =
         rw (same i l)
         (ap (λ c. readyIn rows quanta t i && ltb c k)
-        (same-count (λ j. asked j && first j i) (λ j. readyIn rows quanta t j && first j i) n (λ j m. ap (λ b. b && first j i) (same j m))))
+        (same-count (λ j. asked j && goesBefore j i) (λ j. readyIn rows quanta t j && goesBefore j i) n (λ j m. ap (λ b. b && goesBefore j i) (same j m))))
 
 -- Marks that name the same rows are the same,
 same-marks : (a b : List Bool) → length a ≡ length b → marked a ≡ marked b → a ≡ b

@@ -16,19 +16,19 @@ use Rattle.choice.specs.Classes.{IsCut, tied, inCut}
 
 -- Each row has a key, the largest number if it is not ready. Row j goes before row i by its key, or by `sub` where the keys are equal.
 module _
-    (ready : ℕ → Bool) (first sub : ℕ → ℕ → Bool) (key : ℕ → ℕ) (n : ℕ)
+    (ready : ℕ → Bool) (goesBefore sub : ℕ → ℕ → Bool) (key : ℕ → ℕ) (n : ℕ)
     (unready : (i : ℕ) → i < n → ready i ≡ false → key i ≡ most)
     (isReady : (i : ℕ) → i < n → ready i ≡ true → key i < most)
-    (byKey : (j i : ℕ) → j < n → i < n → ready j ≡ true → ready i ≡ true → first j i ≡ ltb (key j) (key i) || (eqb (key j) (key i) && sub j i))
+    (byKey : (j i : ℕ) → j < n → i < n → ready j ≡ true → ready i ≡ true → goesBefore j i ≡ ltb (key j) (key i) || (eqb (key j) (key i) && sub j i))
     (irreflexive : (i : ℕ) → i < n → sub i i ≡ false) where
   -- a ready row is passed by those of smaller keys, and in its class by those that `sub` puts first
   abbrev passes : ℕ → ℕ → Bool
   passes i j = ltb (key j) (key i) || (eqb (key j) (key i) && sub j i)
 
-  goes-ahead : (i : ℕ) → i < n → ready i ≡ true → (j : ℕ) → j < n → ready j && first j i ≡ passes i j
+  goes-ahead : (i : ℕ) → i < n → ready i ≡ true → (j : ℕ) → j < n → ready j && goesBefore j i ≡ passes i j
   goes-ahead i l h j k = go (ready j) refl
     where
-      go : (x : Bool) → ready j ≡ x → ready j && first j i ≡ passes i j
+      go : (x : Bool) → ready j ≡ x → ready j && goesBefore j i ≡ passes i j
       go true e = rw (e, byKey j i k l e h)
       go false e =
           let far = unready j k e in
@@ -36,20 +36,20 @@ module _
           rw e (sym (simp (le-ltb (key j) (key i) (omega arith), ne-eqb (key j) (key i) (λ s. omega arith))))
 
   ahead-is : (i : ℕ) → i < n → ready i ≡ true →
-      ahead ready first n i ≡ howMany (λ j. ltb (key j) (key i)) n + howMany (λ j. eqb (key j) (key i) && sub j i) n
+      ahead ready goesBefore n i ≡ howMany (λ j. ltb (key j) (key i)) n + howMany (λ j. eqb (key j) (key i) && sub j i) n
   ahead-is i l h =
-      counts-apart (λ j. ltb (key j) (key i)) (λ j. eqb (key j) (key i) && sub j i) (λ j. ready j && first j i) n
+      counts-apart (λ j. ltb (key j) (key i)) (λ j. eqb (key j) (key i) && sub j i) (λ j. ready j && goesBefore j i) n
       (goes-ahead i l h)
       (λ j k e. let below = ltb-true (key j) (key i) e in rw (ne-eqb (key j) (key i) (λ s. omega arith)))
 
   module _ {k class left : ℕ} (cut : IsCut key n k class left) where
     -- A ready row before the class is picked: fewer than k rows go before it.
-    before-class : (i : ℕ) → i < n → ready i ≡ true → key i < class → ltb (ahead ready first n i) k ≡ true
+    before-class : (i : ℕ) → i < n → ready i ≡ true → key i < class → ltb (ahead ready goesBefore n i) k ≡ true
     before-class i l h below =
-        lt-ltb (ahead ready first n i) k
+        lt-ltb (ahead ready goesBefore n i) k
         (omega (
           arith,
-          same-count (λ j. ready j && first j i) (passes i) n (goes-ahead i l h),
+          same-count (λ j. ready j && goesBefore j i) (passes i) n (goes-ahead i l h),
           counts-fewer (passes i) (λ j. ltb (key j) class) n i l inside itself (lt-ltb _ _ below),
           cut .fits,
         ))
@@ -65,12 +65,12 @@ module _
         itself = let same : key i ≤ key i = omega arith in simp (le-ltb _ _ same, eq-eqb (key i) (key i) refl, irreflexive i l)
 
     -- A row behind the class is not: the rows before the class and `left` of the class go before it.
-    behind-class : (i : ℕ) → i < n → ready i ≡ true → class < key i → ltb (ahead ready first n i) k ≡ false
+    behind-class : (i : ℕ) → i < n → ready i ≡ true → class < key i → ltb (ahead ready goesBefore n i) k ≡ false
     behind-class i l h above =
         let near = isReady i l h in
         let sum = counts-apart (λ j. ltb (key j) class) (λ j. eqb (key j) class) (λ j. ltb (key j) class || eqb (key j) class) n
         (λ j m. refl) (λ j m e. let below = ltb-true (key j) class e in ne-eqb (key j) class (λ s. omega arith)) in
-        le-ltb (ahead ready first n i) k
+        le-ltb (ahead ready goesBefore n i) k
         (omega (
           arith,
           ahead-is i l h,
@@ -88,7 +88,7 @@ module _
             go (inr x) = lt-ltb (key j) (key i) (omega (arith, eqb-true (key j) class x))
 
     -- In the class it depends on how many of the class go before it.
-    in-class : (i : ℕ) → i < n → ready i ≡ true → key i ≡ class → ltb (ahead ready first n i) k ≡ ltb (howMany (λ j. eqb (key j) (key i) && sub j i) n) left
+    in-class : (i : ℕ) → i < n → ready i ≡ true → key i ≡ class → ltb (ahead ready goesBefore n i) k ≡ ltb (howMany (λ j. eqb (key j) (key i) && sub j i) n) left
     in-class i l h same =
         let near = isReady i l h in
         let whole = ahead-is i l h in
@@ -104,7 +104,7 @@ module _
 
     module _ (group : ℕ → ℕ) (ties : (j i : ℕ) → j < n → i < n → 0 < left → key j ≡ class → key i ≡ class → class < most → tied key group j i ≡ eqb (key j) (key i) && sub j i) where
       -- PD2's rule picks exactly the rows that the cut takes.
-      pub cut-takes-picked : (i : ℕ) → i < n → inCut key group n class left i ≡ picked ready first n k i
+      pub cut-takes-picked : (i : ℕ) → i < n → inCut key group n class left i ≡ picked ready goesBefore n k i
       unfolding inCut picked
       cut-takes-picked i l = go (ready i) refl
         where
@@ -118,10 +118,10 @@ module _
                   here (yes e) = ties j i m l some (e ∙ same) same low
                   here (no e) = rw (ne-eqb (key j) (key i) e)
 
-          within : key i ≡ class → ready i ≡ true → ltb (howMany (λ j. tied key group j i) n) left ≡ ltb (ahead ready first n i) k
+          within : key i ≡ class → ready i ≡ true → ltb (howMany (λ j. tied key group j i) n) left ≡ ltb (ahead ready goesBefore n i) k
           within same h = some (decLt 0 left)
             where
-              some : Dec (0 < left) → ltb (howMany (λ j. tied key group j i) n) left ≡ ltb (ahead ready first n i) k
+              some : Dec (0 < left) → ltb (howMany (λ j. tied key group j i) n) left ≡ ltb (ahead ready goesBefore n i) k
               some (yes m) =
                   ap (λ x. ltb x left) (tie-is m same (omega (arith, isReady i l h))) ∙ sym (in-class i l h same)
               some (no m) =
@@ -129,7 +129,7 @@ module _
                   ∙ (sym (le-ltb (howMany (λ j. eqb (key j) (key i) && sub j i) n) left (omega arith)) ∙ sym (in-class i l h same))
 
           place : ready i ≡ true → Dec (key i < class) → Dec (class < key i) →
-              ltb (key i) class || (not (ltb class (key i)) && ltb (howMany (λ j. tied key group j i) n) left) ≡ ltb (ahead ready first n i) k
+              ltb (key i) class || (not (ltb class (key i)) && ltb (howMany (λ j. tied key group j i) n) left) ≡ ltb (ahead ready goesBefore n i) k
           place h (yes m) d = rw (lt-ltb (key i) class m) (sym (before-class i l h m))
           place h (no m) (yes b) = rw (le-ltb (key i) class (omega arith), lt-ltb class (key i) b) (sym (behind-class i l h b))
           place h (no m) (no b) = rw (le-ltb (key i) class (omega arith), le-ltb class (key i) (omega arith)) (within (omega arith) h)
@@ -142,6 +142,6 @@ module _
               (le-ltb (howMany (λ j. tied key group j i) n) left (omega arith))
 
           go : (x : Bool) → ready i ≡ x →
-              ltb (key i) class || (not (ltb class (key i)) && ltb (howMany (λ j. tied key group j i) n) left) ≡ ready i && ltb (ahead ready first n i) k
-          go true h = place h (decLt (key i) class) (decLt class (key i)) ∙ sym (ap (λ x. x && ltb (ahead ready first n i) k) h)
-          go false h = far (unready i l h) (decLt class (key i)) ∙ sym (ap (λ x. x && ltb (ahead ready first n i) k) h)
+              ltb (key i) class || (not (ltb class (key i)) && ltb (howMany (λ j. tied key group j i) n) left) ≡ ready i && ltb (ahead ready goesBefore n i) k
+          go true h = place h (decLt (key i) class) (decLt class (key i)) ∙ sym (ap (λ x. x && ltb (ahead ready goesBefore n i) k) h)
+          go false h = far (unready i l h) (decLt class (key i)) ∙ sym (ap (λ x. x && ltb (ahead ready goesBefore n i) k) h)

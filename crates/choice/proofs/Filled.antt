@@ -18,7 +18,7 @@ use Rattle.table.specs.declared.Row.{Row}
 use Rattle.pd2.specs.Choice.{rowAt, quantaAt}
 use Rattle.trace.specs.Record.{marked}
 use Rattle.choice.specs.Arrays.{InPlace}
-use Rattle.choice.specs.Choice.{numbersOf, saysReady, readyAt}
+use Rattle.choice.specs.Choice.{numbersOf, saysReady, saysReadyIn}
 use Rattle.choice.specs.Classes.{keyOf, keyIn, KeysAre, groupOf, HasWindow, GroupsAre, tied, inCut}
 use Rattle.pd2.proofs.Choice.{row-there}
 use Rattle.choice.proofs.Arrays.{quanta-there}
@@ -58,7 +58,7 @@ marks-are a n marks {i} so same few = (
 -- The keys of the first i rows stand in the array.
 pub record Keyed (rows : List Row) (quanta : List ℕ) (t : ℕ) (keys : List ℕ) (i : ℕ) : Type 0 where
   pub keyed : Filled (λ j. keyOf (rowAt rows j) (quantaAt quanta j) t) most 0 32 i keys
-  pub low : (j : ℕ) → j < i → readyAt rows quanta t j ≡ true → keyIn keys j < most
+  pub low : (j : ℕ) → j < i → saysReadyIn rows quanta t j ≡ true → keyIn keys j < most
 
 pub no-keys-yet : (rows : List Row) (quanta : List ℕ) (t : ℕ) → Keyed rows quanta t (replicate 32 most) 0
 no-keys-yet rows quanta t = record { keyed = filling-begins _ _ _ _; low = λ j l. absurd (omega arith) }
@@ -83,7 +83,7 @@ module _ {rows : List Row} {quanta : List Quanta} {n : ℕ} (place : InPlace row
       record { keyed = fills-one-more _ _ _ _ (so .keyed) room (is .0); low = λ j m h. low j m h (decLt j i) (is .1) }
     where
       isReady : ℕ → Type 0
-      isReady j = readyAt (take n rows) (numbersOf quanta) t j ≡ true
+      isReady j = saysReadyIn (take n rows) (numbersOf quanta) t j ≡ true
 
       low : (j : ℕ) → j < i + 1 → isReady j → Dec (j < i) → (isReady i → v < most) → keyIn (set keys i v) j < most
       low j m h (yes k) own = rw (getD-set-other keys i j v 0 (λ same. omega arith)) (so .low j k h)

@@ -17,8 +17,8 @@ use Rattle.windows.proofs.Windows.{bit-is-0-or-1}
 use Rattle.table.specs.declared.Row.{Row}
 use Rattle.pd2.specs.Order.{Rank, rankOf, before}
 use Rattle.pd2.specs.Picks.{picked}
-use Rattle.pd2.specs.Choice.{rowAt, quantaAt, firstBy}
-use Rattle.choice.specs.Choice.{readyAt, chosen}
+use Rattle.pd2.specs.Choice.{rowAt, quantaAt, goesBeforeBy}
+use Rattle.choice.specs.Choice.{saysReadyIn, chosen}
 use Rattle.choice.specs.Classes.{keyFor, keyOf, keyIn, KeysAre, IsCut, groupOf, groupIn, GroupsAre, larger, tied, inCut}
 use Rattle.choice.proofs.KeyOrder.{tie, before-is-by-key}
 use Rattle.choice.proofs.Classes.{cut-takes-picked}
@@ -43,7 +43,7 @@ module _ (rows : List Row) (quanta : List ℕ) (t k : ℕ) (keys groups : List �
   rank i = rankOf (rowAt rows i) i (quantaAt quanta i)
 
   abbrev isReady : ℕ → Bool
-  isReady = readyAt rows quanta t
+  isReady = saysReadyIn rows quanta t
 
   abbrev n : ℕ
   n = length rows
@@ -68,7 +68,7 @@ module _ (rows : List Row) (quanta : List ℕ) (t k : ℕ) (keys groups : List �
       go false e = absurd (omega (arith, unready-key i l e))
 
   by-key : (j i : ℕ) → j < n → i < n → isReady j ≡ true → isReady i ≡ true →
-      firstBy before rows quanta j i ≡ ltb (keyIn keys j) (keyIn keys i) || (eqb (keyIn keys j) (keyIn keys i) && tie (rank j) (rank i))
+      goesBeforeBy before rows quanta j i ≡ ltb (keyIn keys j) (keyIn keys i) || (eqb (keyIn keys j) (keyIn keys i) && tie (rank j) (rank i))
   by-key j i lj li hj hi = rw (ready-key j lj hj, ready-key i li hi) (before-is-by-key (rank j) (rank i) (bit-of j) (bit-of i))
 
   -- in the class that is cut, group deadlines decide as PD2's rule does
@@ -110,8 +110,8 @@ module _ (rows : List Row) (quanta : List ℕ) (t k : ℕ) (keys groups : List �
   -- So the rows in the cut are those that are chosen.
   pub cut-picks : those (inCut (keyIn keys) (groupIn groups) (length rows) class left) (length rows) ≡ chosen rows quanta t k
   cut-picks =
-      same-list (inCut (keyIn keys) (groupIn groups) n class left) (picked isReady (firstBy before rows quanta) n k) n
-      (cut-takes-picked isReady (firstBy before rows quanta) (λ j i. tie (rank j) (rank i)) (keyIn keys) n unready-key
+      same-list (inCut (keyIn keys) (groupIn groups) n class left) (picked isReady (goesBeforeBy before rows quanta) n k) n
+      (cut-takes-picked isReady (goesBeforeBy before rows quanta) (λ j i. tie (rank j) (rank i)) (keyIn keys) n unready-key
       (λ i l h. keyed .low i l h) by-key (λ i l. tie-is-irreflexive (rank i)) cut (groupIn groups) ties)
 
 -- For the caller: the rows that are found are the picks, where the class is cut,

@@ -10,7 +10,7 @@ use Rattle.pd2.specs.Verdict.{isYes, answered, verdict}
 use Rattle.pd2.specs.Ready.{ready}
 use Rattle.pd2.specs.Order.{before}
 use Rattle.pd2.specs.Picks.{picks}
-use Rattle.pd2.specs.Choice.{rowAt, quantaAt, firstBy, pd2Picks}
+use Rattle.pd2.specs.Choice.{rowAt, quantaAt, goesBeforeBy, pd2Picks}
 
 -- the numbers that counts of quanta hold
 abbrev pub numbersOf : List Quanta → List ℕ
@@ -21,12 +21,12 @@ abbrev pub saysReady : Row → ℕ → ℕ → Bool
 saysReady row q t = isYes (verdict (answered row q t) (ready row q t))
 
 -- Row i is.
-abbrev pub readyAt : List Row → List ℕ → ℕ → ℕ → Bool
-readyAt rows quanta t i = saysReady (rowAt rows i) (quantaAt quanta i) t
+abbrev pub saysReadyIn : List Row → List ℕ → ℕ → ℕ → Bool
+saysReadyIn rows quanta t i = saysReady (rowAt rows i) (quantaAt quanta i) t
 
 -- "The first min(free cores, ready rows) are picked", in PD2's order
 abbrev pub chosen : List Row → List ℕ → ℕ → ℕ → List ℕ
-chosen rows quanta t k = picks (readyAt rows quanta t) (firstBy before rows quanta) (length rows) k
+chosen rows quanta t k = picks (saysReadyIn rows quanta t) (goesBeforeBy before rows quanta) (length rows) k
 
 -- Where pd2 has an answer for every row, they are the rows that PD2 picks.
 abbrev pub ChosenAsPd2 : Type 0

@@ -12,7 +12,7 @@ use Rattle.windows.specs.Fits.{reach}
 use Rattle.table.specs.declared.Row.{Row}
 use Rattle.pd2.specs.Order.{Rank, rankOf}
 use Rattle.pd2.specs.Choice.{rowAt, quantaAt}
-use Rattle.choice.specs.Choice.{saysReady, readyAt}
+use Rattle.choice.specs.Choice.{saysReady, saysReadyIn}
 
 -- The key of a rank: two for each deadline, b = 1 before b = 0. A row that is not ready has the largest number there is.
 abbrev pub keyFor : Rank → ℕ
@@ -26,7 +26,7 @@ keyIn keys i = getD keys i 0
 
 pub record KeysAre (rows : List Row) (quanta : List ℕ) (t : ℕ) (keys : List ℕ) : Type 0 where
   pub each : (i : ℕ) → i < length rows → keyIn keys i ≡ keyOf (rowAt rows i) (quantaAt quanta i) t
-  pub low : (i : ℕ) → i < length rows → readyAt rows quanta t i ≡ true → keyIn keys i < most
+  pub low : (i : ℕ) → i < length rows → saysReadyIn rows quanta t i ≡ true → keyIn keys i < most
 
 -- Keys that do not fall.
 abbrev pub Rises : ℕ → List ℕ → Type 0

@@ -14,4 +14,4 @@ use Rattle.demands.specs.Confession.{Confession}
 
 pub confession : Confession
 unfolding start deadline bit windowLength jobStart ceilDiv heavy stops stopTime atFirst groupDeadline howMany those ready late before picked given quantaBy
-confession = record { without-bit = refl; by-pd2 = refl }
+confession = record { bit-left-out = refl; by-pd2 = refl }

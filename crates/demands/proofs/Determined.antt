@@ -6,7 +6,7 @@ use Rattle.facts.proofs.Determined.{by-value}
 use Rattle.counts.proofs.Determined.{slot-is-determined, quanta-is-determined, subtask-is-determined}
 use Rattle.windows.proofs.Question.{window-is-determined}
 use Rattle.windows.proofs.Next.{next-due-is-determined}
-use Rattle.pd2.specs.Ready.{origin}
+use Rattle.pd2.specs.Ready.{originOf}
 use Rattle.pd2.proofs.Rows.{give-is-determined, lowest-late-is-determined}
 use Rattle.trace.proofs.Determined.{write-is-determined, record-is-determined-but-for-its-name}
 use Rattle.choice.specs.Choice.{numbersOf, chosen}
@@ -43,7 +43,7 @@ every-promise-determines =
       table-read = λ bytes. by-value;
       table-fault = λ table. by-value;
       pd2-Verdict-is-yes = λ self. by-value;
-      pd2-origin = λ row. slot-is-determined (origin row);
+      pd2-origin = λ row. slot-is-determined (originOf row);
       pd2-ready = λ row given slot. by-value;
       pd2-late = λ row given time. by-value;
       pd2-within = λ row given time. by-value;

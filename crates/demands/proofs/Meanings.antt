@@ -42,7 +42,7 @@ table-means s =
       cycle = omega arith;
       cores = refl;
       boards = λ j l. read-there (byte s) 0 coreLimit 6 1 0 l ∙ ap (byte s) {x = 6 + 1 * j} {y = 6 + j} (omega arith);
-      count = refl;
+      row-count = refl;
       rows = λ i l.
           read-there (rowInBytes s) zeroRow rowLimit (6 + byte s 5 + 1) 9 zeroRow l
           ∙ ap (rowInBytes s) {x = 6 + byte s 5 + 1 + 9 * i} {y = 7 + byte s 5 + 9 * i} (omega arith)
@@ -96,24 +96,24 @@ shaped : (s : List ℕ) (table : Table) → WellFormed table s ↔ Shaped table 
 shaped s table = (
   λ well.
       record {
-        count = not-below (length s) 4 .0 (well .count);
+        slot-count = not-below (length s) 4 .0 (well .slot-count);
         limit = not-below 1_000_000_000 (slotsIn s) .0 (well .limit);
         heads = λ t l. not-below (length s) (placeIn s t + 2) .0 (well .records t l .head);
         free = λ t l. not-below (table .cores) (getD s (placeIn s t) 0) .0 (well .records t l .cores);
-        picked = λ t l. not-below (getD s (placeIn s t) 0) (getD s (placeIn s t + 1) 0) .0 (well .records t l .count);
+        picked = λ t l. not-below (getD s (placeIn s t) 0) (getD s (placeIn s t + 1) 0) .0 (well .records t l .picked);
         whole = λ t l. not-below (length s) (placeIn s t + 2 + getD s (placeIn s t + 1) 0) .0 (well .records t l .rows);
         rows = λ t l. well .records t l .numbers;
         end = not-below (placeIn s (slotsIn s)) (length s) .0 (well .end);
       },
   λ shape.
       record {
-        count = not-below (length s) 4 .1 (shape .count);
+        slot-count = not-below (length s) 4 .1 (shape .slot-count);
         limit = not-below 1_000_000_000 (slotsIn s) .1 (shape .limit);
         records = λ t l.
             record {
               head = not-below (length s) (placeIn s t + 2) .1 (shape .heads t l);
               cores = not-below (table .cores) (getD s (placeIn s t) 0) .1 (shape .free t l);
-              count = not-below (getD s (placeIn s t) 0) (getD s (placeIn s t + 1) 0) .1 (shape .picked t l);
+              picked = not-below (getD s (placeIn s t) 0) (getD s (placeIn s t + 1) 0) .1 (shape .picked t l);
               rows = not-below (length s) (placeIn s t + 2 + getD s (placeIn s t + 1) 0) .1 (shape .whole t l);
               numbers = shape .rows t l;
             };

@@ -27,7 +27,7 @@ use Rattle.pd2.specs.Ready.{ready, late}
 use Rattle.pd2.specs.Share.{lower, upper}
 use Rattle.pd2.specs.Order.{before}
 use Rattle.pd2.specs.Picks.{picked}
-use Rattle.pd2.specs.Choice.{rowAt, quantaAt, readyIn, firstBy, given}
+use Rattle.pd2.specs.Choice.{rowAt, quantaAt, readyIn, goesBeforeBy, given}
 use Rattle.trace.specs.Record.{withFront, withRecord}
 use Rattle.trace.specs.Records.{names}
 use Rattle.trace.specs.Said.{bare, named}
@@ -55,7 +55,7 @@ module _ (table : Table) (c : ℕ) (sound : faultOf table ≡ 0) (few : load (ta
 
   -- Row i is picked in slot t, with k cores free, by the quanta that were given before.
   abbrev isPicked : List ℕ → ℕ → ℕ → ℕ → Bool
-  isPicked quanta t k i = picked (readyIn (rowsOf table) quanta t) (firstBy before (rowsOf table) quanta) (length (rowsOf table)) k i
+  isPicked quanta t k i = picked (readyIn (rowsOf table) quanta t) (goesBeforeBy before (rowsOf table) quanta) (length (rowsOf table)) k i
 
   -- The quanta at each time up to T, and the cores that each slot had: they grew by PD2's picks.
   record Course (T : ℕ) (last : List ℕ) : Type 0 where

@@ -60,48 +60,48 @@ module _ (s : State) (k : ℕ) (buffer : List ℕ) (place : ℕ) where
   says : {n : ℕ} → 1 < n → refusal s k buffer place ≡ n → number ≡ n
   says {n} above e = refused-number s k buffer place n above .1 e
 
-  module _ (whole : broken s ≡ false) (runs : s .stopped ≡ false) (early : timeOf s < 1_000_000_000) (enough : k ≤ s .table .cores) where
+  module _ (whole : broken s ≡ false) (runs : s .stopped ≡ false) (slot-left : timeOf s < 1_000_000_000) (enough : k ≤ s .table .cores) where
     fits : NotBroken s
     fits = broken-exactly s .0 whole
 
     by-place : Dec (length buffer < room) → SlotExactly s k buffer place number
     by-place (yes short) =
         let lacks = lacks-room buffer place (length (picksIn s k)) short in
-        let said = says (omega arith) (by-room s k buffer place whole runs early enough {lacks = true} lacks) in
+        let said = says (omega arith) (by-room s k buffer place whole runs slot-left enough {lacks = true} lacks) in
         record {
           is-30 = neither-is (λ e. omega (arith, said, e)) (λ n. n fits);
           is-31 = neither-is (λ e. omega (arith, said, e)) (λ h. true≢false (sym (h .1) ∙ runs));
-          is-32 = neither-is (λ e. omega (arith, said, e)) (λ h. omega (arith, h .2, early));
+          is-32 = neither-is (λ e. omega (arith, said, e)) (λ h. omega (arith, h .2, slot-left));
           is-33 = neither-is (λ e. omega (arith, said, e)) (λ h. omega (arith, h .3, enough));
-          is-34 = both-are said (fits, runs, early, enough, short);
+          is-34 = both-are said (fits, runs, slot-left, enough, short);
         }
     by-place (no long) =
         let lacks = has-room-for buffer place (length (picksIn s k)) (omega arith) in
-        let done = not-refused-is-done s k buffer place (by-room s k buffer place whole runs early enough {lacks = false} lacks) in
+        let done = not-refused-is-done s k buffer place (by-room s k buffer place whole runs slot-left enough {lacks = false} lacks) in
         record {
           is-30 = neither-is (λ e. omega (arith, done, e)) (λ n. n fits);
           is-31 = neither-is (λ e. omega (arith, done, e)) (λ h. true≢false (sym (h .1) ∙ runs));
-          is-32 = neither-is (λ e. omega (arith, done, e)) (λ h. omega (arith, h .2, early));
+          is-32 = neither-is (λ e. omega (arith, done, e)) (λ h. omega (arith, h .2, slot-left));
           is-33 = neither-is (λ e. omega (arith, done, e)) (λ h. omega (arith, h .3, enough));
           is-34 = neither-is (λ e. omega (arith, done, e)) (λ h. long (h .4));
         }
 
   module _ (whole : broken s ≡ false) (runs : s .stopped ≡ false) where
     by-cores : timeOf s < 1_000_000_000 → Dec (s .table .cores < k) → SlotExactly s k buffer place number
-    by-cores early (yes many) =
+    by-cores slot-left (yes many) =
         let fit = broken-exactly s .0 whole in
-        let said = says (omega arith) (first-33 s k buffer place whole runs early many) in
+        let said = says (omega arith) (first-33 s k buffer place whole runs slot-left many) in
         record {
           is-30 = neither-is (λ e. omega (arith, said, e)) (λ n. n fit);
           is-31 = neither-is (λ e. omega (arith, said, e)) (λ h. true≢false (sym (h .1) ∙ runs));
-          is-32 = neither-is (λ e. omega (arith, said, e)) (λ h. omega (arith, h .2, early));
-          is-33 = both-are said (fit, runs, early, many);
+          is-32 = neither-is (λ e. omega (arith, said, e)) (λ h. omega (arith, h .2, slot-left));
+          is-33 = both-are said (fit, runs, slot-left, many);
           is-34 = neither-is (λ e. omega (arith, said, e)) (λ h. omega (arith, h .3, many));
         }
-    by-cores early (no few) = by-place whole runs early (omega arith) (decLt (length buffer) room)
+    by-cores slot-left (no few) = by-place whole runs slot-left (omega arith) (decLt (length buffer) room)
 
     by-time : Dec (timeOf s < 1_000_000_000) → SlotExactly s k buffer place number
-    by-time (yes early) = by-cores early (decLt (s .table .cores) k)
+    by-time (yes slot-left) = by-cores slot-left (decLt (s .table .cores) k)
     by-time (no at) =
         let fit = broken-exactly s .0 whole in
         let limit : timeOf s ≡ 1_000_000_000 = omega (arith, fit .time) in

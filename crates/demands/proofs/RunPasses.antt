@@ -17,7 +17,7 @@ use Rattle.pd2.specs.Ready.{ready, late}
 use Rattle.pd2.specs.Share.{upper, within}
 use Rattle.pd2.specs.Choice.{rowAt}
 use Rattle.pd2.proofs.Share.{row-can-be, upper-after-quantum-means-ready}
-use Rattle.trace.specs.Records.{firstPlace, placeOf, names, rowsOfSlot, timesNamed, count}
+use Rattle.trace.specs.Records.{firstPlace, placeOf, names, rowsOfSlot, timesNamed, timesNamedFrom}
 use Rattle.trace.specs.Said.{bare, named}
 use Rattle.trace.proofs.Records.{counted-if-named}
 use Rattle.dispatcher.specs.State.{timeOf, freshOf}
@@ -35,14 +35,14 @@ use Rattle.checker.proofs.Sound.{InTime}
 use Rattle.checker.proofs.Rows.{within-was-ready, within-not-late}
 use Rattle.checker.proofs.Passes.{passes-in-shares, checked-as-table}
 use Rattle.checker.proofs.Late.{late-is-said}
-use Rattle.demands.specs.RunPasses.{wordBytes, withCount, traceOf, SaysTheSame, IsTrace, RunPasses}
+use Rattle.demands.specs.RunPasses.{wordBytes, withSlotCount, traceOf, SaysTheSame, IsTrace, RunPasses}
 use Rattle.demands.proofs.WithCount.{slots-are, count-is, is-well-formed}
 
 -- What is known of a run is known of its trace, if it is of its records with the count in front.
 module _ (table : Table) (r : Run) (n : ℕ) (clock : timeOf (r .state) ≡ n) (so : Written table firstPlace n (r .bytes) (r .place)) (few : n ≤ slotLimit) where
-  trace-of-run : SaysTheSame (r .said) (traceSaid table (withCount n (r .bytes) (r .place))) → IsTrace table r
+  trace-of-run : SaysTheSame (r .said) (traceSaid table (withSlotCount n (r .bytes) (r .place))) → IsTrace table r
   trace-of-run says =
-      let same : traceOf r ≡ withCount n (r .bytes) (r .place) = ap (λ t. withCount t (r .bytes) (r .place)) clock in
+      let same : traceOf r ≡ withSlotCount n (r .bytes) (r .place) = ap (λ t. withSlotCount t (r .bytes) (r .place)) clock in
       let said : SaysTheSame (r .said) (traceSaid table (traceOf r)) = rw same says in
       record {
         slots = rw clock (slots-are table n (r .bytes) (r .place) so few);
@@ -59,7 +59,7 @@ module _ (table : Table) (free : ℕ → ℕ) (buffer : List ℕ) (sound : fault
   -- A run of m slots that all answered 0.
   module _ (m : ℕ) (e : at m .said .number ≡ 0) where
     abbrev going-trace : List ℕ
-    going-trace = withCount m (at m .bytes) (at m .place)
+    going-trace = withSlotCount m (at m .bytes) (at m .place)
 
     -- the time is m, and within the limit
     going-clock : (timeOf (at m .state) ≡ m) × (m ≤ slotLimit)
@@ -93,7 +93,7 @@ module _ (table : Table) (free : ℕ → ℕ) (buffer : List ℕ) (sound : fault
     last = at (suc m)
 
     abbrev late-trace : List ℕ
-    late-trace = withCount (m + 1) (last .bytes) (last .place)
+    late-trace = withSlotCount (m + 1) (last .bytes) (last .place)
 
     -- the time is m + 1, and within the limit
     late-clock : (timeOf (last .state) ≡ m + 1) × (m + 1 ≤ slotLimit)
@@ -122,7 +122,7 @@ module _ (table : Table) (free : ℕ → ℕ) (buffer : List ℕ) (sound : fault
     quanta-counted : (i : ℕ) → quantaNow last i ≡ timesNamed late-trace i (m + 1)
     quanta-counted i =
         quanta-are-records table free buffer firstPlace (suc m) i
-        ∙ (ap (count (last .bytes) firstPlace i) (late-clock .0)
+        ∙ (ap (timesNamedFrom (last .bytes) firstPlace i) (late-clock .0)
         ∙ sym (count-is table (m + 1) (last .bytes) (last .place) late-written (late-clock .1) i (m + 1) (omega arith)))
 
     -- the rows named in the last slot were ready, since the upper limits still hold after it,
@@ -176,7 +176,7 @@ module _ (table : Table) where
   nothing-behind (suc n) [] = refl
   nothing-behind (suc n) (x ∷ b) = nothing-behind n b
 
-  no-slots : (b : List ℕ) → withCount 0 b firstPlace ≡ no-records
+  no-slots : (b : List ℕ) → withSlotCount 0 b firstPlace ≡ no-records
   unfolding wordBytes
   no-slots b = ap (λ rest. 0 ∷ 0 ∷ 0 ∷ 0 ∷ rest) (nothing-behind firstPlace b)
 
@@ -186,7 +186,7 @@ module _ (table : Table) where
 
   empty-is-well-formed : WellFormed table no-records
   unfolding placeOf
-  empty-is-well-formed = record { count = refl; limit = refl; records = λ t l. absurd (omega arith); end = refl }
+  empty-is-well-formed = record { slot-count = refl; limit = refl; records = λ t l. absurd (omega arith); end = refl }
 
   empty-is-trace : (free : ℕ → ℕ) (buffer : List ℕ) → IsTrace table (run table free buffer firstPlace 0)
   unfolding run

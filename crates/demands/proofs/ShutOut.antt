@@ -28,7 +28,7 @@ use Rattle.trace.specs.Said.{bare, named}
 use Rattle.dispatcher.specs.declared.State.{State}
 use Rattle.dispatcher.specs.State.{timeOf, freshOf}
 use Rattle.dispatcher.specs.Broken.{broken}
-use Rattle.dispatcher.specs.Slot.{Given, refusal, slotOf}
+use Rattle.dispatcher.specs.Slot.{SlotReply, refusal, slotOf}
 use Rattle.checker.specs.Causes.{badRows}
 use Rattle.checker.specs.Check.{recordsFindings, traceSaid, checkOf}
 use Rattle.demands.specs.Bench.{exampleTrace}
@@ -40,10 +40,10 @@ use Rattle.demands.proofs.Two.{picks-are-pd2s}
 abbrev blank : List ℕ
 blank = replicate 10 0
 
-abbrev slot0 : Given
+abbrev slot0 : SlotReply
 slot0 = slotOf (freshOf (tableIn example)) 2 blank 0
 
-abbrev slot1 : Given
+abbrev slot1 : SlotReply
 slot1 = slotOf (slot0 .state) 2 blank 0
 
 -- its trace with rows 0 and 1 again in slot 1: then row 2 has had nothing by time 2

@@ -13,7 +13,7 @@ use Rattle.table.specs.declared.Table.{Table}
 use Rattle.table.specs.Value.{faultOf, rowsOf}
 use Rattle.table.specs.Bytes.{tableIn}
 use Rattle.table.proofs.Taken.{taken-value-has-no-fault}
-use Rattle.pd2.specs.Ready.{early, late}
+use Rattle.pd2.specs.Ready.{isEarlyRelease, late}
 use Rattle.pd2.specs.Share.{elapsed, upper, within, CanBe}
 use Rattle.pd2.specs.Choice.{rowAt, quantaAt}
 use Rattle.pd2.proofs.Share.{row-can-be, late-exactly-if-owed}
@@ -147,6 +147,6 @@ demand-three =
       reports = reports-late;
       quanta = quanta-are-records;
       in-turn = records-stand-in-turn;
-      count-is-read = word-bytes-are-read;
+      slot-count-is-read = word-bytes-are-read;
       run-passes = run-passes;
     }

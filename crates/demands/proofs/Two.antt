@@ -10,7 +10,7 @@ use Rattle.table.specs.Bytes.{tableNumber, tableIn}
 use Rattle.table.proofs.Taken.{taken-value-has-no-fault}
 use Rattle.pd2.specs.Order.{before}
 use Rattle.pd2.specs.Picks.{picked}
-use Rattle.pd2.specs.Choice.{quantaAt, readyIn, firstBy}
+use Rattle.pd2.specs.Choice.{quantaAt, readyIn, goesBeforeBy}
 use Rattle.pd2.proofs.Order.{before-means-rule}
 use Rattle.pd2.proofs.Picks.{picks-are-best}
 use Rattle.pd2.proofs.Choice.{pd2-is-strict}
@@ -43,11 +43,11 @@ picks-are-pd2s s k buffer place done =
       behind-it = λ j l. ap (λ b. getD b j 0) (step .1) ∙ agrees-behind buffer place k (picksIn s k) (so .room) j (omega arith);
       picked-rows = λ i l.
           ap (λ named. names named i) rows
-          ∙ (listed-are-named (picked (readyIn (rowsIn s) (quantaIn s) (timeOf s)) (firstBy before (rowsIn s) (quantaIn s)) (length (rowsIn s)) k) (length (rowsIn s)) i
+          ∙ (listed-are-named (picked (readyIn (rowsIn s) (quantaIn s) (timeOf s)) (goesBeforeBy before (rowsIn s) (quantaIn s)) (length (rowsIn s)) k) (length (rowsIn s)) i
           ∙ rw (lt-ltb i (length (rowsIn s)) l) refl);
       free = ap (λ b. freeAt b place) (step .1) ∙ free-written buffer place k (picksIn s k) (so .room);
       rows = rows;
-      best = picks-are-best (readyIn (rowsIn s) (quantaIn s) (timeOf s)) (firstBy before (rowsIn s) (quantaIn s)) (length (rowsIn s)) k (pd2-is-strict (rowsIn s) (quantaIn s) (timeOf s) (length (rowsIn s)));
+      best = picks-are-best (readyIn (rowsIn s) (quantaIn s) (timeOf s)) (goesBeforeBy before (rowsIn s) (quantaIn s)) (length (rowsIn s)) k (pd2-is-strict (rowsIn s) (quantaIn s) (timeOf s) (length (rowsIn s)));
       quanta = λ long i. ap (λ x. quantaAt (quantaIn x) i) (step .0) ∙ rw rows (quanta-after s k (is-whole s (so .whole)) long i);
       time = ap timeOf (step .0);
       ready = λ i h. named-is-ready s k i (sym (ap (λ l. names l i) rows) ∙ h);

@@ -9,14 +9,14 @@ use lib.ListN.{length, getD, take, drop, length-append, length-drop}
 use lib.Seq.{length-take-le, getD-take, getD-drop, getD-append-add}
 use Rattle.table.specs.declared.Table.{Table}
 use Rattle.table.specs.Value.{rowsOf}
-use Rattle.trace.specs.Records.{freeAt, countAt, pastRecord, placeOf, firstPlace, slotsIn, placeIn, timesNamed, count}
+use Rattle.trace.specs.Records.{freeAt, pickedAt, pastRecord, placeOf, firstPlace, slotsIn, placeIn, timesNamed, timesNamedFrom}
 use Rattle.trace.proofs.Records.{places-rise, stand-from, ends-before}
 use Rattle.trace.proofs.Agree.{Agree, place-agrees, count-agrees}
 use Rattle.dispatcher.proofs.Written.{sound-there, Written}
 use Rattle.checker.specs.Causes.{slotLimit, badRows}
 use Rattle.checker.specs.WellFormed.{SoundRecord, WellFormed}
 use Rattle.checker.proofs.Sound.{listed-not-bad}
-use Rattle.demands.specs.RunPasses.{wordBytes, WordBytesAreRead, withCount}
+use Rattle.demands.specs.RunPasses.{wordBytes, WordBytesAreRead, withSlotCount}
 
 -- four bytes put together, the last of them all that is left
 put-together : (n a b c w x y z : ℕ) → a * 256 + w ≡ n → b * 256 + x ≡ a → c * 256 + y ≡ b → z ≡ c → w + 256 * x + 65_536 * (y + 256 * z) ≡ n
@@ -41,7 +41,7 @@ word-bytes-are-read n rest h =
 -- The count n is written in front of the n sound records of a buffer.
 module _ (table : Table) (n : ℕ) (b : List ℕ) (next : ℕ) (so : Written table firstPlace n b next) (few : n ≤ slotLimit) where
   abbrev trace : List ℕ
-  trace = withCount n b next
+  trace = withSlotCount n b next
 
   -- the records begin behind the count
   behind-count : firstPlace ≤ next
@@ -76,7 +76,7 @@ module _ (table : Table) (n : ℕ) (b : List ℕ) (next : ℕ) (so : Written tab
   place-is t l = place-agrees firstPlace next trace b trace-agrees t (omega (arith, places-rise b firstPlace t n l, so .place))
 
   -- and so are its counts.
-  pub count-is : (row t : ℕ) → t ≤ n → timesNamed trace row t ≡ count b firstPlace row t
+  pub count-is : (row t : ℕ) → t ≤ n → timesNamed trace row t ≡ timesNamedFrom b firstPlace row t
   count-is row t l = count-agrees firstPlace next trace b trace-agrees row t (omega (arith, places-rise b firstPlace t n l, so .place))
 
   -- each record is sound,
@@ -91,7 +91,7 @@ module _ (table : Table) (n : ℕ) (b : List ℕ) (next : ℕ) (so : Written tab
       record {
         head = le-ltb (length trace) (place + 2) (omega arith);
         cores = le-ltb (table .cores) (freeAt trace place) (at .free);
-        count = le-ltb (freeAt trace place) (countAt trace place) (at .count);
+        picked = le-ltb (freeAt trace place) (pickedAt trace place) (at .picked);
         rows = le-ltb (length trace) (pastRecord trace place) end;
         numbers = ap (badRows (length (rowsOf table)) 0) (at .rows) ∙ listed-not-bad (at .listed) (length (rowsOf table));
       }
@@ -100,7 +100,7 @@ module _ (table : Table) (n : ℕ) (b : List ℕ) (next : ℕ) (so : Written tab
   pub is-well-formed : WellFormed table trace
   is-well-formed =
       record {
-        count = le-ltb (length trace) 4 (omega (arith, how-long, behind-count));
+        slot-count = le-ltb (length trace) 4 (omega (arith, how-long, behind-count));
         limit = le-ltb slotLimit (slotsIn trace) (omega (arith, slots-are));
         records = λ t l. sound-record t (omega (arith, slots-are));
         end = le-ltb (placeIn trace (slotsIn trace)) (length trace) (omega (arith, ap (placeIn trace) slots-are, place-is n (omega arith), how-long, so .place));

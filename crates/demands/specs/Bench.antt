@@ -33,7 +33,7 @@ box cycle cores rows =
       cycle = cycle;
       cores = cores;
       boards = 0 ∷ 1 ∷ 2 ∷ 3 ∷ 4 ∷ 5 ∷ 6 ∷ 7 ∷ [];
-      count = length rows;
+      n = length rows;
       rows = rows ++ replicate (rowLimit - length rows) zeroRow;
     }
 

@@ -47,7 +47,7 @@ pub record TableCases : Type 0 where
   pub cycle : checked.faultNumber fault.Cycle ≡ 12
   pub cores : checked.faultNumber fault.Cores ≡ 13
   pub boards : checked.faultNumber fault.Boards ≡ 14
-  pub count : checked.faultNumber fault.Count ≡ 15
+  pub row-count : checked.faultNumber fault.RowCount ≡ 15
   pub tanks : checked.faultNumber fault.Tanks ≡ 16
   pub cost : checked.faultNumber fault.Cost ≡ 17
   pub weight : checked.faultNumber fault.Weight ≡ 18

@@ -3,20 +3,20 @@ use mathlib.Core.Path.{_≡_}
 use mathlib.Core.List.{List, [], _∷_, map}
 use Rattle.table.specs.declared.Row.{Row}
 use Rattle.pd2.specs.Order.{before}
-use Rattle.pd2.specs.Courses.{plain, lateBy, withoutBit}
+use Rattle.pd2.specs.Courses.{plain, lateBy, bitLeftOut}
 
 -- 2/3, 2/3, 5/6 and 5/6 take all of three cores.
 abbrev pub fullBox : List Row
 fullBox = plain 2 3 ∷ plain 2 3 ∷ plain 5 6 ∷ plain 5 6 ∷ []
 
 -- Row 3 is late at time 6.
-abbrev pub WithoutBitRowIsLate : Type 0
-WithoutBitRowIsLate = lateBy withoutBit fullBox 3 6 ≡ 3 ∷ []
+abbrev pub BitLeftOutRowIsLate : Type 0
+BitLeftOutRowIsLate = lateBy bitLeftOut fullBox 3 6 ≡ 3 ∷ []
 
 -- By PD2's order nobody is late at any time of the cycle.
 abbrev pub ByPd2NobodyIsLate : Type 0
 ByPd2NobodyIsLate = map (lateBy before fullBox 3) (0 ∷ 1 ∷ 2 ∷ 3 ∷ 4 ∷ 5 ∷ 6 ∷ []) ≡ [] ∷ [] ∷ [] ∷ [] ∷ [] ∷ [] ∷ [] ∷ []
 
 pub record Confession : Type 0 where
-  pub without-bit : WithoutBitRowIsLate
+  pub bit-left-out : BitLeftOutRowIsLate
   pub by-pd2 : ByPd2NobodyIsLate

@@ -29,7 +29,7 @@ rowsFit (row ∷ rows) = rowFits row && rowsFit rows
 
 -- a table value: L of four bytes, M, n and the board numbers of one each
 abbrev pub tableFits : Table → Bool
-tableFits t = ltb (t .cycle) (2 ^ 32) && allBelow 256 (t .cores ∷ t .count ∷ t .boards) && rowsFit (t .rows)
+tableFits t = ltb (t .cycle) (2 ^ 32) && allBelow 256 (t .cores ∷ t .n ∷ t .boards) && rowsFit (t .rows)
 
 -- A slot can be asked so: the state holds 8 board numbers, 32 rows and 32 quanta; time, quanta and place are numbers of 64 bits, and k is a byte.
 pub record Possible (s : State) (k : ℕ) (buffer : List ℕ) (place : ℕ) : Type 0 where

@@ -65,7 +65,7 @@ lawHolds (window e p f i number r d b D) =
 lawHolds (reads bytes number) = eqb (reading bytes .number) number
 lawHolds (has-sizes bytes cycle cores count) =
     let table = reading bytes .table in
-    eqb (table .cycle) cycle && eqb (table .cores) cores && eqb (table .count) count
+    eqb (table .cycle) cycle && eqb (table .cores) cores && eqb (table .n) count
 lawHolds (has-row bytes i row) = sameRow (getD (reading bytes .table .rows) i noSuchRow) row
 lawHolds (has-board bytes j board) = eqb (getD (reading bytes .table .boards) j 256) board
 lawHolds (faulty table number) = eqb (faultOf table) number

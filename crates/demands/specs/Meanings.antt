@@ -16,7 +16,7 @@ use Rattle.table.specs.Value.{rowsOf, boardsOf}
 use Rattle.table.specs.Bytes.{tableIn}
 use Rattle.pd2.specs.Ready.{ready, late}
 use Rattle.pd2.specs.Order.{rankOf, before}
-use Rattle.pd2.specs.Choice.{rowAt, quantaAt, readyIn, firstBy}
+use Rattle.pd2.specs.Choice.{rowAt, quantaAt, readyIn, goesBeforeBy}
 use Rattle.trace.specs.Record.{recordOf, marked, writeNumber, partAfter}
 use Rattle.trace.specs.Records.{names, slotsIn, placeIn, rowsOfSlot, timesNamed}
 use Rattle.dispatcher.specs.declared.State.{State}
@@ -41,7 +41,7 @@ pub record TableMeans (s : List ℕ) : Type 0 where
   pub cycle : tableIn s .cycle ≡ getD s 1 0 + 256 * getD s 2 0 + 65_536 * getD s 3 0 + 16_777_216 * getD s 4 0
   pub cores : tableIn s .cores ≡ getD s 5 0
   pub boards : (j : ℕ) → j < getD s 5 0 → getD (tableIn s .boards) j 0 ≡ getD s (6 + j) 0
-  pub count : tableIn s .count ≡ getD s (6 + getD s 5 0) 0
+  pub row-count : tableIn s .n ≡ getD s (6 + getD s 5 0) 0
   pub rows : (i : ℕ) → i < getD s (6 + getD s 5 0) 0 →
       let at = 7 + getD s 5 0 + 9 * i in
       getD (tableIn s .rows) i zeroRow
@@ -55,7 +55,7 @@ pub record TableMeans (s : List ℕ) : Type 0 where
 
 -- Its rows are those below n, its boards those below M; "The sum of e·(L/p)" goes over the rows.
 pub record ValueMeans (t : Table) : Type 0 where
-  pub rows : rowsOf t ≡ take (t .count) (t .rows)
+  pub rows : rowsOf t ≡ take (t .n) (t .rows)
   pub boards : boardsOf t ≡ take (t .cores) (t .boards)
   pub no-load : (cycle : ℕ) → load cycle [] ≡ 0
   pub load-is : (cycle : ℕ) (row : Row) (rows : List Row) → load cycle (row ∷ rows) ≡ row .cost * (cycle / row .period) + load cycle rows
@@ -78,11 +78,11 @@ pub record OrderMeans (rows : List Row) (quanta : List ℕ) (j i : ℕ) : Type 0
         D = groupDeadline (row .cost) (row .period) (row .phase) (q + 1);
         row = i;
       }
-  pub goes-before : firstBy before rows quanta j i ≡ before (rankOf (rowAt rows j) j (quantaAt quanta j)) (rankOf (rowAt rows i) i (quantaAt quanta i))
+  pub goes-before : goesBeforeBy before rows quanta j i ≡ before (rankOf (rowAt rows j) j (quantaAt quanta j)) (rankOf (rowAt rows i) i (quantaAt quanta i))
 
 -- "A trace is well formed .. when its bytes give no cause for 40 to 43, 46 or 47 anywhere": the count, the records one behind the other, and nothing after them.
 pub record Shaped (table : Table) (s : List ℕ) : Type 0 where
-  pub count : 4 ≤ length s
+  pub slot-count : 4 ≤ length s
   pub limit : slotsIn s ≤ 1_000_000_000
   pub heads : (t : ℕ) → t < slotsIn s → placeIn s t + 2 ≤ length s
   pub free : (t : ℕ) → t < slotsIn s → getD s (placeIn s t) 0 ≤ table .cores

@@ -71,7 +71,7 @@ pub record Tables : Type 0 where
   pub table : (bytes : List ℕ) → tableNumber bytes ≡ 0 → reading bytes .table ≡ tableIn bytes
   pub past : PastIsZero
   pub no-table : (bytes : List ℕ) → (tableNumber bytes ≡ 0 → ⊥) →
-      reading bytes .table ≡ record { cycle = 0; cores = 0; boards = replicate 8 0; count = 0; rows = replicate 32 (record { tank = 0; cost = 0; period = 0; phase = 0; kind = 0 }) }
+      reading bytes .table ≡ record { cycle = 0; cores = 0; boards = replicate 8 0; n = 0; rows = replicate 32 (record { tank = 0; cost = 0; period = 0; phase = 0; kind = 0 }) }
 
 -- "A state is broken (30) if its table has a fault 12 to 20 or 22, if time is above 1,000,000,000, if a row's quanta exceed time, or if it is not stopped and
 -- some row is outside its share at its time": what a state is that is not broken.

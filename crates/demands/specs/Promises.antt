@@ -25,7 +25,7 @@ use Rattle.table.specs.declared.Reading.{Reading}
 use Rattle.table.specs.Bytes.{tableNumber, reading}
 use Rattle.table.specs.Value.{faultOf}
 use Rattle.pd2.specs.declared.Verdict.{Verdict}
-use Rattle.pd2.specs.Ready.{origin, ready, late}
+use Rattle.pd2.specs.Ready.{originOf, ready, late}
 use Rattle.pd2.specs.Share.{within}
 use Rattle.pd2.specs.Verdict.{isYes, answered, verdict}
 use Rattle.pd2.specs.Rows.{GaveMarked, isLate}
@@ -145,7 +145,7 @@ pd2·Verdict·is-yes self r = r ≡ isYes self
 
 -- pd2::origin
 abbrev pub pd2·origin : Row → Slot → Type 0
-pd2·origin row r = r .0 ≡ origin row
+pd2·origin row r = r .0 ≡ originOf row
 
 -- pd2::ready
 abbrev pub pd2·ready : Row → Quanta → Slot → Verdict → Type 0

@@ -52,10 +52,10 @@ valueLaws =
     ∷ faulty (box 1_000_001 2 []) 12
     ∷ faulty (box 6 0 []) 13
     ∷ faulty (box 6 9 []) 13
-    ∷ faulty (record { cycle = 6; cores = 2; boards = 4 ∷ 4 ∷ 0 ∷ 0 ∷ 0 ∷ 0 ∷ 0 ∷ 0 ∷ []; count = 0; rows = replicate 32 zeroRow }) 14
-    ∷ faulty (record { cycle = 6; cores = 2; boards = 4 ∷ 5 ∷ 0 ∷ 0 ∷ 0 ∷ 0 ∷ 0 ∷ 0 ∷ []; count = 32; rows = replicate 32 zeroRow }) 17
-    ∷ faulty (record { cycle = 6; cores = 2; boards = 4 ∷ 5 ∷ 0 ∷ 0 ∷ 0 ∷ 0 ∷ 0 ∷ 0 ∷ []; count = 33; rows = replicate 32 zeroRow }) 15
-    ∷ faulty (record { cycle = 6; cores = 2; boards = 4 ∷ 5 ∷ 0 ∷ 0 ∷ 0 ∷ 0 ∷ 0 ∷ 0 ∷ []; count = 1; rows = plainRow 9 1 3 ∷ replicate 31 zeroRow }) 0
+    ∷ faulty (record { cycle = 6; cores = 2; boards = 4 ∷ 4 ∷ 0 ∷ 0 ∷ 0 ∷ 0 ∷ 0 ∷ 0 ∷ []; n = 0; rows = replicate 32 zeroRow }) 14
+    ∷ faulty (record { cycle = 6; cores = 2; boards = 4 ∷ 5 ∷ 0 ∷ 0 ∷ 0 ∷ 0 ∷ 0 ∷ 0 ∷ []; n = 32; rows = replicate 32 zeroRow }) 17
+    ∷ faulty (record { cycle = 6; cores = 2; boards = 4 ∷ 5 ∷ 0 ∷ 0 ∷ 0 ∷ 0 ∷ 0 ∷ 0 ∷ []; n = 33; rows = replicate 32 zeroRow }) 15
+    ∷ faulty (record { cycle = 6; cores = 2; boards = 4 ∷ 5 ∷ 0 ∷ 0 ∷ 0 ∷ 0 ∷ 0 ∷ 0 ∷ []; n = 1; rows = plainRow 9 1 3 ∷ replicate 31 zeroRow }) 0
     ∷ faulty (box 6 2 (plainRow 7 1 3 ∷ plainRow 7 1 3 ∷ [])) 16
     ∷ faulty (box 6 2 (plainRow 0 0 3 ∷ [])) 17
     ∷ faulty (box 6 2 (plainRow 0 3 3 ∷ [])) 18
@@ -66,12 +66,12 @@ valueLaws =
     ∷ faulty (box 6 2 (plainRow 0 4 3 ∷ [])) 18
     ∷ faulty (box 6 2 (plainRow 0 1 3 ∷ plainRow 1 3 3 ∷ [])) 18
     ∷ faulty (box 6 2 (record { tank = 0; cost = 1; period = 3; phase = 0; kind = 255 } ∷ [])) 20
-    ∷ faulty (record { cycle = 6; cores = 3; boards = 1 ∷ 3 ∷ 2 ∷ 0 ∷ 0 ∷ 0 ∷ 0 ∷ 0 ∷ []; count = 0; rows = replicate 32 zeroRow }) 14
+    ∷ faulty (record { cycle = 6; cores = 3; boards = 1 ∷ 3 ∷ 2 ∷ 0 ∷ 0 ∷ 0 ∷ 0 ∷ 0 ∷ []; n = 0; rows = replicate 32 zeroRow }) 14
     -- 12 and 13, 13 and 14, 14 and 15, 15 and 16, 16 and 17, 17 and 18, 18 and 19, 19 and 20, 20 and 22
     ∷ faulty (box 0 0 []) 12
-    ∷ faulty (record { cycle = 6; cores = 9; boards = replicate 8 0; count = 0; rows = replicate 32 zeroRow }) 13
-    ∷ faulty (record { cycle = 6; cores = 8; boards = replicate 8 0; count = 33; rows = replicate 32 zeroRow }) 14
-    ∷ faulty (record { cycle = 64; cores = 1; boards = replicate 8 0; count = 33; rows = replicate 32 (plainRow 5 1 64) }) 15
+    ∷ faulty (record { cycle = 6; cores = 9; boards = replicate 8 0; n = 0; rows = replicate 32 zeroRow }) 13
+    ∷ faulty (record { cycle = 6; cores = 8; boards = replicate 8 0; n = 33; rows = replicate 32 zeroRow }) 14
+    ∷ faulty (record { cycle = 64; cores = 1; boards = replicate 8 0; n = 33; rows = replicate 32 (plainRow 5 1 64) }) 15
     ∷ faulty (box 6 2 (plainRow 7 1 3 ∷ plainRow 7 0 3 ∷ [])) 16
     ∷ faulty (box 6 2 (plainRow 0 0 0 ∷ [])) 17
     ∷ faulty (box 6 2 (plainRow 0 4 4 ∷ [])) 18

@@ -24,12 +24,12 @@ WordBytesAreRead = (n : ℕ) (rest : List ℕ) → n < 2 ^ 32 → word (wordByte
 
 -- "The dispatcher writes records only; the count is written by whoever keeps the trace": a count of slots, and behind it the records that stand
 -- in a buffer from place 4 up to the next place
-abbrev pub withCount : ℕ → List ℕ → ℕ → List ℕ
-withCount n bytes next = wordBytes n ++ drop firstPlace (take next bytes)
+abbrev pub withSlotCount : ℕ → List ℕ → ℕ → List ℕ
+withSlotCount n bytes next = wordBytes n ++ drop firstPlace (take next bytes)
 
 -- the trace of a run: its count is the slots that were done
 abbrev pub traceOf : Run → List ℕ
-traceOf r = withCount (timeOf (r .state)) (r .bytes) (r .place)
+traceOf r = withSlotCount (timeOf (r .state)) (r .bytes) (r .place)
 
 -- What the check says of the trace of a run whose last answer is `said`: it passes with 0, and with 1 the check answers 45 with the same row and time.
 pub record SaysTheSame (said checked : Said) : Type 0 where

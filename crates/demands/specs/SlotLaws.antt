@@ -31,7 +31,7 @@ manyRows =
       cycle = 64;
       cores = 8;
       boards = 0 ∷ 1 ∷ 2 ∷ 3 ∷ 4 ∷ 5 ∷ 6 ∷ 7 ∷ [];
-      count = 32;
+      n = 32;
       rows = risingRows 0 31 ++ (plainRow 31 1 2 ∷ []);
     }
 
@@ -42,7 +42,7 @@ wildPast =
       cycle = 2;
       cores = 1;
       boards = 7 ∷ 7 ∷ 7 ∷ 7 ∷ 7 ∷ 7 ∷ 7 ∷ 7 ∷ [];
-      count = 1;
+      n = 1;
       rows = plainRow 9 1 2 ∷ replicate 31 (record { tank = 0; cost = 9; period = 0; phase = 0; kind = 9 });
     }
 

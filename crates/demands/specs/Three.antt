@@ -69,5 +69,5 @@ pub record DemandThree : Type 0 where
   pub reports : ReportsLate
   pub quanta : (table : Table) (free : ℕ → ℕ) (buffer : List ℕ) (place : ℕ) → QuantaAreRecords table free buffer place
   pub in-turn : (table : Table) (free : ℕ → ℕ) (buffer : List ℕ) (place : ℕ) → RecordsStandInTurn table free buffer place
-  pub count-is-read : WordBytesAreRead
+  pub slot-count-is-read : WordBytesAreRead
   pub run-passes : RunPasses

@@ -9,21 +9,21 @@ use lib.ListN.{length, getD}
 use Rattle.table.specs.Bytes.{tableNumber, tableIn}
 use Rattle.pd2.specs.Order.{Rank, Before, before}
 use Rattle.pd2.specs.Picks.{picked, AreBest}
-use Rattle.pd2.specs.Choice.{quantaAt, readyIn, firstBy, pd2Picks}
+use Rattle.pd2.specs.Choice.{quantaAt, readyIn, goesBeforeBy, pd2Picks}
 use Rattle.choice.specs.Choice.{ChosenAsPd2}
 use Rattle.trace.specs.Record.{withRecord, recordOf}
 use Rattle.trace.specs.Records.{freeAt, rowsAt, names}
 use Rattle.trace.specs.Said.{bare}
 use Rattle.dispatcher.specs.declared.State.{State}
 use Rattle.dispatcher.specs.State.{rowsIn, quantaIn, timeOf}
-use Rattle.dispatcher.specs.Slot.{Given, slotOf}
+use Rattle.dispatcher.specs.Slot.{SlotReply, slotOf}
 use Rattle.dispatcher.specs.Places.{AtMostOneQuantum}
 use Rattle.checker.specs.Check.{checkOf}
 use Rattle.checker.specs.WellFormed.{WellFormed}
 use Rattle.checker.specs.Passes.{InWindows}
 
 -- A slot of state s with k cores free that answers 0 or 1, at a place in a buffer: what it has given back.
-pub record Picks (s : State) (k : ℕ) (buffer : List ℕ) (place : ℕ) (after : Given) : Type 0 where
+pub record Picks (s : State) (k : ℕ) (buffer : List ℕ) (place : ℕ) (after : SlotReply) : Type 0 where
   -- "those that PD2 picks": the record that stands at the place names them, "every other byte is as before",
   pub bytes : after .bytes ≡ withRecord buffer place (recordOf k (pd2Picks (rowsIn s) (quantaIn s) (timeOf s) k))
   pub size : length (after .bytes) ≡ length buffer
@@ -33,8 +33,8 @@ pub record Picks (s : State) (k : ℕ) (buffer : List ℕ) (place : ℕ) (after 
   pub rows : rowsAt (after .bytes) place ≡ pd2Picks (rowsIn s) (quantaIn s) (timeOf s) k
   -- they are ready, "as many as there are free cores, or all that are ready if fewer, best first by its order",
   pub picked-rows : (i : ℕ) → i < length (rowsIn s) →
-      names (rowsAt (after .bytes) place) i ≡ picked (readyIn (rowsIn s) (quantaIn s) (timeOf s)) (firstBy before (rowsIn s) (quantaIn s)) (length (rowsIn s)) k i
-  pub best : AreBest (readyIn (rowsIn s) (quantaIn s) (timeOf s)) (firstBy before (rowsIn s) (quantaIn s)) (length (rowsIn s)) k
+      names (rowsAt (after .bytes) place) i ≡ picked (readyIn (rowsIn s) (quantaIn s) (timeOf s)) (goesBeforeBy before (rowsIn s) (quantaIn s)) (length (rowsIn s)) k i
+  pub best : AreBest (readyIn (rowsIn s) (quantaIn s) (timeOf s)) (goesBeforeBy before (rowsIn s) (quantaIn s)) (length (rowsIn s)) k
   pub ready : (i : ℕ) → names (rowsAt (after .bytes) place) i ≡ true → (i < length (rowsIn s)) × (readyIn (rowsIn s) (quantaIn s) (timeOf s) i ≡ true)
   -- "each picked row has one quantum more", and no other (a state has 32 quanta, always), "time is one higher",
   pub quanta : length (s .quanta) ≡ 32 → (i : ℕ) →

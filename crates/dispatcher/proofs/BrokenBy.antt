@@ -31,21 +31,21 @@ module _ (s : State) where
     by-time h = rw (eq-eqb (faultOf (s .table)) 0 none, lt-ltb timeLimit (timeOf s) h) refl
 
     -- The arrays hold the rows of a table without fault.
-    pub in-place : length (s .table .rows) ≡ rowLimit → length (s .quanta) ≡ rowLimit → InPlace (s .table .rows) (s .quanta) (s .table .count)
+    pub in-place : length (s .table .rows) ≡ rowLimit → length (s .quanta) ≡ rowLimit → InPlace (s .table .rows) (s .quanta) (s .table .n)
     in-place rows quanta =
         let few = sizes-are-within (s .table) none .2 in
-        record { few = few; all = length-take-le (s .table .count) (s .table .rows) (omega arith); long = quanta }
+        record { few = few; all = length-take-le (s .table .n) (s .table .rows) (omega arith); long = quanta }
 
     -- Within the time limit its rows can be tested,
-    pub testable : InPlace (s .table .rows) (s .quanta) (s .table .count) → timeOf s ≤ timeLimit →
-        Testable (s .table .rows) (s .quanta) (s .table .count) (timeOf s)
-    testable place early = record { place = place; each = row-can-be (s .table) none; time = early }
+    pub testable : InPlace (s .table .rows) (s .quanta) (s .table .n) → timeOf s ≤ timeLimit →
+        Testable (s .table .rows) (s .quanta) (s .table .n) (timeOf s)
+    testable place slot-left = record { place = place; each = row-can-be (s .table) none; time = slot-left }
 
     -- and one of them may break the state.
     pub by-rows : timeOf s ≤ timeLimit → someRow s (brokenRow (s .stopped) (timeOf s)) ≡ broken s
     unfolding broken
-    by-rows early =
+    by-rows slot-left =
         let n = length (rowsIn s) in
-        rw (eq-eqb (faultOf (s .table)) 0 none, le-ltb timeLimit (timeOf s) early)
+        rw (eq-eqb (faultOf (s .table)) 0 none, le-ltb timeLimit (timeOf s) slot-left)
         (some-either (ofRow s (exceeds s)) (λ i. not (s .stopped) && ofRow s (outsideShare s) i) n
         ∙ ap (λ b. someRow s (exceeds s) || b) (some-where (not (s .stopped)) (ofRow s (outsideShare s)) n))

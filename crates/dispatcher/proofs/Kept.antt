@@ -21,7 +21,7 @@ use Rattle.table.specs.Limits.{rowLimit}
 use Rattle.table.specs.Value.{faultOf}
 use Rattle.pd2.specs.Share.{lower, upper, CanBe}
 use Rattle.pd2.specs.Picks.{picked}
-use Rattle.pd2.specs.Choice.{rowAt, quantaAt, given, readyIn, firstBy}
+use Rattle.pd2.specs.Choice.{rowAt, quantaAt, given, readyIn, goesBeforeBy}
 use Rattle.pd2.specs.Order.{before}
 use Rattle.pd2.proofs.Share.{row-can-be, nothing-is-within, upper-kept-when-idle, upper-after-quantum-means-ready, late-means-below}
 use Rattle.pd2.proofs.Picks.{picked-is-ready}
@@ -163,7 +163,7 @@ module _ (s : State) (k : ℕ) where
   -- A row that is named is picked, so it is a ready row of the table.
   pub named-is-ready : (i : ℕ) → names (picksIn s k) i ≡ true → (i < length (rowsIn s)) × (readyIn (rowsIn s) (quantaIn s) (timeOf s) i ≡ true)
   named-is-ready i h =
-      let test = picked (readyIn (rowsIn s) (quantaIn s) (timeOf s)) (firstBy before (rowsIn s) (quantaIn s)) (length (rowsIn s)) k in
+      let test = picked (readyIn (rowsIn s) (quantaIn s) (timeOf s)) (goesBeforeBy before (rowsIn s) (quantaIn s)) (length (rowsIn s)) k in
       let x = both (ltb i (length (rowsIn s))) (test i) (sym (listed-are-named test (length (rowsIn s)) i) ∙ h) in
       (ltb-true i (length (rowsIn s)) (x .0), picked-is-ready _ _ _ k i (x .1))
 

@@ -16,7 +16,7 @@ use Rattle.table.specs.declared.Row.{Row}
 use Rattle.table.specs.Value.{faultOf}
 use Rattle.pd2.specs.Ready.{ready}
 use Rattle.pd2.specs.Picks.{picked}
-use Rattle.pd2.specs.Choice.{rowAt, quantaAt, given, readyIn, firstBy, pd2Picks}
+use Rattle.pd2.specs.Choice.{rowAt, quantaAt, given, readyIn, goesBeforeBy, pd2Picks}
 use Rattle.pd2.specs.Order.{before}
 use Rattle.pd2.proofs.Picks.{picks-are-best}
 use Rattle.pd2.proofs.Choice.{pd2-is-strict}
@@ -36,7 +36,7 @@ use Rattle.dispatcher.proofs.Kept.{done-number, named-is-ready, one-mor
 pub picks-are-few : (s : State) (k : ℕ) → length (picksIn s k) ≤ k
 picks-are-few s k =
     let rows = rowsIn s in
-    let best = picks-are-best (readyIn rows (quantaIn s) (timeOf s)) (firstBy before rows (quantaIn s)) (length rows) k (pd2-is-strict rows (quantaIn s) (timeOf s) (length rows)) in
+    let best = picks-are-best (readyIn rows (quantaIn s) (timeOf s)) (goesBeforeBy before rows (quantaIn s)) (length rows) k (pd2-is-strict rows (quantaIn s) (timeOf s) (length rows)) in
     omega (arith, best .how-many)
 
 -- The number of a slot is 0, 1 or that of the first of the five causes.
@@ -93,7 +93,7 @@ past-is-returned s k buffer place =
 module _ (rows : List Row) (quanta quanta′ : List ℕ) (same : (i : ℕ) → i < length rows → quantaAt quanta i ≡ quantaAt quanta′ i) (t k : ℕ) where
   -- (who is picked, by the quanta)
   pickedBy : List ℕ → ℕ → Bool
-  pickedBy q = picked (readyIn rows q t) (firstBy before rows q) (length rows) k
+  pickedBy q = picked (readyIn rows q t) (goesBeforeBy before rows q) (length rows) k
 
   -- pick each row alike: it is ready alike, and as many go before it,
   picked-alike : (i : ℕ) → i < length rows → pickedBy quanta i ≡ pickedBy quanta′ i
@@ -118,7 +118,7 @@ module _ (s s′ : State) (alike : AlikeBelow s s′) where
   -- have tables with the same fault,
   fault-alike : faultOf (s .table) ≡ faultOf (s′ .table)
   unfolding faultOf
-  fault-alike = rw (alike .boards, alike .rows, alike .cycle, alike .cores, alike .count)
+  fault-alike = rw (alike .boards, alike .rows, alike .cycle, alike .cores, alike .row-count)
 
   -- have the same quanta below n,
   quanta-alike : (i : ℕ) → i < length (rowsIn s) → quantaAt (quantaIn s) i ≡ quantaAt (quantaIn s′) i
@@ -159,7 +159,7 @@ module _ (s s′ : State) (alike : AlikeBelow s s′) where
           cycle = alike .cycle;
           cores = alike .cores;
           boards = alike .boards;
-          count = alike .count;
+          row-count = alike .row-count;
           rows = alike .rows;
           time = ap (λ t. t + 1) (alike .time);
           stopped = alike .stopped;
@@ -195,7 +195,7 @@ past-is-ignored s s′ k buffer place alike = rw (refusal-alike s s′ alike k b
           cycle = after .cycle;
           cores = after .cores;
           boards = after .boards;
-          count = after .count;
+          row-count = after .row-count;
           rows = after .rows;
           time = after .time;
           stopped = stopped-alike;

@@ -76,7 +76,7 @@ as-counted (q ∷ l) = ap (λ rest. q ∷ rest) (as-counted l)
 
 -- If only its rows are given to, a usable state stays usable as long as the time is below its limit.
 pub stays-usable : (s : State) (isPicked : ℕ → Bool) → UsableState s → timeOf s < timeLimit → UsableState (ran s isPicked)
-stays-usable s isPicked u early =
+stays-usable s isPicked u slot-left =
     record {
       place = record { few = u .place .few; all = u .place .all; long = same-long ∙ u .place .long };
       each = λ i l. let row = u .each i l in record { cost = row .cost; weight = row .weight; quanta = few i l; time = omega arith };
@@ -116,11 +116,11 @@ marked-are-small s marks can i h =
     omega (arith, row .quanta, row .time, sym (List·getD-map (λ q. q .0) (s .quanta) i (record { 0 = 0 })))
 
 -- The lowest late row that the arrays show is the state's.
-pub lowest-of-state : (s : State) → UsableState s → {i : ℕ} → Lowest (isLate (s .table .rows) (s .quanta) (timeOf s)) (min (s .table .count) 32) i →
+pub lowest-of-state : (s : State) → UsableState s → {i : ℕ} → Lowest (isLate (s .table .rows) (s .quanta) (timeOf s)) (min (s .table .n) 32) i →
     Lowest (ofRow s (lateAt (timeOf s))) (length (rowsIn s)) i
 lowest-of-state s u {i} low =
     let place = u .place in
-    let bound : min (s .table .count) 32 ≡ length (rowsIn s) = omega (arith, place .few, place .all) in
+    let bound : min (s .table .n) 32 ≡ length (rowsIn s) = omega (arith, place .few, place .all) in
     same-lowest (isLate (s .table .rows) (s .quanta) (timeOf s)) (ofRow s (lateAt (timeOf s))) (length (rowsIn s)) i
     (λ j l. answered-there u l zeroRow (record { 0 = 0 }) (lateAt (timeOf s)) refl refl)
     (subst (λ n. Lowest (isLate (s .table .rows) (s .quanta) (timeOf s)) n i) bound low)

@@ -73,7 +73,7 @@ module _ (s : State) (k : ℕ) (buffer : List ℕ) (place : ℕ) where
       unfolding refusal firstMet
       first-32 h = rw (whole, runs, eq-eqb (timeOf s) timeLimit h) refl
 
-      module _ (early : timeOf s < timeLimit) where
+      module _ (slot-left : timeOf s < timeLimit) where
         pub first-33 : s .table .cores < k → refusal s k buffer place ≡ 33
         unfolding refusal firstMet
         first-33 h = rw (whole, runs, ne-eqb (timeOf s) timeLimit (λ e. omega arith), lt-ltb (s .table .cores) k h) refl

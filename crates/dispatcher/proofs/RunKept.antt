@@ -19,7 +19,7 @@ use Rattle.pd2.specs.Share.{lower, upper, within}
 use Rattle.pd2.specs.Choice.{rowAt, quantaAt}
 use Rattle.pd2.proofs.Share.{row-can-be, late-means-below, late-exactly-if-owed}
 use Rattle.trace.specs.Record.{withRecord}
-use Rattle.trace.specs.Records.{placeOf, namedIn, count}
+use Rattle.trace.specs.Records.{placeOf, namedIn, timesNamedFrom}
 use Rattle.trace.proofs.Records.{next-place, named-once-more}
 use Rattle.dispatcher.specs.declared.State.{State}
 use Rattle.dispatcher.specs.State.{rowsIn, quantaIn, timeOf}
@@ -80,7 +80,7 @@ going-shares table s m g i l =
 record Stands (from : ℕ) (s : State) (b : List ℕ) (next : ℕ) : Type 0 where
   long : length (s .quanta) ≡ rowLimit
   place : next ≡ placeOf b from (timeOf s)
-  counts : (i : ℕ) → quantaAt (quantaIn s) i ≡ count b from i (timeOf s)
+  counts : (i : ℕ) → quantaAt (quantaIn s) i ≡ timesNamedFrom b from i (timeOf s)
 
 -- one record more
 stands-after : (from : ℕ) (s : State) (b : List ℕ) (next k : ℕ) → Stands from s b next → Whole s → next ≤ length b →

@@ -63,10 +63,10 @@ is-not-broken s w =
 
 -- A table without fault has no more rows than a state has places.
 pub rows-have-places : (t : Table) → faultOf t ≡ 0 → length (rowsOf t) ≤ rowLimit
-rows-have-places t h = omega (arith, length-take (t .count) (t .rows), sizes-are-within t h .2)
+rows-have-places t h = omega (arith, length-take (t .n) (t .rows), sizes-are-within t h .2)
 
 -- A whole state is one that the functions of this crate can use.
-pub is-usable : (s : State) → Whole s → InPlace (s .table .rows) (s .quanta) (s .table .count) → UsableState s
+pub is-usable : (s : State) → Whole s → InPlace (s .table .rows) (s .quanta) (s .table .n) → UsableState s
 is-usable s w place =
     record {
       place = place;

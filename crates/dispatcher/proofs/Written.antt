@@ -13,11 +13,11 @@ use Rattle.table.specs.Value.{faultOf, rowsOf}
 use Rattle.pd2.specs.Picks.{picked}
 use Rattle.pd2.specs.Order.{before}
 use Rattle.pd2.specs.Share.{within}
-use Rattle.pd2.specs.Choice.{rowAt, readyIn, firstBy}
+use Rattle.pd2.specs.Choice.{rowAt, readyIn, goesBeforeBy}
 use Rattle.pd2.proofs.Picks.{picks-are-best}
 use Rattle.pd2.proofs.Choice.{pd2-is-strict}
 use Rattle.trace.specs.Record.{recordOf, withRecord}
-use Rattle.trace.specs.Records.{freeAt, countAt, rowsAt, pastRecord, placeOf, count}
+use Rattle.trace.specs.Records.{freeAt, pickedAt, rowsAt, pastRecord, placeOf, timesNamedFrom}
 use Rattle.trace.proofs.Records.{places-rise, stand-from, ends-at-next, ends-before}
 use Rattle.trace.proofs.Agree.{Agree, rows-agree, place-agrees, count-agrees, still-as-long, agrees-before, free-written, count-written, rows-written}
 use Rattle.dispatcher.specs.declared.State.{State}
@@ -34,7 +34,7 @@ use Rattle.dispatcher.proofs.RunKept.{next-run, before-too, going, plac
 -- below n.
 pub record SoundAt (table : Table) (b : List ℕ) (place : ℕ) : Type 0 where
   pub free : freeAt b place ≤ table .cores
-  pub count : countAt b place ≤ freeAt b place
+  pub picked : pickedAt b place ≤ freeAt b place
   pub listed : ℕ → Bool
   pub rows : rowsAt b place ≡ those listed (length (rowsOf table))
 
@@ -45,7 +45,7 @@ sound-there table from end a b agree place l h sound =
     let head = agree .same place l (omega arith) in
     record {
       free = rw head (sound .free);
-      count = rw (head, agree .same (place + 1) (omega arith) (omega arith)) (sound .count);
+      picked = rw (head, agree .same (place + 1) (omega arith) (omega arith)) (sound .picked);
       listed = sound .listed;
       rows = rows-agree from end a b agree place l h ∙ sound .rows;
     }
@@ -89,7 +89,7 @@ module _ (table : Table) (from t : ℕ) (b : List ℕ) (next k : ℕ) (rows : Li
       this =
           record {
             free = rw (free-written b next k rows room) cores;
-            count = rw (free-written b next k rows room, count-written b next k rows room) few;
+            picked = rw (free-written b next k rows room, count-written b next k rows room) few;
             listed = listed;
             rows = rows-written b next k rows room ∙ same;
           }
@@ -102,7 +102,7 @@ module _ (table : Table) (from t : ℕ) (b : List ℕ) (next k : ℕ) (rows : Li
 few-picks : (s : State) (k : ℕ) → length (picksIn s k) ≤ k
 few-picks s k =
     let strict = pd2-is-strict (rowsIn s) (quantaIn s) (timeOf s) (length (rowsIn s)) in
-    omega (arith, picks-are-best (readyIn (rowsIn s) (quantaIn s) (timeOf s)) (firstBy before (rowsIn s) (quantaIn s)) (length (rowsIn s)) k strict .how-many)
+    omega (arith, picks-are-best (readyIn (rowsIn s) (quantaIn s) (timeOf s)) (goesBeforeBy before (rowsIn s) (quantaIn s)) (length (rowsIn s)) k strict .how-many)
 
 module _ (table : Table) (free : ℕ → ℕ) (buffer : List ℕ) (place : ℕ) where
   abbrev at : ℕ → Run
@@ -130,7 +130,7 @@ module _ (table : Table) (free : ℕ → ℕ) (buffer : List ℕ) (place : ℕ) 
       Written table place (m + 1) (at (suc m) .bytes) (at (suc m) .place)
   written-on m same st so =
       let r = at m in
-      let isPicked = picked (readyIn (rowsIn (r .state)) (quantaIn (r .state)) (timeOf (r .state))) (firstBy before (rowsIn (r .state)) (quantaIn (r .state))) (length (rowsIn (r .state))) (free m) in
+      let isPicked = picked (readyIn (rowsIn (r .state)) (quantaIn (r .state)) (timeOf (r .state))) (goesBeforeBy before (rowsIn (r .state)) (quantaIn (r .state))) (length (rowsIn (r .state))) (free m) in
       rw (st .bytes, st .next)
       (written-after table place m (r .bytes) (r .place) (free m) (picksIn (r .state) (free m)) so (st .goes .room)
       (subst (λ t. free m ≤ t .cores) same (st .goes .cores))
@@ -154,7 +154,7 @@ module _ (table : Table) (free : ℕ → ℕ) (buffer : List ℕ) (place : ℕ) 
 
     -- the records before a slot that is done count as before
     counts-stay : (m : ℕ) → at m .said .number ≡ 0 → at (suc m) .said .number < 2 → (i t : ℕ) → t ≤ m →
-        count (at (suc m) .bytes) place i t ≡ count (at m .bytes) place i t
+        timesNamedFrom (at (suc m) .bytes) place i t ≡ timesNamedFrom (at m .bytes) place i t
     counts-stay m e h i t l =
         let st = step m e h in
         let r = at m in
@@ -163,30 +163,30 @@ module _ (table : Table) (free : ℕ → ℕ) (buffer : List ℕ) (place : ℕ) 
         rw (st .bytes) (count-agrees place (r .place) _ (r .bytes) agree i t early)
 
     -- each row is within its share at the end, by the records written,
-    shares-now : (m : ℕ) → at m .said .number ≡ 0 → (i : ℕ) → i < length (rowsOf table) → within (rowAt (rowsOf table) i) (count (at m .bytes) place i m) m ≡ true
+    shares-now : (m : ℕ) → at m .said .number ≡ 0 → (i : ℕ) → i < length (rowsOf table) → within (rowAt (rowsOf table) i) (timesNamedFrom (at m .bytes) place i m) m ≡ true
     shares-now m e i l =
         let kept = keeps-shares table free buffer place sound m e in
         subst (λ q. within (rowAt (rowsOf table) i) q m ≡ true)
-        (quanta-are-records table free buffer place m i ∙ ap (count (at m .bytes) place i) (kept .0))
+        (quanta-are-records table free buffer place m i ∙ ap (timesNamedFrom (at m .bytes) place i) (kept .0))
         (kept .1 i l)
 
     -- While every answer is 0, each row is within its share at each time, by the records written so far,
     pub shares-written : (m : ℕ) → at m .said .number ≡ 0 → (i t : ℕ) → i < length (rowsOf table) → t ≤ m →
-        within (rowAt (rowsOf table) i) (count (at m .bytes) place i t) t ≡ true
+        within (rowAt (rowsOf table) i) (timesNamedFrom (at m .bytes) place i t) t ≡ true
     shares-written zero e i t l k = let same : t ≡ 0 = omega arith in rw same (shares-now 0 e i l)
     shares-written (suc m) e i t l k = go (decLt m t) (shares-written m earlier i t l)
       where
         earlier : at m .said .number ≡ 0
         earlier = before-too table free buffer place m e
 
-        go : Dec (m < t) → (t ≤ m → within (rowAt (rowsOf table) i) (count (at m .bytes) place i t) t ≡ true) →
-            within (rowAt (rowsOf table) i) (count (at (suc m) .bytes) place i t) t ≡ true
+        go : Dec (m < t) → (t ≤ m → within (rowAt (rowsOf table) i) (timesNamedFrom (at m .bytes) place i t) t ≡ true) →
+            within (rowAt (rowsOf table) i) (timesNamedFrom (at (suc m) .bytes) place i t) t ≡ true
         go (yes h) rest = let same : t ≡ suc m = omega arith in rw same (shares-now (suc m) e i l)
         go (no h) rest = rw (counts-stay m earlier (omega (arith, e)) i t (omega arith)) (rest (omega arith))
 
     -- and before a slot that answers 0 or 1.
     pub shares-before : (m : ℕ) → at m .said .number ≡ 0 → at (suc m) .said .number < 2 → (i t : ℕ) → i < length (rowsOf table) → t ≤ m →
-        within (rowAt (rowsOf table) i) (count (at (suc m) .bytes) place i t) t ≡ true
+        within (rowAt (rowsOf table) i) (timesNamedFrom (at (suc m) .bytes) place i t) t ≡ true
     shares-before m e h i t l k = rw (counts-stay m e h i t k) (shares-written m e i t l k)
 
   -- A run that ends with 1 is one of m slots that answered 0 and one more that answered 1.

@@ -9,7 +9,7 @@ use Rattle.pd2.specs.Choice.{quantaAt}
 use Rattle.trace.specs.Said.{bare}
 use Rattle.dispatcher.specs.declared.State.{State}
 use Rattle.dispatcher.specs.State.{rowsIn, quantaIn, timeOf}
-use Rattle.dispatcher.specs.Slot.{Given, slotOf}
+use Rattle.dispatcher.specs.Slot.{SlotReply, slotOf}
 
 -- A slot answers 0, 1 or a number of 30 to 34.
 abbrev pub SlotNumbers : Type 0
@@ -44,13 +44,13 @@ pub record AlikeBelow (s s′ : State) : Type 0 where
   pub cycle : s .table .cycle ≡ s′ .table .cycle
   pub cores : s .table .cores ≡ s′ .table .cores
   pub boards : boardsOf (s .table) ≡ boardsOf (s′ .table)
-  pub count : s .table .count ≡ s′ .table .count
+  pub row-count : s .table .n ≡ s′ .table .n
   pub rows : rowsIn s ≡ rowsIn s′
   pub time : timeOf s ≡ timeOf s′
   pub stopped : s .stopped ≡ s′ .stopped
   pub quanta : take (length (rowsIn s)) (quantaIn s) ≡ take (length (rowsIn s)) (quantaIn s′)
 
-pub record SameAnswer (a b : Given) : Type 0 where
+pub record SameAnswer (a b : SlotReply) : Type 0 where
   pub said : a .said ≡ b .said
   pub bytes : a .bytes ≡ b .bytes
   pub state : AlikeBelow (a .state) (b .state)

@@ -6,7 +6,7 @@ use Rattle.table.specs.declared.Table.{Table}
 use Rattle.dispatcher.specs.declared.State.{State}
 use Rattle.dispatcher.specs.State.{freshOf}
 use Rattle.trace.specs.Said.{Said, bare}
-use Rattle.dispatcher.specs.Slot.{recordIn, Given, slotOf}
+use Rattle.dispatcher.specs.Slot.{recordIn, SlotReply, slotOf}
 
 -- The last answer, the state, the buffer, and the place behind the last record.
 pub record Run : Type 0 where
@@ -21,7 +21,7 @@ placeBy zero place entry = place + length entry
 placeBy (suc zero) place entry = place + length entry
 placeBy (suc (suc number)) place entry = place
 
-abbrev pub runWith : Given → Run → List ℕ → Run
+abbrev pub runWith : SlotReply → Run → List ℕ → Run
 runWith g r entry = record { said = g .said; state = g .state; bytes = g .bytes; place = placeBy (g .said .number) (r .place) entry }
 
 -- A slot more, with k cores free, if the number of the last answer is 0.

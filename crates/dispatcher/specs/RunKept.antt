@@ -9,7 +9,7 @@ use Rattle.table.specs.declared.Table.{Table}
 use Rattle.table.specs.Value.{faultOf, rowsOf}
 use Rattle.pd2.specs.Share.{elapsed, upper, within}
 use Rattle.pd2.specs.Choice.{rowAt, quantaAt}
-use Rattle.trace.specs.Records.{placeOf, count}
+use Rattle.trace.specs.Records.{placeOf, timesNamedFrom}
 use Rattle.dispatcher.specs.State.{quantaIn, timeOf}
 use Rattle.dispatcher.specs.Run.{Run, run}
 
@@ -54,7 +54,7 @@ module _ (table : Table) (free : ℕ → ℕ) (buffer : List ℕ) (place : ℕ) 
   -- D6: the quanta of each row are as many as the records that name it; they stand in the buffer from the place on, one a slot.
   abbrev pub QuantaAreRecords : Type 0
   QuantaAreRecords =
-      (m i : ℕ) → quantaNow (runFor m) i ≡ count (runFor m .bytes) place i (timeOf (runFor m .state))
+      (m i : ℕ) → quantaNow (runFor m) i ≡ timesNamedFrom (runFor m .bytes) place i (timeOf (runFor m .state))
 
   abbrev pub RecordsStandInTurn : Type 0
   RecordsStandInTurn = (m : ℕ) → runFor m .place ≡ placeOf (runFor m .bytes) place (timeOf (runFor m .state))

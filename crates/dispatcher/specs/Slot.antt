@@ -72,14 +72,14 @@ unfoldable pub refusal : State → ℕ → List ℕ → ℕ → ℕ
 refusal s k buffer place = firstMet (slotTests s k buffer place)
 
 -- What a slot gives back: the answer, the state and the buffer.
-pub record Given : Type 0 where
+pub record SlotReply : Type 0 where
   pub said : Said
   pub state : State
   pub bytes : List ℕ
 
 -- "With 30 to 34 the state returns equal and the buffer is untouched."
 -- "With 0 and 1 the record stands at the given place in the lent buffer, every other byte is as before"
-abbrev pub slotBy : ℕ → State → ℕ → List ℕ → ℕ → Given
+abbrev pub slotBy : ℕ → State → ℕ → List ℕ → ℕ → SlotReply
 slotBy zero s k buffer place =
     record {
       said = doneSaid (lateIn (oneOn s k) (timeOf s + 1)) (timeOf s + 1);
@@ -88,5 +88,5 @@ slotBy zero s k buffer place =
     }
 slotBy (suc number) s k buffer place = record { said = bare (suc number); state = s; bytes = buffer }
 
-unfoldable pub slotOf : State → ℕ → List ℕ → ℕ → Given
+unfoldable pub slotOf : State → ℕ → List ℕ → ℕ → SlotReply
 slotOf s k buffer place = slotBy (refusal s k buffer place) s k buffer place

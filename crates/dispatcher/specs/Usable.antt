@@ -45,19 +45,19 @@ pub record Usable (rows : List Row) (quanta : List Quanta) (n t : ℕ) : Type 0 
 
 -- The same of a state.
 abbrev pub UsableState : State → Type 0
-UsableState s = Usable (s .table .rows) (s .quanta) (s .table .count) (timeOf s)
+UsableState s = Usable (s .table .rows) (s .quanta) (s .table .n) (timeOf s)
 
 -- The marked rows can be given a quantum: only rows of the state are marked, and there is a slot left.
 pub record CanRun (s : State) (marks : List Bool) : Type 0 where
   pub usable : UsableState s
   pub only-rows : (i : ℕ) → getD marks i false ≡ true → i < length (rowsIn s)
-  pub early : timeOf s < timeLimit
+  pub slot-left : timeOf s < timeLimit
 
 -- A slot that no test before the choice refuses, with so many bytes in the buffer.
 pub record Admitted (s : State) (k len place : ℕ) : Type 0 where
   pub whole : broken s ≡ false
   pub runs : s .stopped ≡ false
-  pub early : timeOf s < timeLimit
+  pub slot-left : timeOf s < timeLimit
   pub enough : k ≤ s .table .cores
   pub inside : place ≤ len
 

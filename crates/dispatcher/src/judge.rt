@@ -23,7 +23,7 @@ pub(crate) fn is_broken(state: State) -> bool
     if counts::TIME_LIMIT < state.time.time() {
         return true;
     }
-    let n = state.table.count as usize;
+    let n = state.table.n as usize;
     let rows = state.table.rows;
     let quanta = state.quanta;
     has_broken_row(rows, quanta, n, state.time, state.stopped)

@@ -105,7 +105,7 @@ impl State {
         requires { ⌜ UsableState self × (k ≤ 8) ⌝ }
         ensures { λ r. ⌜ marked r ≡ picksIn self k ⌝ }
     {
-        let n = self.table.count as usize;
+        let n = self.table.n as usize;
         let rows = self.table.rows;
         let quanta = self.quanta;
         choice::picks(rows, quanta, n, self.time, k)
@@ -148,7 +148,7 @@ impl State {
         ensures { λ r. ⌜ r .state ≡ judged self ⌝ }
     {
         let late = self.lowest_late();
-        let n = self.table.count as usize;
+        let n = self.table.n as usize;
         self.stopped = late < n;
         let answer = done(late, n, self.time);
         Outcome {
@@ -162,7 +162,7 @@ impl State {
         requires { ⌜ UsableState self ⌝ }
         ensures { λ r. ⌜ Lowest (ofRow self (lateAt (timeOf self))) (length (rowsIn self)) r ⌝ }
     {
-        let n = self.table.count as usize;
+        let n = self.table.n as usize;
         let rows = self.table.rows;
         let quanta = self.quanta;
         pd2::lowest_late(rows, quanta, n, self.time)

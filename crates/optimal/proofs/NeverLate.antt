@@ -9,9 +9,9 @@ use Rattle.windows.specs.Windows.{start, deadline, jobStart}
 use Rattle.windows.proofs.Windows.{job-starts-first}
 use Rattle.windows.proofs.Group.{light-has-none}
 use Rattle.table.specs.declared.Row.{Row}
-use Rattle.pd2.specs.Ready.{origin, early, readyEarly, readyPlain, ready, late}
+use Rattle.pd2.specs.Ready.{originOf, isEarlyRelease, readyEarlyRelease, readyPlain, ready, late}
 use Rattle.pd2.specs.Order.{Rank, rankOf, Before, before}
-use Rattle.pd2.specs.Choice.{rowAt, quantaAt, readyIn, firstBy}
+use Rattle.pd2.specs.Choice.{rowAt, quantaAt, readyIn, goesBeforeBy}
 use Rattle.pd2.proofs.Order.{before-means-rule}
 use Rattle.pd2.proofs.Choice.{pd2-is-strict}
 use Rattle.optimal.specs.Box.{Box}
@@ -26,29 +26,29 @@ use Rattle.optimal.proofs.Rows.{due-means}
 use Rattle.optimal.proofs.Greedy.{setting, cuts-are-greedy, ext, extensions-are-greedy}
 
 -- A row is not late before its next deadline.
-not-late-before-deadline : (row : Row) (q t : ℕ) → t < deadline (row .cost) (row .period) (origin row) (q + 1) → late row q t ≡ false
+not-late-before-deadline : (row : Row) (q t : ℕ) → t < deadline (row .cost) (row .period) (originOf row) (q + 1) → late row q t ≡ false
 unfolding late
 not-late-before-deadline row q t l = lt-leb _ _ l
 
 -- A row whose next subtask has started is ready: a job starts no later than its windows.
-started-is-ready : (row : Row) (q t : ℕ) → 0 < row .cost → start (row .cost) (row .period) (origin row) (q + 1) ≤ t → ready row q t ≡ true
+started-is-ready : (row : Row) (q t : ℕ) → 0 < row .cost → start (row .cost) (row .period) (originOf row) (q + 1) ≤ t → ready row q t ≡ true
 unfolding ready
-started-is-ready row q t he l = go (early row)
+started-is-ready row q t he l = go (isEarlyRelease row)
   where
-    go : (isEarly : Bool) → cond isEarly (readyEarly row q t) (readyPlain row q t) ≡ true
+    go : (isEarly : Bool) → cond isEarly (readyEarlyRelease row q t) (readyPlain row q t) ≡ true
     go true =
-        let first = job-starts-first (row .cost) (row .period) (origin row) he (q + 1) in
-        le-leb (jobStart (row .cost) (row .period) (origin row) (q + 1)) t (omega arith)
+        let sooner = job-starts-first (row .cost) (row .period) (originOf row) he (q + 1) in
+        le-leb (jobStart (row .cost) (row .period) (originOf row) (q + 1)) t (omega arith)
     go false = le-leb _ _ l
 
 -- In a course held to one rule the order is held to another, where the one implies the other.
 held-to : {n : ℕ} {row : ℕ → Row} {cores H : ℕ} {allows others : Rank → Rank → Type 0} {q : ℕ → ℕ → ℕ} {ready : ℕ → ℕ → Bool}
-    {first : ℕ → ℕ → ℕ → Bool} {k : ℕ → ℕ} → Course n row cores H allows q ready first k →
+    {goesBefore : ℕ → ℕ → ℕ → Bool} {k : ℕ → ℕ} → Course n row cores H allows q ready goesBefore k →
     ((t i j : ℕ) → i < n → j < n →
     let x = rankOf (row i) i (q t i) in
     let y = rankOf (row j) j (q t j) in
     allows x y → others x y) →
-    Course n row cores H others q ready first k
+    Course n row cores H others q ready goesBefore k
 held-to C implies =
     record {
       enough = C .enough;
@@ -60,8 +60,8 @@ held-to C implies =
     }
 
 -- Where the fluid of a box is on time, nobody is late.
-module _ {n cycle cores H : ℕ} {row : ℕ → Row} {q : ℕ → ℕ → ℕ} {ready : ℕ → ℕ → Bool} {first : ℕ → ℕ → ℕ → Bool} {k : ℕ → ℕ}
-    (B : Box n row cycle cores) (C : Course n row cores H ByDeadline q ready first k) where
+module _ {n cycle cores H : ℕ} {row : ℕ → Row} {q : ℕ → ℕ → ℕ} {ready : ℕ → ℕ → Bool} {goesBefore : ℕ → ℕ → ℕ → Bool} {k : ℕ → ℕ}
+    (B : Box n row cycle cores) (C : Course n row cores H ByDeadline q ready goesBefore k) where
   on-time-is-not-late : OnTime (setting B C) H → NobodyIsLate n row H q
   on-time-is-not-late o t i th l = not-late-before-deadline (row i) (q t i) t (go (decLe (rankOf (row i) i (q t i) .d) t))
     where
@@ -70,7 +70,7 @@ module _ {n cycle cores H : ℕ} {row : ℕ → Row} {q : ℕ → ℕ → ℕ} {
       go (no d) = omega arith
 
 pub never-late-two-cores : NeverLateTwoCores
-never-late-two-cores n row cycle cores two H q ready first k B C =
+never-late-two-cores n row cycle cores two H q ready goesBefore k B C =
     on-time-is-not-late B C
     (greedy-is-on-time-on-two n cycle cores H _ _ q (setting B C) two (λ h _. cuts-are-greedy B C h) H (omega arith))
 
@@ -78,8 +78,8 @@ pub never-late-one-core : NeverLateOneCore
 never-late-one-core n row cycle = never-late-two-cores n row cycle 1 (omega arith)
 
 pub never-late : NeverLate
-never-late n row cycle cores H q ready first k B C =
-    let D : Course n row cores H ByDeadline q ready first k = held-to C (λ t i j li lj a. record { deadline = a .bits .deadline }) in
+never-late n row cycle cores H q ready goesBefore k B C =
+    let D : Course n row cores H ByDeadline q ready goesBefore k = held-to C (λ t i j li lj a. record { deadline = a .bits .deadline }) in
     on-time-is-not-late B D
     (greedy-is-on-time n cycle cores H _ _ q (setting B D) (ext B D) (λ h _. cuts-are-greedy B D h)
     (λ s t st th. (extensions-are-greedy B D (C .ordered) s t st th, λ i l. extension-is-ext (setting B D) s t i st th l))
@@ -87,13 +87,13 @@ never-late n row cycle cores H q ready first k B C =
 
 -- Of light rows all group deadlines are 0, so PD2 asks nothing of them.
 pub never-late-light : NeverLateLight
-never-late-light n row cycle cores light H q ready first k B C =
-    never-late n row cycle cores H q ready first k B
+never-late-light n row cycle cores light H q ready goesBefore k B C =
+    never-late n row cycle cores H q ready goesBefore k B
     (held-to C
     (λ t i j li lj a.
     record {
       bits = a;
-      group = λ _ _ _. omega (arith, light-has-none (row j .cost) (row j .period) (origin (row j)) (q t j + 1) (light j lj));
+      group = λ _ _ _. omega (arith, light-has-none (row j .cost) (row j .period) (originOf (row j)) (q t j + 1) (light j lj));
     }))
 
 -- PD2's order, with the lower row number last, is held to PD2.
@@ -120,7 +120,7 @@ before-is-pd2 x y b = record { bits = record { deadline = deadline b; bit = bit 
 
 pub pd2-never-late : Pd2NeverLate
 pd2-never-late rows cycle cores H quanta k B enough given =
-    never-late _ (rowAt rows) cycle cores H (λ t. quantaAt (quanta t)) (λ t. readyIn rows (quanta t) t) (λ t. firstBy before rows (quanta t)) k B
+    never-late _ (rowAt rows) cycle cores H (λ t. quantaAt (quanta t)) (λ t. readyIn rows (quanta t) t) (λ t. goesBeforeBy before rows (quanta t)) k B
     (record {
       enough = enough;
       started = λ t i th l h. started-is-ready (rowAt rows i) (quantaAt (quanta t) i) t (B .can i l .cost) h;

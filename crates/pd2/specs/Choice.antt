@@ -20,12 +20,12 @@ abbrev pub readyIn : List Row → List ℕ → ℕ → ℕ → Bool
 readyIn rows quanta t i = ready (rowAt rows i) (quantaAt quanta i) t
 
 -- Row j goes before row i, by an order of ranks.
-abbrev pub firstBy : (Rank → Rank → Bool) → List Row → List ℕ → ℕ → ℕ → Bool
-firstBy order rows quanta j i = order (rankOf (rowAt rows j) j (quantaAt quanta j)) (rankOf (rowAt rows i) i (quantaAt quanta i))
+abbrev pub goesBeforeBy : (Rank → Rank → Bool) → List Row → List ℕ → ℕ → ℕ → Bool
+goesBeforeBy order rows quanta j i = order (rankOf (rowAt rows j) j (quantaAt quanta j)) (rankOf (rowAt rows i) i (quantaAt quanta i))
 
 -- The rows picked for slot t with k cores free, by an order of ranks; PD2's is `before`.
 abbrev pub picksBy : (Rank → Rank → Bool) → List Row → List ℕ → ℕ → ℕ → List ℕ
-picksBy order rows quanta t k = picks (readyIn rows quanta t) (firstBy order rows quanta) (length rows) k
+picksBy order rows quanta t k = picks (readyIn rows quanta t) (goesBeforeBy order rows quanta) (length rows) k
 
 abbrev pub pd2Picks : List Row → List ℕ → ℕ → ℕ → List ℕ
 pd2Picks = picksBy before
@@ -37,4 +37,4 @@ given isPicked i (q ∷ quanta) = (q + cond (isPicked i) 1 0) ∷ given isPicked
 
 -- PD2's order is strict among any rows, whatever their quanta: so O4 holds of its picks.
 abbrev pub Pd2IsStrict : Type 0
-Pd2IsStrict = (rows : List Row) (quanta : List ℕ) (t n : ℕ) → Strict (readyIn rows quanta t) (firstBy before rows quanta) n
+Pd2IsStrict = (rows : List Row) (quanta : List ℕ) (t n : ℕ) → Strict (readyIn rows quanta t) (goesBeforeBy before rows quanta) n

@@ -6,7 +6,7 @@ use lib.Dec.{ltb, eqb}
 use Rattle.windows.specs.Windows.{deadline, bit}
 use Rattle.windows.specs.Group.{groupDeadline}
 use Rattle.table.specs.declared.Row.{Row}
-use Rattle.pd2.specs.Ready.{origin}
+use Rattle.pd2.specs.Ready.{originOf}
 
 -- What the order looks at: d, b and D of a row's next subtask, and the row's number.
 pub record Rank : Type 0 where
@@ -19,9 +19,9 @@ pub record Rank : Type 0 where
 abbrev pub rankOf : Row → ℕ → ℕ → Rank
 rankOf row i q =
     record {
-      d = deadline (row .cost) (row .period) (origin row) (q + 1);
+      d = deadline (row .cost) (row .period) (originOf row) (q + 1);
       b = bit (row .cost) (row .period) (q + 1);
-      D = groupDeadline (row .cost) (row .period) (origin row) (q + 1);
+      D = groupDeadline (row .cost) (row .period) (originOf row) (q + 1);
       row = i;
     }
 

@@ -7,8 +7,8 @@ ghost use mathlib.Core.Bool.{true};
 ghost use Prim.Native.Nat.{_*_, _<_, _≤_, min};
 ghost use Rattle.facts.specs.First.{Lowest};
 ghost use Rattle.windows.specs.Fits.{furthest, products};
-ghost use Rattle.pd2.specs.Ready.{origin, ready, late};
-ghost use Rattle.pd2.specs.Share.{lower, upper, upperPlain, upperEarly, within};
+ghost use Rattle.pd2.specs.Ready.{originOf, ready, late};
+ghost use Rattle.pd2.specs.Share.{lower, upper, upperPlain, upperEarlyRelease, within};
 ghost use Rattle.pd2.specs.Verdict.{isYes, answered, verdict, Near};
 ghost use Rattle.pd2.specs.Rows.{GaveMarked, isLate};
 
@@ -34,7 +34,7 @@ impl Verdict {
 
 // The time from which a row's windows are counted.
 pub fn origin(row: Row) -> Slot
-    ensures { λ r. ⌜ r .0 ≡ origin row ⌝ }
+    ensures { λ r. ⌜ r .0 ≡ originOf row ⌝ }
 {
     Slot::at(row.phase as u64)
 }
@@ -129,7 +129,7 @@ fn is_under_upper_plain(row: Row, given: Quanta, time: Slot) -> bool
 // At most the cost of all jobs released.
 fn is_under_upper_early(row: Row, given: Quanta, time: Slot) -> bool
     requires { ⌜ Near row (given .0) (time .0) ⌝ }
-    ensures { λ r. ⌜ r ≡ upperEarly row (given .0) (time .0) ⌝ }
+    ensures { λ r. ⌜ r ≡ upperEarlyRelease row (given .0) (time .0) ⌝ }
 {
     let elapsed = time.since(origin(row));
     let period = row.period as u64;

@@ -23,20 +23,20 @@ abbrev pub slotsAsked : List ℕ → ℕ
 slotsAsked s = half s (slotsPlace s)
 
 -- "count of k values (2 ..), those k bytes"
-abbrev pub countIn : List ℕ → ℕ
-countIn s = half s (slotsPlace s + 2)
+abbrev pub listLength : List ℕ → ℕ
+listLength s = half s (slotsPlace s + 2)
 
 abbrev pub listPlace : List ℕ → ℕ
 listPlace s = slotsPlace s + 4
 
 -- "Slots past the k list use all M cores."
 unfoldable pub freeIn : List ℕ → ℕ → ℕ → ℕ
-freeIn s cores slot = cond (ltb slot (countIn s)) (byte s (listPlace s + slot)) cores
+freeIn s cores slot = cond (ltb slot (listLength s)) (byte s (listPlace s + slot)) cores
 
 -- "Missing or extra bytes": the input is not as long as its parts say. A missing byte is read as 0, but an input that lacks one is too short
 -- for its parts, whatever they say.
 abbrev pub wrongLength : List ℕ → Bool
-wrongLength s = not (eqb (length s) (listPlace s + countIn s))
+wrongLength s = not (eqb (length s) (listPlace s + listLength s))
 
 -- "input beyond 65,536 bytes"
 abbrev pub beyondLimit : List ℕ → Bool
@@ -44,7 +44,7 @@ beyondLimit s = ltb inputLimit (length s)
 
 -- "a number above its limit here": "slots .. at most 4,096", "count of k values (2, at most the slots)"
 abbrev pub aboveLimit : List ℕ → Bool
-aboveLimit s = ltb runLimit (slotsAsked s) || ltb (slotsAsked s) (countIn s)
+aboveLimit s = ltb runLimit (slotsAsked s) || ltb (slotsAsked s) (listLength s)
 
 -- "Missing or extra bytes, input beyond 65,536 bytes, or a number above its limit here, print `input` alone"
 unfoldable pub unfit : List ℕ → Bool

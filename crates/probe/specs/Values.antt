@@ -36,7 +36,7 @@ pub record TableAt (s : List ℕ) (i : ℕ) (table : Table) : Type 0 where
   pub cycle : table .cycle ≡ word s i
   pub cores : table .cores ≡ byte s (i + 4)
   pub boards : BoardsAt s (i + 5) (table .boards)
-  pub count : table .count ≡ byte s (i + 13)
+  pub row-count : table .n ≡ byte s (i + 13)
   pub rows : RowsAt s (i + 14) (table .rows)
 
 -- A state: a table value, the time (8), the stopped mark (1), 32 quanta.

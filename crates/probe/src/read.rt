@@ -45,13 +45,13 @@ pub(crate) fn table(s: &[u8], at: usize) -> Table
     let cycle = fields::word(s, at);
     let cores = fields::byte(s, at + 4);
     let boards = boards(s, at + 5);
-    let count = fields::byte(s, at + 13);
+    let row_count = fields::byte(s, at + 13);
     let rows = rows(s, at + 14);
     Table {
         cycle,
         cores,
         boards,
-        count,
+        n: row_count,
         rows,
     }
 }

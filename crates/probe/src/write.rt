@@ -61,7 +61,7 @@ pub(crate) fn table(out: &mut [u8], at: usize, table: Table) -> usize
     let past_cores = put::byte(out, past_cycle, table.cores);
     let numbers = table.boards;
     let past_boards = boards(out, past_cores, numbers);
-    let past_count = put::byte(out, past_boards, table.count);
+    let past_count = put::byte(out, past_boards, table.n);
     let all = table.rows;
     rows(out, past_count, all)
 }

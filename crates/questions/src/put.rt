@@ -46,7 +46,7 @@ fn table(answer: &mut [u8; LONGEST], table: Table) {
     number(answer, 4, 1, table.cores as u64);
     let numbers = table.boards;
     boards(answer, numbers);
-    number(answer, 13, 1, table.count as u64);
+    number(answer, 13, 1, table.n as u64);
     let all = table.rows;
     rows(answer, all);
 }

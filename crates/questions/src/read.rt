@@ -37,13 +37,13 @@ pub(crate) fn table(s: &[u8]) -> Table {
     let cycle = fields::word(s, 1);
     let cores = fields::byte(s, 5);
     let boards = boards(s);
-    let count = fields::byte(s, 14);
+    let row_count = fields::byte(s, 14);
     let rows = rows(s, 15);
     Table {
         cycle,
         cores,
         boards,
-        count,
+        n: row_count,
         rows,
     }
 }

@@ -2,14 +2,14 @@
 use Prim.Native.Nat.{ℕ, zero, suc}
 use mathlib.Core.List.{List}
 use Rattle.dispatcher.specs.declared.State.{State}
-use Rattle.dispatcher.specs.Slot.{Given, slotOf}
+use Rattle.dispatcher.specs.Slot.{SlotReply, slotOf}
 
 -- What the slots leave: the state, and the bytes of the buffer.
 pub record Left : Type 0 where
   pub state : State
   pub bytes : List ℕ
 
-abbrev pub leftBy : Given → Left
+abbrev pub leftBy : SlotReply → Left
 leftBy given = record { state = given .state; bytes = given .bytes }
 
 -- m slots with k cores free, from a state and a buffer on. A slot that is refused leaves both as they are.

@@ -16,7 +16,7 @@ use Rattle.table.specs.declared.Table.{Table}
 use Rattle.table.specs.declared.Reading.{Reading}
 use Rattle.table.specs.Limits.{cycleLimit, coreLimit, rowLimit}
 use Rattle.table.specs.Causes.{load, zeroRow, outside}
-use Rattle.table.specs.Bytes.{formatIn, cycleIn, coresIn, countIn, rowsPlace, rowPlaces, rowInBytes, headTests, boardsTestsIn, countTestsIn, rowsTestsIn, lastTests, tableNumber, tableIn, readingOf, reading}
+use Rattle.table.specs.Bytes.{formatIn, cycleIn, coresIn, rowCountIn, rowsPlace, rowPlaces, rowInBytes, headTests, boardsTestsIn, rowCountTestsIn, rowsTestsIn, lastTests, tableNumber, tableIn, readingOf, reading}
 use Rattle.table.specs.Parts.{refusedWith, BoardsAnswer, RowsAnswer}
 
 -- The first fault met is answered, with no table.
@@ -49,7 +49,7 @@ module _ (s : List ℕ) where
   -- for the function `read`, whose cycle and cores are those in the bytes
   by-head : {n : ℕ} → n ≡ firstMet (headTests s) → (n ≡ 0 → ⊥) → n ≡ tableNumber s
   unfolding tableNumber
-  by-head e f = decides-1 (headTests s) (boardsTestsIn s) (countTestsIn s) (rowsTestsIn s) (lastTests s) e f
+  by-head e f = decides-1 (headTests s) (boardsTestsIn s) (rowCountTestsIn s) (rowsTestsIn s) (lastTests s) e f
 
   pub head-refused : {n : ℕ} → n ≡ firstMet (headTests s) → (n ≡ 0 → ⊥) → refusedWith n ≡ reading s
   head-refused e f = is-refused s (by-head e f) f
@@ -61,15 +61,15 @@ module _ (s : List ℕ) where
 
       pub boards-refused : (n₂ ≡ 0 → ⊥) → refusedWith n₂ ≡ reading s
       unfolding tableNumber
-      boards-refused f = is-refused s (decides-2 (headTests s) (boardsTestsIn s) (countTestsIn s) (rowsTestsIn s) (lastTests s) head boards-number f) f
+      boards-refused f = is-refused s (decides-2 (headTests s) (boardsTestsIn s) (rowCountTestsIn s) (rowsTestsIn s) (lastTests s) head boards-number f) f
 
       module _ (z₂ : n₂ ≡ 0) where
         boards-passed : firstMet (boardsTestsIn s) ≡ 0
         boards-passed = sym boards-number ∙ z₂
 
-        by-count : {n : ℕ} → n ≡ firstMet (countTestsIn s) → (n ≡ 0 → ⊥) → n ≡ tableNumber s
+        by-count : {n : ℕ} → n ≡ firstMet (rowCountTestsIn s) → (n ≡ 0 → ⊥) → n ≡ tableNumber s
         unfolding tableNumber
-        by-count e f = decides-3 (headTests s) (boardsTestsIn s) (countTestsIn s) (rowsTestsIn s) (lastTests s) head boards-passed e f
+        by-count e f = decides-3 (headTests s) (boardsTestsIn s) (rowCountTestsIn s) (rowsTestsIn s) (lastTests s) head boards-passed e f
 
         pub count-cut : length s ≤ 6 + cores → refusedWith 10 ≡ reading s
         unfolding firstMet
@@ -78,7 +78,7 @@ module _ (s : List ℕ) where
             is-refused s (by-count (simp (lt-ltb _ _ short)) (λ z. omega arith)) (λ z. omega arith)
 
         module _ (there : 6 + cores < length s) {count : ℕ} (here : count ≡ byte s (6 + cores)) where
-          count-is : count ≡ countIn s
+          count-is : count ≡ rowCountIn s
           count-is = here ∙ ap (λ k. byte s (6 + k)) cores-is
 
           long : rowsPlace s ≤ length s
@@ -87,34 +87,34 @@ module _ (s : List ℕ) where
           pub count-refused : rowLimit < count → refusedWith 15 ≡ reading s
           unfolding firstMet
           count-refused h =
-              let many : rowLimit < countIn s = omega (arith, count-is) in
+              let many : rowLimit < rowCountIn s = omega (arith, count-is) in
               is-refused s (by-count (simp (le-ltb _ _ long, lt-ltb _ _ many)) (λ z. omega arith)) (λ z. omega arith)
 
           module _ (few : count ≤ rowLimit) {n₄ : ℕ} {rows : List Row} (r : RowsAnswer s cycle (6 + cores + 1) count n₄ rows) where
-            count-passed : firstMet (countTestsIn s) ≡ 0
+            count-passed : firstMet (rowCountTestsIn s) ≡ 0
             unfolding firstMet
-            count-passed = let small : countIn s ≤ rowLimit = omega (arith, count-is) in simp (le-ltb _ _ long, le-ltb _ _ small)
+            count-passed = let small : rowCountIn s ≤ rowLimit = omega (arith, count-is) in simp (le-ltb _ _ long, le-ltb _ _ small)
 
             rows-number : n₄ ≡ firstMet (rowsTestsIn s)
             rows-number = rw (cycle-is, cores-is, count-is) at (r .first)
 
             pub rows-refused : (n₄ ≡ 0 → ⊥) → refusedWith n₄ ≡ reading s
             unfolding tableNumber
-            rows-refused f = is-refused s (decides-4 (headTests s) (boardsTestsIn s) (countTestsIn s) (rowsTestsIn s) (lastTests s) head boards-passed count-passed rows-number f) f
+            rows-refused f = is-refused s (decides-4 (headTests s) (boardsTestsIn s) (rowCountTestsIn s) (rowsTestsIn s) (lastTests s) head boards-passed count-passed rows-number f) f
 
             module _ (z₄ : n₄ ≡ 0) where
               by-last : {n : ℕ} → n ≡ firstMet (lastTests s) → n ≡ tableNumber s
               unfolding tableNumber
-              by-last e = decides-5 (headTests s) (boardsTestsIn s) (countTestsIn s) (rowsTestsIn s) (lastTests s) head boards-passed count-passed (sym rows-number ∙ z₄) e
+              by-last e = decides-5 (headTests s) (boardsTestsIn s) (rowCountTestsIn s) (rowsTestsIn s) (lastTests s) head boards-passed count-passed (sym rows-number ∙ z₄) e
 
               pub after-refused : 6 + cores + 1 + 9 * count < length s → refusedWith 21 ≡ reading s
               unfolding firstMet
               after-refused h =
-                  let after : rowsPlace s + 9 * countIn s < length s = omega (arith, cores-is, count-is) in
+                  let after : rowsPlace s + 9 * rowCountIn s < length s = omega (arith, cores-is, count-is) in
                   is-refused s (by-last (simp (lt-ltb _ _ after))) (λ z. omega arith)
 
               module _ (none-after : length s ≤ 6 + cores + 1 + 9 * count) where
-                ended : length s ≤ rowsPlace s + 9 * countIn s
+                ended : length s ≤ rowsPlace s + 9 * rowCountIn s
                 ended = omega (arith, cores-is, count-is)
 
                 rows-are : rows ≡ tableIn s .rows
@@ -124,16 +124,16 @@ module _ (s : List ℕ) where
                   sum-in : ltb (cores * cycle) sum ≡ ltb (coresIn s * cycleIn s) (load (cycleIn s) (map (rowInBytes s) (rowPlaces s)))
                   sum-in =
                       rw (sum-is, rows-are, cycle-is, count-is, cores-is)
-                      (ap (λ l. ltb (coresIn s * cycleIn s) (load (cycleIn s) l)) (first-are-read (rowInBytes s) zeroRow rowLimit (rowsPlace s) 9 (countIn s)))
+                      (ap (λ l. ltb (coresIn s * cycleIn s) (load (cycleIn s) l)) (first-are-read (rowInBytes s) zeroRow rowLimit (rowsPlace s) 9 (rowCountIn s)))
 
                   pub sum-refused : ltb (cores * cycle) sum ≡ true → refusedWith 22 ≡ reading s
                   unfolding firstMet
                   sum-refused h = is-refused s (by-last (simp (le-ltb _ _ ended, sym sum-in ∙ h))) (λ z. omega arith)
 
                   pub is-read : ltb (cores * cycle) sum ≡ false →
-                      _≡_ {A = Reading} (record { number = 0; table = record { cycle = cycle; cores = cores; boards = boards; count = count; rows = rows } }) (reading s)
+                      _≡_ {A = Reading} (record { number = 0; table = record { cycle = cycle; cores = cores; boards = boards; n = count; rows = rows } }) (reading s)
                   unfolding firstMet
                   is-read h =
                       let boards-are : boards ≡ tableIn s .boards = rw cores-is at (b .content z₂) in
                       is-taken s (by-last (simp (le-ltb _ _ ended, sym sum-in ∙ h)))
-                      (λ k. record { cycle = cycle-is k; cores = cores-is k; boards = boards-are k; count = count-is k; rows = rows-are k })
+                      (λ k. record { cycle = cycle-is k; cores = cores-is k; boards = boards-are k; n = count-is k; rows = rows-are k })

@@ -17,7 +17,7 @@ use Rattle.table.specs.declared.Table.{Table}
 use Rattle.table.specs.Limits.{coreLimit, rowLimit}
 use Rattle.table.specs.Causes.{boardTests, boardAbove, rowTests, tankAbove, load, outside, zeroRow}
 use Rattle.table.specs.Value.{boardsOf, rowsOf, boardsTests, rowsTests, faultOf}
-use Rattle.table.specs.Bytes.{formatIn, cycleIn, coresIn, countIn, rowsPlace, boardPlaces, rowPlaces, rowInBytes, boardTestsIn, rowTestsIn, headTests, boardsTestsIn, countTestsIn, rowsTestsIn, lastTests, tableNumber, tableIn}
+use Rattle.table.specs.Bytes.{formatIn, cycleIn, coresIn, rowCountIn, rowsPlace, boardPlaces, rowPlaces, rowInBytes, boardTestsIn, rowTestsIn, headTests, boardsTestsIn, rowCountTestsIn, rowsTestsIn, lastTests, tableNumber, tableIn}
 use Rattle.table.specs.Taken.{Sound}
 use Rattle.table.specs.Faultless.{Faultless, FaultlessExactly, TakenExactly}
 use Rattle.table.proofs.Value.{no-fault}
@@ -73,7 +73,7 @@ rows-pass t f =
 pub faultless-has-none : (t : Table) → Faultless t → faultOf t ≡ 0
 faultless-has-none t f =
     sym
-    (no-fault t (between-not-outside (f .cycle)) (between-not-outside (f .cores)) (boards-pass t f) (f .count) (rows-pass t f) refl
+    (no-fault t (between-not-outside (f .cycle)) (between-not-outside (f .cores)) (boards-pass t f) (f .row-count) (rows-pass t f) refl
     (le-ltb (t .cores * t .cycle) (load (t .cycle) (rowsOf t)) (f .sum)))
 
 -- A table without fault is faultless.
@@ -84,7 +84,7 @@ none-is-faultless t h =
       cycle = sizes .0;
       cores = sizes .1;
       boards = boards-rise t h;
-      count = sizes .2;
+      row-count = sizes .2;
       tanks = tanks-rise t h;
       rows = rows-are-sound t h;
       sum = sum-is-within t h;
@@ -133,49 +133,49 @@ module _ (s : List ℕ) (format : byte s 0 ≡ 1) (long : length s ≡ 7 + byte 
           board-there s from (getD (boardPlaces s) j 0) (omega (arith, place-at 6 1 (coresIn s) j 0 below)) ∙ h
 
   -- the row count passes,
-  count-passes-in-bytes : firstMet (countTestsIn s) ≡ 0
+  count-passes-in-bytes : firstMet (rowCountTestsIn s) ≡ 0
   unfolding firstMet
-  count-passes-in-bytes = rw (le-ltb (length s) (rowsPlace s) (omega arith), le-ltb rowLimit (countIn s) (f .count))
+  count-passes-in-bytes = rw (le-ltb (length s) (rowsPlace s) (omega arith), le-ltb rowLimit (rowCountIn s) (f .row-count))
 
   -- the rows pass, as all their bytes are there,
   rows-pass-in-bytes : firstMet (rowsTestsIn s) ≡ 0
   rows-pass-in-bytes =
       passes-at-places (rowTestsIn s (cycleIn s)) (rowTests (cycleIn s)) tankAbove (rowInBytes s) 0 (rowPlaces s) there
-      (rw (first-are-read (rowInBytes s) zeroRow rowLimit (rowsPlace s) 9 (countIn s)) at (rows-pass (tableIn s) f))
+      (rw (first-are-read (rowInBytes s) zeroRow rowLimit (rowsPlace s) 9 (rowCountIn s)) at (rows-pass (tableIn s) f))
     where
       there : (j : ℕ) → j < length (rowPlaces s) → (from : ℕ) → firstMet (rowTests (cycleIn s) from (rowInBytes s (getD (rowPlaces s) j 0))) ≡ 0 →
           firstMet (rowTestsIn s (cycleIn s) from (getD (rowPlaces s) j 0)) ≡ 0
       there j k from h =
-          let below : j < countIn s = omega (arith, how-many-places (rowsPlace s) 9 (countIn s)) in
-          row-there s (cycleIn s) from (getD (rowPlaces s) j 0) (omega (arith, place-at (rowsPlace s) 9 (countIn s) j 0 below)) ∙ h
+          let below : j < rowCountIn s = omega (arith, how-many-places (rowsPlace s) 9 (rowCountIn s)) in
+          row-there s (cycleIn s) from (getD (rowPlaces s) j 0) (omega (arith, place-at (rowsPlace s) 9 (rowCountIn s) j 0 below)) ∙ h
 
   -- and so do the end of the bytes and the sum.
   last-passes : firstMet (lastTests s) ≡ 0
   unfolding firstMet
   last-passes =
       let sum : load (cycleIn s) (map (rowInBytes s) (rowPlaces s)) ≤ coresIn s * cycleIn s =
-      rw (first-are-read (rowInBytes s) zeroRow rowLimit (rowsPlace s) 9 (countIn s)) at (f .sum) in
-      rw (le-ltb (rowsPlace s + 9 * countIn s) (length s) (omega arith), le-ltb (coresIn s * cycleIn s) _ sum)
+      rw (first-are-read (rowInBytes s) zeroRow rowLimit (rowsPlace s) 9 (rowCountIn s)) at (f .sum) in
+      rw (le-ltb (rowsPlace s + 9 * rowCountIn s) (length s) (omega arith), le-ltb (coresIn s * cycleIn s) _ sum)
 
   -- So the whole passes.
   pub faultless-is-taken : tableNumber s ≡ 0
   unfolding tableNumber
   faultless-is-taken =
       sym
-      (decides-5 (headTests s) (boardsTestsIn s) (countTestsIn s) (rowsTestsIn s) (lastTests s) head-passes boards-pass-in-bytes count-passes-in-bytes rows-pass-in-bytes (sym last-passes))
+      (decides-5 (headTests s) (boardsTestsIn s) (rowCountTestsIn s) (rowsTestsIn s) (lastTests s) head-passes boards-pass-in-bytes count-passes-in-bytes rows-pass-in-bytes (sym last-passes))
 
 -- Bytes that are taken have format 1,
 pub taken-has-format-1 : (s : List ℕ) → tableNumber s ≡ 0 → byte s 0 ≡ 1
 unfolding tableNumber firstMet
 taken-has-format-1 s h =
-    let head = none-at-all (headTests s) (boardsTestsIn s) (countTestsIn s) (rowsTestsIn s) (lastTests s) h .0 in
+    let head = none-at-all (headTests s) (boardsTestsIn s) (rowCountTestsIn s) (rowsTestsIn s) (lastTests s) h .0 in
     let x = neither (cond (shorter s 1) 10 0) _ head in
     eqb-true (byte s 0) 1 (not-false _ (passed _ 10 (neither (cond (not (eqb (formatIn s) 1)) 11 0) _ (x .1) .0)))
 
 -- have all their rows (the last of them, if there is one, ends where the bytes are still there),
-rows-are-there : (s : List ℕ) → firstMet (countTestsIn s) ≡ 0 → firstMet (rowsTestsIn s) ≡ 0 → rowsPlace s + 9 * countIn s ≤ length s
+rows-are-there : (s : List ℕ) → firstMet (rowCountTestsIn s) ≡ 0 → firstMet (rowsTestsIn s) ≡ 0 → rowsPlace s + 9 * rowCountIn s ≤ length s
 unfolding firstMet
-rows-are-there s count rows = go (countIn s) rows
+rows-are-there s count rows = go (rowCountIn s) rows
   where
     front : rowsPlace s ≤ length s
     front = ltb-false (length s) (rowsPlace s) (passed _ 9 (neither (cond (shorter s (rowsPlace s)) 10 0) _ count .0))
@@ -190,8 +190,8 @@ rows-are-there s count rows = go (countIn s) rows
 pub taken-is-as-long : (s : List ℕ) → tableNumber s ≡ 0 → length s ≡ 7 + byte s 5 + 9 * byte s (6 + byte s 5)
 unfolding tableNumber firstMet
 taken-is-as-long s h =
-    let each = none-at-all (headTests s) (boardsTestsIn s) (countTestsIn s) (rowsTestsIn s) (lastTests s) h in
-    let after = ltb-false (rowsPlace s + 9 * countIn s) (length s) (passed _ 20 (neither (cond (ltb (rowsPlace s + 9 * countIn s) (length s)) 21 0) _ (each .4) .0)) in
+    let each = none-at-all (headTests s) (boardsTestsIn s) (rowCountTestsIn s) (rowsTestsIn s) (lastTests s) h in
+    let after = ltb-false (rowsPlace s + 9 * rowCountIn s) (length s) (passed _ 20 (neither (cond (ltb (rowsPlace s + 9 * rowCountIn s) (length s)) 21 0) _ (each .4) .0)) in
     omega (arith, after, rows-are-there s (each .2) (each .3))
 
 -- So bytes are taken exactly if they have format 1, are as long as their counts say, and hold a faultless table.

@@ -21,8 +21,8 @@ use Rattle.table.specs.declared.Table.{Table}
 use Rattle.table.specs.declared.Reading.{Reading}
 use Rattle.table.specs.Limits.{cycleLimit, coreLimit, rowLimit}
 use Rattle.table.specs.Causes.{rowTests, tankAbove, load, zeroRow, outside, boardTests, boardAbove}
-use Rattle.table.specs.Value.{boardsOf, rowsOf, sizeTests, boardsTests, countTests, rowsTests, sumTests, faultOf}
-use Rattle.table.specs.Bytes.{cycleIn, coresIn, countIn, rowsPlace, boardPlaces, rowPlaces, rowInBytes, boardTestsIn, rowTestsIn, headTests, boardsTestsIn, countTestsIn, rowsTestsIn, lastTests, tableTests, tableNumber, tableIn, noTable, readingOf, reading}
+use Rattle.table.specs.Value.{boardsOf, rowsOf, sizeTests, boardsTests, rowCountTests, rowsTests, sumTests, faultOf}
+use Rattle.table.specs.Bytes.{cycleIn, coresIn, rowCountIn, rowsPlace, boardPlaces, rowPlaces, rowInBytes, boardTestsIn, rowTestsIn, headTests, boardsTestsIn, rowCountTestsIn, rowsTestsIn, lastTests, tableTests, tableNumber, tableIn, noTable, readingOf, reading}
 use Rattle.table.specs.Taken.{NumbersAreFirstCauses, NumbersAre10To22, TakenWhereNoCause, TakenHasNoFault, PastIsZero, Sound, RowsAreSound, SumIsWithin, SizesAreWithin, BoardsRise, TanksRise}
 use Rattle.table.proofs.Value.{not-outside, no-fault}
 use Rattle.table.proofs.Answers.{head-passed}
@@ -50,9 +50,9 @@ all-numbered s =
     let boards = rising-numbered (boardTestsIn s) (λ i. boardAbove (byte s i)) (λ least i. refl) 0 (boardPlaces s) in
     let rows = rising-numbered (rowTestsIn s (cycleIn s)) (λ i. tankAbove (rowInBytes s i)) (λ least i. refl) 0 (rowPlaces s) in
     let after-rows = both-numbered (rowsTestsIn s) (lastTests s) rows refl in
-    let after-boards = both-numbered (boardsTestsIn s) (countTestsIn s then rowsTestsIn s then lastTests s) boards in
-    both-numbered (headTests s) (boardsTestsIn s then countTestsIn s then rowsTestsIn s then lastTests s) refl
-    (after-boards (both-numbered (countTestsIn s) (rowsTestsIn s then lastTests s) refl after-rows))
+    let after-boards = both-numbered (boardsTestsIn s) (rowCountTestsIn s then rowsTestsIn s then lastTests s) boards in
+    both-numbered (headTests s) (boardsTestsIn s then rowCountTestsIn s then rowsTestsIn s then lastTests s) refl
+    (after-boards (both-numbered (rowCountTestsIn s) (rowsTestsIn s then lastTests s) refl after-rows))
 
 pub numbers-are-first-causes : NumbersAreFirstCauses
 unfolding tableNumber
@@ -69,9 +69,9 @@ numbers-are-10-to-22 s =
     let boards = rising-ranged 10 22 (boardTestsIn s) (λ i. boardAbove (byte s i)) (λ least i. refl) 0 (boardPlaces s) in
     let rows = rising-ranged 10 22 (rowTestsIn s (cycleIn s)) (λ i. tankAbove (rowInBytes s i)) (λ least i. refl) 0 (rowPlaces s) in
     let after-rows = both-ranged 10 22 (rowsTestsIn s) (lastTests s) rows refl in
-    let after-count = both-ranged 10 22 (countTestsIn s) (rowsTestsIn s then lastTests s) refl after-rows in
-    let after-boards = both-ranged 10 22 (boardsTestsIn s) (countTestsIn s then rowsTestsIn s then lastTests s) boards after-count in
-    met-in-range 10 22 (tableTests s) (both-ranged 10 22 (headTests s) (boardsTestsIn s then countTestsIn s then rowsTestsIn s then lastTests s) refl after-boards)
+    let after-count = both-ranged 10 22 (rowCountTestsIn s) (rowsTestsIn s then lastTests s) refl after-rows in
+    let after-boards = both-ranged 10 22 (boardsTestsIn s) (rowCountTestsIn s then rowsTestsIn s then lastTests s) boards after-count in
+    met-in-range 10 22 (tableTests s) (both-ranged 10 22 (headTests s) (boardsTestsIn s then rowCountTestsIn s then rowsTestsIn s then lastTests s) refl after-boards)
 
 -- Where there is a fault, it has no table.
 pub no-table-read : (s : List ℕ) → (tableNumber s ≡ 0 → ⊥) → reading s .table ≡ noTable
@@ -91,33 +91,33 @@ row-as-read : (s : List ℕ) (cycle least i : ℕ) → firstMet (rowTestsIn s cy
 unfolding firstMet
 row-as-read s cycle least i h = neither (cond (shorter s (i + 9)) 10 0) _ h .1
 
-few : (s : List ℕ) → firstMet (countTestsIn s) ≡ 0 → countIn s ≤ rowLimit
+few : (s : List ℕ) → firstMet (rowCountTestsIn s) ≡ 0 → rowCountIn s ≤ rowLimit
 unfolding firstMet
 few s z =
     let x = neither (cond (shorter s (rowsPlace s)) 10 0) _ z in
-    ltb-false rowLimit (countIn s) (passed _ 14 (neither (cond (ltb rowLimit (countIn s)) 15 0) _ (x .1) .0))
+    ltb-false rowLimit (rowCountIn s) (passed _ 14 (neither (cond (ltb rowLimit (rowCountIn s)) 15 0) _ (x .1) .0))
 
 within : (s : List ℕ) → firstMet (lastTests s) ≡ 0 → ltb (coresIn s * cycleIn s) (load (cycleIn s) (map (rowInBytes s) (rowPlaces s))) ≡ false
 unfolding firstMet
 within s z =
     let above = ltb (coresIn s * cycleIn s) (load (cycleIn s) (map (rowInBytes s) (rowPlaces s))) in
-    let x = neither (cond (ltb (rowsPlace s + 9 * countIn s) (length s)) 21 0) _ z in
+    let x = neither (cond (ltb (rowsPlace s + 9 * rowCountIn s) (length s)) 21 0) _ z in
     passed above 21 (neither (cond above 22 0) _ (x .1) .0)
 
 -- For callers: the table in bytes that are taken has no fault.
 pub taken-value-has-no-fault : (s : List ℕ) → tableNumber s ≡ 0 → faultOf (tableIn s) ≡ 0
 unfolding tableNumber
 taken-value-has-no-fault s h =
-    let each = none-at-all (headTests s) (boardsTestsIn s) (countTestsIn s) (rowsTestsIn s) (lastTests s) h in
+    let each = none-at-all (headTests s) (boardsTestsIn s) (rowCountTestsIn s) (rowsTestsIn s) (lastTests s) h in
     let head = head-passed s (each .0) in
     sym
     (no-fault (tableIn s) (head .0) (head .1)
     (rw (first-are-read (byte s) 0 coreLimit 6 1 (coresIn s))
     (passes-as-read (boardTestsIn s) boardTests boardAbove (byte s) (board-as-read s) 0 (boardPlaces s) (each .1)))
     (few s (each .2))
-    (rw (first-are-read (rowInBytes s) zeroRow rowLimit (rowsPlace s) 9 (countIn s))
+    (rw (first-are-read (rowInBytes s) zeroRow rowLimit (rowsPlace s) 9 (rowCountIn s))
     (passes-as-read (rowTestsIn s (cycleIn s)) (rowTests (cycleIn s)) tankAbove (rowInBytes s) (row-as-read s (cycleIn s)) 0 (rowPlaces s) (each .3)))
-    (sym (ap (load (cycleIn s)) (first-are-read (rowInBytes s) zeroRow rowLimit (rowsPlace s) 9 (countIn s))))
+    (sym (ap (load (cycleIn s)) (first-are-read (rowInBytes s) zeroRow rowLimit (rowsPlace s) 9 (rowCountIn s))))
     (within s (each .4)))
 
 pub taken-has-no-fault : TakenHasNoFault
@@ -127,7 +127,7 @@ taken-has-no-fault s h =
 
 pub past-is-zero : PastIsZero
 past-is-zero s i d b = (
-  others-are-nothing (rowInBytes s) zeroRow rowLimit (rowsPlace s) 9 {n = countIn s} d,
+  others-are-nothing (rowInBytes s) zeroRow rowLimit (rowsPlace s) 9 {n = rowCountIn s} d,
   others-are-nothing (byte s) 0 coreLimit 6 1 {n = coresIn s} b,
 )
 
@@ -150,35 +150,35 @@ sound-row cycle least row h =
 pub rows-are-sound : RowsAreSound
 unfolding faultOf
 rows-are-sound t h i k =
-    let each = none-at-all (sizeTests t) (boardsTests t) (countTests t) (rowsTests t) (sumTests t) h in
+    let each = none-at-all (sizeTests t) (boardsTests t) (rowCountTests t) (rowsTests t) (sumTests t) h in
     let row = each-passed (rowTests (t .cycle)) tankAbove 0 (rowsOf t) (each .3) i zeroRow k in
     sound-row (t .cycle) (row .0) _ (row .1)
 
 pub sum-is-within : SumIsWithin
 unfolding faultOf firstMet
 sum-is-within t h =
-    let each = none-at-all (sizeTests t) (boardsTests t) (countTests t) (rowsTests t) (sumTests t) h in
+    let each = none-at-all (sizeTests t) (boardsTests t) (rowCountTests t) (rowsTests t) (sumTests t) h in
     let above = ltb (t .cores * t .cycle) (load (t .cycle) (rowsOf t)) in
     ltb-false _ _ (passed above 21 (neither (cond above 22 0) _ (each .4) .0))
 
 pub sizes-are-within : SizesAreWithin
 unfolding faultOf firstMet
 sizes-are-within t h =
-    let each = none-at-all (sizeTests t) (boardsTests t) (countTests t) (rowsTests t) (sumTests t) h in
+    let each = none-at-all (sizeTests t) (boardsTests t) (rowCountTests t) (rowsTests t) (sumTests t) h in
     let size = neither (cond (outside 1 cycleLimit (t .cycle)) 12 0) _ (each .0) in
     let cores = neither (cond (outside 1 coreLimit (t .cores)) 13 0) _ (size .1) in
-    let count = neither (cond (ltb rowLimit (t .count)) 15 0) _ (each .2) in
-    (not-outside (passed _ 11 (size .0)), not-outside (passed _ 12 (cores .0)), ltb-false rowLimit (t .count) (passed _ 14 (count .0)))
+    let count = neither (cond (ltb rowLimit (t .n)) 15 0) _ (each .2) in
+    (not-outside (passed _ 11 (size .0)), not-outside (passed _ 12 (cores .0)), ltb-false rowLimit (t .n) (passed _ 14 (count .0)))
 
 -- A table value has its 32 places; then each row below n is sound, whatever is read past the end.
-pub row-is-sound : (t : Table) → faultOf t ≡ 0 → length (t .rows) ≡ rowLimit → (i : ℕ) (d : Row) → i < t .count → Sound (t .cycle) (getD (t .rows) i d)
+pub row-is-sound : (t : Table) → faultOf t ≡ 0 → length (t .rows) ≡ rowLimit → (i : ℕ) (d : Row) → i < t .n → Sound (t .cycle) (getD (t .rows) i d)
 unfolding faultOf
 row-is-sound t h l i d k =
-    let each = none-at-all (sizeTests t) (boardsTests t) (countTests t) (rowsTests t) (sumTests t) h in
+    let each = none-at-all (sizeTests t) (boardsTests t) (rowCountTests t) (rowsTests t) (sumTests t) h in
     let n = sizes-are-within t h .2 in
-    let many : length (rowsOf t) ≡ t .count = length-take-le (t .count) (t .rows) (omega (arith, n, l)) in
+    let many : length (rowsOf t) ≡ t .n = length-take-le (t .n) (t .rows) (omega (arith, n, l)) in
     let row = each-passed (rowTests (t .cycle)) tankAbove 0 (rowsOf t) (each .3) i d (omega (arith, many, k)) in
-    rw (getD-take (t .count) (t .rows) i d k) at (sound-row (t .cycle) (row .0) (getD (rowsOf t) i d) (row .1))
+    rw (getD-take (t .n) (t .rows) i d k) at (sound-row (t .cycle) (row .0) (getD (rowsOf t) i d) (row .1))
 
 -- A table that is taken has all its places,
 pub places-are-there : (s : List ℕ) → tableNumber s ≡ 0 → (length (tableIn s .boards) ≡ coreLimit) × (length (tableIn s .rows) ≡ rowLimit)
@@ -213,13 +213,13 @@ tank-enough cycle least row h = ltb-false (row .tank) least (passed _ 15 (neithe
 pub boards-rise : BoardsRise
 unfolding faultOf
 boards-rise t h i j b k =
-    let each = none-at-all (sizeTests t) (boardsTests t) (countTests t) (rowsTests t) (sumTests t) h in
+    let each = none-at-all (sizeTests t) (boardsTests t) (rowCountTests t) (rowsTests t) (sumTests t) h in
     passed-rise boardTests boardAbove (λ board. board) board-enough (λ board. refl) 0 0 (boardsOf t) (each .1) i j b k
 
 pub tanks-rise : TanksRise
 unfolding faultOf
 tanks-rise t h i j b k =
-    let each = none-at-all (sizeTests t) (boardsTests t) (countTests t) (rowsTests t) (sumTests t) h in
+    let each = none-at-all (sizeTests t) (boardsTests t) (rowCountTests t) (rowsTests t) (sumTests t) h in
     passed-rise (rowTests (t .cycle)) tankAbove (λ row. row .tank) (tank-enough (t .cycle)) (λ row. refl) zeroRow 0 (rowsOf t) (each .3) i j b k
 
 -- The promises of `read` and `fault` give the answer itself, so they determine it.

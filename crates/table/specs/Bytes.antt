@@ -9,7 +9,7 @@ use Rattle.table.specs.declared.Row.{Row}
 use Rattle.table.specs.declared.Table.{Table}
 use Rattle.table.specs.declared.Reading.{Reading}
 use Rattle.table.specs.Limits.{coreLimit, rowLimit}
-use Rattle.table.specs.Causes.{cut, formatTest, cycleTest, coresTest, boardTests, boardAbove, countTest, rowTests, tankAbove, afterTest, sumTest, zeroRow}
+use Rattle.table.specs.Causes.{cut, formatTest, cycleTest, coresTest, boardTests, boardAbove, rowCountTest, rowTests, tankAbove, afterTest, sumTest, zeroRow}
 
 -- Where each part stands: "format, 1", "cycle L", "core count M .. then M board numbers", "row count n .. then n rows".
 abbrev pub formatIn : List ℕ → ℕ
@@ -21,14 +21,14 @@ cycleIn s = word s 1
 abbrev pub coresIn : List ℕ → ℕ
 coresIn s = byte s 5
 
-abbrev pub countPlace : List ℕ → ℕ
-countPlace s = 6 + coresIn s
+abbrev pub rowCountPlace : List ℕ → ℕ
+rowCountPlace s = 6 + coresIn s
 
-abbrev pub countIn : List ℕ → ℕ
-countIn s = byte s (countPlace s)
+abbrev pub rowCountIn : List ℕ → ℕ
+rowCountIn s = byte s (rowCountPlace s)
 
 abbrev pub rowsPlace : List ℕ → ℕ
-rowsPlace s = countPlace s + 1
+rowsPlace s = rowCountPlace s + 1
 
 -- "tank (2 ..), e (2), p (2), f (2 ..), kind (1 ..)": the row in the nine bytes from place i on
 abbrev pub rowInBytes : List ℕ → ℕ → Row
@@ -46,7 +46,7 @@ abbrev pub boardPlaces : List ℕ → List ℕ
 boardPlaces s = places 6 1 (coresIn s)
 
 abbrev pub rowPlaces : List ℕ → List ℕ
-rowPlaces s = places (rowsPlace s) 9 (countIn s)
+rowPlaces s = places (rowsPlace s) 9 (rowCountIn s)
 
 -- "M board numbers rising strictly, each a field": the tests of the board number at place i (docs/DECISIONS.md, 21)
 abbrev pub boardTestsIn : List ℕ → ℕ → ℕ → List Test
@@ -74,13 +74,13 @@ headTests s =
     ∷ []
 
 -- the row count
-abbrev pub countTestsIn : List ℕ → List Test
-countTestsIn s = cut s (rowsPlace s) ∷ countTest (countIn s) ∷ []
+abbrev pub rowCountTestsIn : List ℕ → List Test
+rowCountTestsIn s = cut s (rowsPlace s) ∷ rowCountTest (rowCountIn s) ∷ []
 
 -- "after the last row come 21, then 22"
 abbrev pub lastTests : List ℕ → List Test
 lastTests s =
-    afterTest s (rowsPlace s + 9 * countIn s)
+    afterTest s (rowsPlace s + 9 * rowCountIn s)
     ∷ sumTest (coresIn s) (cycleIn s) (map (rowInBytes s) (rowPlaces s))
     ∷ []
 
@@ -89,7 +89,7 @@ abbrev pub tableTests : List ℕ → List Test
 tableTests s =
     headTests s
     then boardsTestsIn s
-    then countTestsIn s
+    then rowCountTestsIn s
     then rowsTestsIn s
     then lastTests s
 
@@ -104,13 +104,13 @@ tableIn s =
       cycle = cycleIn s;
       cores = coresIn s;
       boards = padded (byte s) 0 coreLimit 6 1 (coresIn s);
-      count = countIn s;
-      rows = padded (rowInBytes s) zeroRow rowLimit (rowsPlace s) 9 (countIn s);
+      n = rowCountIn s;
+      rows = padded (rowInBytes s) zeroRow rowLimit (rowsPlace s) 9 (rowCountIn s);
     }
 
 -- "A table refusal yields no table": every part is 0.
 abbrev pub noTable : Table
-noTable = record { cycle = 0; cores = 0; boards = replicate coreLimit 0; count = 0; rows = replicate rowLimit zeroRow }
+noTable = record { cycle = 0; cores = 0; boards = replicate coreLimit 0; n = 0; rows = replicate rowLimit zeroRow }
 
 -- the answer: 0 with the table, or the number of the first fault met
 abbrev pub readingOf : ℕ → Table → Reading

@@ -38,8 +38,8 @@ abbrev pub boardAbove : ℕ → ℕ
 boardAbove board = board + 1
 
 -- "n above 32"
-abbrev pub countTest : ℕ → Test
-countTest count = ltb rowLimit count ⇒ 15
+abbrev pub rowCountTest : ℕ → Test
+rowCountTest count = ltb rowLimit count ⇒ 15
 
 -- The tests of a row, "in the order of the numbers". `least` is the lowest tank that may stand here.
 abbrev pub rowTests : ℕ → ℕ → Row → List Test

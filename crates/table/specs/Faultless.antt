@@ -20,7 +20,7 @@ pub record Faultless (t : Table) : Type 0 where
   -- then M board numbers rising strictly"
   pub boards : (i j : ℕ) → i < j → j < length (boardsOf t) → getD (boardsOf t) i 0 < getD (boardsOf t) j 0
   -- "row count n, 0 to 32, then n rows"
-  pub count : t .count ≤ 32
+  pub row-count : t .n ≤ 32
   -- "tank (2, rising strictly from row to row; 0 is a tank like any other)"
   pub tanks : (i j : ℕ) → i < j → j < length (rowsOf t) → getD (rowsOf t) i zeroRow .tank < getD (rowsOf t) j zeroRow .tank
   -- each row: not "e = 0", not "e not below p"; "Each p divides L."; "kind (1: 0 plain, 1 early release)"

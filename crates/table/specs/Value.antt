@@ -5,14 +5,14 @@ use lib.ListN.{take}
 use Rattle.facts.specs.Faults.{Test, _then_, firstMet, rising}
 use Rattle.table.specs.declared.Row.{Row}
 use Rattle.table.specs.declared.Table.{Table}
-use Rattle.table.specs.Causes.{cycleTest, coresTest, boardTests, boardAbove, countTest, rowTests, tankAbove, sumTest}
+use Rattle.table.specs.Causes.{cycleTest, coresTest, boardTests, boardAbove, rowCountTest, rowTests, tankAbove, sumTest}
 
 -- "Places past row n, and board numbers past M, are ignored .."
 abbrev pub boardsOf : Table → List ℕ
 boardsOf t = take (t .cores) (t .boards)
 
 abbrev pub rowsOf : Table → List Row
-rowsOf t = take (t .count) (t .rows)
+rowsOf t = take (t .n) (t .rows)
 
 -- The tests of a table value, in reading order.
 abbrev pub sizeTests : Table → List Test
@@ -21,8 +21,8 @@ sizeTests t = cycleTest (t .cycle) ∷ coresTest (t .cores) ∷ []
 abbrev pub boardsTests : Table → List Test
 boardsTests t = rising boardTests boardAbove 0 (boardsOf t)
 
-abbrev pub countTests : Table → List Test
-countTests t = countTest (t .count) ∷ []
+abbrev pub rowCountTests : Table → List Test
+rowCountTests t = rowCountTest (t .n) ∷ []
 
 abbrev pub rowsTests : Table → List Test
 rowsTests t = rising (rowTests (t .cycle)) tankAbove 0 (rowsOf t)
@@ -31,4 +31,4 @@ abbrev pub sumTests : Table → List Test
 sumTests t = sumTest (t .cores) (t .cycle) (rowsOf t) ∷ []
 
 unfoldable pub faultOf : Table → ℕ
-faultOf t = firstMet (sizeTests t then boardsTests t then countTests t then rowsTests t then sumTests t)
+faultOf t = firstMet (sizeTests t then boardsTests t then rowCountTests t then rowsTests t then sumTests t)

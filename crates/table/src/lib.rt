@@ -22,7 +22,7 @@ pub struct Table {
     pub cycle: u32,
     pub cores: u8,
     pub boards: [u8; 8],
-    pub count: u8,
+    pub n: u8,
     pub rows: [Row; 32],
 }
 
@@ -83,11 +83,11 @@ pub fn read(bytes: &[u8]) -> Reading
     if bytes.len() <= at {
         return refused(10);
     }
-    let count = fields::byte(bytes, at);
-    if ROW_LIMIT < count {
+    let row_count = fields::byte(bytes, at);
+    if ROW_LIMIT < row_count {
         return refused(15);
     }
-    let n = count as usize;
+    let n = row_count as usize;
     let rows_read = rows::read(bytes, at + 1, n, cycle);
     if rows_read.number != 0 {
         return refused(rows_read.number);
@@ -104,7 +104,7 @@ pub fn read(bytes: &[u8]) -> Reading
         cycle,
         cores,
         boards,
-        count,
+        n: row_count,
         rows,
     };
     Reading { number: 0, table }
@@ -127,11 +127,11 @@ pub fn fault(table: Table) -> u8
     if board_fault != 0 {
         return board_fault;
     }
-    let count = table.count;
-    if ROW_LIMIT < count {
+    let row_count = table.n;
+    if ROW_LIMIT < row_count {
         return 15;
     }
-    let n = count as usize;
+    let n = row_count as usize;
     let rows = table.rows;
     let judged = rows::judge(rows, n, cycle);
     if judged.number != 0 {
@@ -154,7 +154,7 @@ fn refused(number: u8) -> Reading
         cycle: 0,
         cores: 0,
         boards,
-        count: 0,
+        n: 0,
         rows,
     };
     Reading { number, table }

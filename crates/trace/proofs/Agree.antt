@@ -8,7 +8,7 @@ use lib.Seq.{drop-cons, length-take-le, getD-take, getD-drop, getD-append-add}
 use Rattle.facts.proofs.Counting.{same-count}
 use Rattle.fields.specs.Fields.{byte}
 use Rattle.trace.specs.Record.{recordOf, withFront, withRecord}
-use Rattle.trace.specs.Records.{freeAt, countAt, rowsAt, pastRecord, placeOf, names, namedIn, count}
+use Rattle.trace.specs.Records.{freeAt, pickedAt, rowsAt, pastRecord, placeOf, names, namedIn, timesNamedFrom}
 use Rattle.trace.proofs.Writing.{front-fits}
 use Rattle.trace.proofs.Records.{stand-from, ends-before, count-found, rows-found}
 
@@ -36,7 +36,7 @@ module _ (from end : ℕ) (a b : List ℕ) (agree : Agree from end a b) where
   pub rows-agree : (place : ℕ) → from ≤ place → pastRecord b place ≤ end → rowsAt a place ≡ rowsAt b place
   rows-agree place l h =
       ap (λ c. take c (drop (place + 2) a)) (agree .same (place + 1) (omega arith) (omega arith))
-      ∙ part-agrees (countAt b place) (place + 2) (omega arith) (omega arith)
+      ∙ part-agrees (pickedAt b place) (place + 2) (omega arith) (omega arith)
 
   -- the place of slot t is, if it is no later than the end,
   pub place-agrees : (t : ℕ) → placeOf b from t ≤ end → placeOf a from t ≡ placeOf b from t
@@ -47,7 +47,7 @@ module _ (from end : ℕ) (a b : List ℕ) (agree : Agree from end a b) where
       (ap (λ c. placeOf b from t + 2 + c) (agree .same (placeOf b from t + 1) (omega (arith, stand-from b from t)) (omega arith)))
 
   -- and so is the count of the records before it that name a row.
-  pub count-agrees : (row t : ℕ) → placeOf b from t ≤ end → count a from row t ≡ count b from row t
+  pub count-agrees : (row t : ℕ) → placeOf b from t ≤ end → timesNamedFrom a from row t ≡ timesNamedFrom b from row t
   count-agrees row t l = same-count (namedIn a from row) (namedIn b from row) t each
     where
       each : (j : ℕ) → j < t → namedIn a from row j ≡ namedIn b from row j
@@ -97,9 +97,9 @@ module _ (b : List ℕ) (place k : ℕ) (rows : List ℕ) (room : place + length
   unfolding withRecord withFront
   free-written = ap (byte (withRecord b place (recordOf k rows))) {x = place} {y = length front + 0} (omega (arith, before)) ∙ getD-append-add front _ 0 0
 
-  pub count-written : countAt (withRecord b place (recordOf k rows)) place ≡ length rows
+  pub count-written : pickedAt (withRecord b place (recordOf k rows)) place ≡ length rows
   unfolding withRecord withFront
-  count-written = ap (countAt (withRecord b place (recordOf k rows))) (sym before) ∙ count-found front _ rows k
+  count-written = ap (pickedAt (withRecord b place (recordOf k rows))) (sym before) ∙ count-found front _ rows k
 
   pub rows-written : rowsAt (withRecord b place (recordOf k rows)) place ≡ rows
   unfolding withRecord withFront

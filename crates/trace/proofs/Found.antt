@@ -11,7 +11,7 @@ use lib.ListN.{length, take, drop, length-drop}
 use lib.Seq.{drop-cons, length-take-le}
 use Rattle.facts.proofs.Tests.{both, hold-both}
 use Rattle.trace.specs.Record.{recordOf}
-use Rattle.trace.specs.Records.{freeAt, countAt, pastRecord, firstPlace, slotsIn, placeOf, placeIn, rowsOfSlot}
+use Rattle.trace.specs.Records.{freeAt, pickedAt, pastRecord, firstPlace, slotsIn, placeOf, placeIn, rowsOfSlot}
 use Rattle.trace.specs.Found.{isFound, partFound, partBegins, Found, FoundIfAllInside}
 use Rattle.trace.proofs.Records.{ends-before}
 
@@ -31,21 +31,21 @@ found-if-all-inside s t = (to, from)
         let b = both (ltb t (slotsIn s)) _ (a .1) in
         let end = leb-true (placeIn s (t + 1)) (length s) (b .1) in
         record {
-          count-there = leb-true 4 (length s) (a .0);
-          below-count = ltb-true t (slotsIn s) (b .0);
+          slot-count-there = leb-true 4 (length s) (a .0);
+          below-slot-count = ltb-true t (slotsIn s) (b .0);
           all-inside = λ j l. record { front = omega (arith, ends-before s firstPlace j (t + 1) (omega arith), end); whole = omega (arith, ends-before s firstPlace j (t + 1) (omega arith), end) };
         }
 
     from : Found s t → isFound s t ≡ true
     from f =
         let last : placeIn s (t + 1) ≤ length s = rw (next-begins s t) (f .all-inside t (omega arith) .whole) in
-        hold-both (le-leb 4 (length s) (f .count-there)) (hold-both (lt-ltb t (slotsIn s) (f .below-count)) (le-leb _ (length s) last))
+        hold-both (le-leb 4 (length s) (f .slot-count-there)) (hold-both (lt-ltb t (slotsIn s) (f .below-slot-count)) (le-leb _ (length s) last))
 
 -- From a place with two bytes behind it on stand those two, and then the rest.
-two-first : (s : List ℕ) (place : ℕ) → place + 2 ≤ length s → drop place s ≡ freeAt s place ∷ countAt s place ∷ drop (place + 2) s
-two-first s place h = drop-cons s place 0 (omega arith) ∙ ap (λ l. freeAt s place ∷ l) (rw (← add-one place) (next ∙ ap (λ n. countAt s place ∷ drop n s) two-on))
+two-first : (s : List ℕ) (place : ℕ) → place + 2 ≤ length s → drop place s ≡ freeAt s place ∷ pickedAt s place ∷ drop (place + 2) s
+two-first s place h = drop-cons s place 0 (omega arith) ∙ ap (λ l. freeAt s place ∷ l) (rw (← add-one place) (next ∙ ap (λ n. pickedAt s place ∷ drop n s) two-on))
   where
-    next : drop (place + 1) s ≡ countAt s place ∷ drop (suc (place + 1)) s
+    next : drop (place + 1) s ≡ pickedAt s place ∷ drop (suc (place + 1)) s
     next = drop-cons s (place + 1) 0 (omega arith)
 
     two-on : suc (place + 1) ≡ place + 2
@@ -56,8 +56,8 @@ pub part-is-record : (s : List ℕ) (t : ℕ) → isFound s t ≡ true → partF
 part-is-record s t h =
     let place = placeIn s t in
     let inside = found-if-all-inside s t .0 h .all-inside t (omega arith) in
-    let many : length (rowsOfSlot s t) ≡ countAt s place = length-take-le (countAt s place) (drop (place + 2) s) (omega (arith, inside .whole, length-drop (place + 2) s)) in
-    let two : 2 + countAt s place ≡ suc (suc (countAt s place)) = omega arith in
+    let many : length (rowsOfSlot s t) ≡ pickedAt s place = length-take-le (pickedAt s place) (drop (place + 2) s) (omega (arith, inside .whole, length-drop (place + 2) s)) in
+    let two : 2 + pickedAt s place ≡ suc (suc (pickedAt s place)) = omega arith in
     rw (h, many, two, two-first s place (inside .front))
 
 -- Worked values, computed from the definitions on 01's own trace.

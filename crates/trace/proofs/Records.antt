@@ -14,7 +14,7 @@ use Rattle.facts.specs.Counting.{howMany, those}
 use Rattle.facts.proofs.Counting.{same-count, counted-if-passed, uncounted-if-failed, none-listed, listed-if-passed, unlisted-if-failed}
 use Rattle.fields.specs.Fields.{byte}
 use Rattle.trace.specs.Record.{recordOf, marked, withFront, withRecord}
-use Rattle.trace.specs.Records.{countAt, rowsAt, pastRecord, placeOf, names, namedIn, count}
+use Rattle.trace.specs.Records.{pickedAt, rowsAt, pastRecord, placeOf, names, namedIn, timesNamedFrom}
 
 -- A longer list names what its parts name.
 pub names-either : (a b : List ℕ) (row : ℕ) → names (a ++ b) row ≡ names a row || names b row
@@ -117,7 +117,7 @@ module _ (front x y : List ℕ) where
   pub rows-stay : (place : ℕ) → pastRecord (front ++ x) place ≤ length front → rowsAt (front ++ y) place ≡ rowsAt (front ++ x) place
   rows-stay place l =
       ap (λ c. take c (drop (place + 2) (front ++ y))) (byte-stays (place + 1) (omega arith))
-      ∙ part-stays (place + 2) (countAt (front ++ x) place) (omega arith)
+      ∙ part-stays (place + 2) (pickedAt (front ++ x) place) (omega arith)
 
   module _ (from : ℕ) where
     -- and so does the place of slot t, if it is no later than the end of the front,
@@ -129,7 +129,7 @@ module _ (front x y : List ℕ) where
         rw same (ap (λ c. placeOf (front ++ x) from t + 2 + c) (byte-stays (placeOf (front ++ x) from t + 1) (omega arith)))
 
     -- and the count of the records before it that name a row.
-    pub count-stays : (row t : ℕ) → placeOf (front ++ x) from t ≤ length front → count (front ++ y) from row t ≡ count (front ++ x) from row t
+    pub count-stays : (row t : ℕ) → placeOf (front ++ x) from t ≤ length front → timesNamedFrom (front ++ y) from row t ≡ timesNamedFrom (front ++ x) from row t
     unfolding placeOf
     count-stays row t l = same-count (namedIn (front ++ y) from row) (namedIn (front ++ x) from row) t each
       where
@@ -141,7 +141,7 @@ module _ (front x y : List ℕ) where
 -- The record that stands behind a front of the bytes is found there.
 module _ (front rest rows : List ℕ) (k : ℕ) where
   -- Its second byte says how many rows it has,
-  pub count-found : countAt (front ++ (recordOf k rows ++ rest)) (length front) ≡ length rows
+  pub count-found : pickedAt (front ++ (recordOf k rows ++ rest)) (length front) ≡ length rows
   count-found = getD-append-add front (recordOf k rows ++ rest) 1 0
 
   -- and behind it stand its rows.
@@ -161,7 +161,7 @@ module _ (front x rest rows : List ℕ) (k from t : ℕ) (full : placeOf (front 
   next-behind = rw (full-still, count-found front rest rows k) (omega arith)
 
   -- and what it names is counted
-  named-too : (row : ℕ) → count (front ++ (recordOf k rows ++ rest)) from row (suc t) ≡ count (front ++ x) from row t + cond (names rows row) 1 0
+  named-too : (row : ℕ) → timesNamedFrom (front ++ (recordOf k rows ++ rest)) from row (suc t) ≡ timesNamedFrom (front ++ x) from row t + cond (names rows row) 1 0
   unfolding howMany
   named-too row =
       rw (count-stays front x (recordOf k rows ++ rest) from row t (omega (arith, full)), full-still, rows-found front rest rows k)
@@ -182,16 +182,16 @@ module _ (b : List ℕ) (from t k : ℕ) (rows : List ℕ) (inside : placeOf b f
   next-place = next-behind (take (placeOf b from t) b) (drop (placeOf b from t) b) _ rows k from t fills ∙ ap (λ n. n + length (recordOf k rows)) (sym as-long)
 
   -- and a row that it names is named once more.
-  pub named-once-more : (row : ℕ) → count (withRecord b (placeOf b from t) (recordOf k rows)) from row (suc t) ≡ count b from row t + cond (names rows row) 1 0
+  pub named-once-more : (row : ℕ) → timesNamedFrom (withRecord b (placeOf b from t) (recordOf k rows)) from row (suc t) ≡ timesNamedFrom b from row t + cond (names rows row) 1 0
   unfolding withRecord withFront
   named-once-more row =
       named-too (take (placeOf b from t) b) (drop (placeOf b from t) b) _ rows k from t fills row
-      ∙ ap (λ s. count s from row t + cond (names rows row) 1 0) (take-append-drop (placeOf b from t) b)
+      ∙ ap (λ s. timesNamedFrom s from row t + cond (names rows row) 1 0) (take-append-drop (placeOf b from t) b)
 
 -- A row that the record of slot t names is counted,
-pub counted-if-named : (s : List ℕ) (from row t : ℕ) → namedIn s from row t ≡ true → count s from row (t + 1) ≡ count s from row t + 1
+pub counted-if-named : (s : List ℕ) (from row t : ℕ) → namedIn s from row t ≡ true → timesNamedFrom s from row (t + 1) ≡ timesNamedFrom s from row t + 1
 counted-if-named s from row t h = counted-if-passed (namedIn s from row) t h
 
 -- and a row that it does not name is not.
-pub uncounted-if-not-named : (s : List ℕ) (from row t : ℕ) → namedIn s from row t ≡ false → count s from row (t + 1) ≡ count s from row t
+pub uncounted-if-not-named : (s : List ℕ) (from row t : ℕ) → namedIn s from row t ≡ false → timesNamedFrom s from row (t + 1) ≡ timesNamedFrom s from row t
 uncounted-if-not-named s from row t h = uncounted-if-failed (namedIn s from row) t h

@@ -9,7 +9,7 @@ use borrow.Author.Tests.{le-leb, lt-leb, lt-ltb, le-ltb}
 use lib.Dec.{leb}
 use lib.ListN.{length, take, drop}
 use Rattle.trace.specs.declared.Place.the-variants.{Between, Nowhere}
-use Rattle.trace.specs.Records.{countAt, pastRecord, firstPlace, slotsIn, placeOf, placeIn}
+use Rattle.trace.specs.Records.{pickedAt, pastRecord, firstPlace, slotsIn, placeOf, placeIn}
 use Rattle.trace.specs.Found.{isFound, partFound, partBegins}
 use Rattle.trace.specs.Search.{lengthInside, placeIf, placeInside, placeFound}
 use Rattle.trace.proofs.Records.{ends-before}
@@ -23,7 +23,7 @@ module _ (s : List ℕ) (place : ℕ) where
   is-cut h = simp (lt-leb _ _ h)
 
   -- and one that does not is whole.
-  pub is-whole : {n : ℕ} → pastRecord s place ≤ length s → n ≡ 2 + countAt s place → n ≡ lengthInside s place
+  pub is-whole : {n : ℕ} → pastRecord s place ≤ length s → n ≡ 2 + pickedAt s place → n ≡ lengthInside s place
   unfolding lengthInside
   is-whole h e = e ∙ simp (le-leb _ _ h)
 
@@ -76,9 +76,9 @@ module _ (s : List ℕ) (t : ℕ) where
       go false e = simp e
 
   -- and below the count what lies inside is found.
-  pub below-count : 4 ≤ length s → t < slotsIn s → placeInside s t ≡ placeFound s t
+  pub below-slot-count : 4 ≤ length s → t < slotsIn s → placeInside s t ≡ placeFound s t
   unfolding isFound placeInside placeFound
-  below-count a h = simp (le-leb _ _ a, lt-ltb _ _ h)
+  below-slot-count a h = simp (le-leb _ _ a, lt-ltb _ _ h)
 
   -- Where nothing is found the part is empty and begins at 0,
   pub nowhere-is : placeFound s t ≡ Nowhere → ([] ≡ partFound s t) × (0 ≡ partBegins s t)
@@ -101,9 +101,9 @@ module _ (s : List ℕ) (t : ℕ) where
       go true e =
           let found : placeIf true s t ≡ Between start end = ap (λ b. placeIf b s t) (sym e) ∙ h in
           let first : placeIn s t ≡ start = cc found in
-          let last : placeIn s t + (2 + countAt s (placeIn s t)) ≡ end = cc found in
+          let last : placeIn s t + (2 + pickedAt s (placeIn s t)) ≡ end = cc found in
           let inside = found-if-all-inside s t .0 e .all-inside t (omega arith) .whole in
-          let long : end - start ≡ 2 + countAt s (placeIn s t) = omega (arith, first, last) in
+          let long : end - start ≡ 2 + pickedAt s (placeIn s t) = omega (arith, first, last) in
           record {
             ordered = omega (arith, first, last);
             inside = omega (arith, last, inside);
@@ -134,7 +134,7 @@ module _ (s : List ℕ) (t : ℕ) where
         let end = whole-ends s start e h in
         let here : start ≡ placeIn s t = so .place ∙ ap (placeIn s) same in
         let inside : placeIn s (t + 1) ≤ length s = omega (arith, next-begins s t, ap (pastRecord s) here, end) in
-        let long : start + n ≡ placeIn s t + (2 + countAt s (placeIn s t)) = omega (arith, ap (pastRecord s) here, end .0) in
+        let long : start + n ≡ placeIn s t + (2 + pickedAt s (placeIn s t)) = omega (arith, ap (pastRecord s) here, end .0) in
         rw (le-leb _ _ inside) (ap₂ Between here long)
 
     -- and from any other it goes on to the next.

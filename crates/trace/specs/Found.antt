@@ -6,7 +6,7 @@ use mathlib.Core.Bool.{Bool, true, cond, _&&_}
 use mathlib.Core.Logic.{_↔_}
 use lib.Dec.{leb, ltb}
 use lib.ListN.{length, take, drop}
-use Rattle.trace.specs.Records.{countAt, pastRecord, slotsIn, placeIn}
+use Rattle.trace.specs.Records.{pickedAt, pastRecord, slotsIn, placeIn}
 
 -- "It is found exactly if the 4 count bytes are there, s is below the count, and the records of slots 0 to s lie wholly inside;
 -- their contents are not judged." Of these records that of slot s ends last, where the next one would begin.
@@ -15,7 +15,7 @@ isFound trace s = leb 4 (length trace) && (ltb s (slotsIn trace) && leb (placeIn
 
 -- "the record itself, the very bytes inside the lent trace. .. Otherwise the part handed back has length 0": a record has 2 + c bytes
 abbrev pub partFound : List ℕ → ℕ → List ℕ
-partFound trace s = cond (isFound trace s) (take (2 + countAt trace (placeIn trace s)) (drop (placeIn trace s) trace)) []
+partFound trace s = cond (isFound trace s) (take (2 + pickedAt trace (placeIn trace s)) (drop (placeIn trace s) trace)) []
 
 -- where the part begins: at the record's place. "Otherwise the part .. begins at 0."
 abbrev pub partBegins : List ℕ → ℕ → ℕ
@@ -28,8 +28,8 @@ pub record Inside (trace : List ℕ) (place : ℕ) : Type 0 where
 
 -- "the 4 count bytes are there, s is below the count, and the records of slots 0 to s lie wholly inside", said of each record
 pub record Found (trace : List ℕ) (s : ℕ) : Type 0 where
-  pub count-there : 4 ≤ length trace
-  pub below-count : s < slotsIn trace
+  pub slot-count-there : 4 ≤ length trace
+  pub below-slot-count : s < slotsIn trace
   pub all-inside : (j : ℕ) → j ≤ s → Inside trace (placeIn trace j)
 
 -- The test, which looks at the last record's end, holds exactly if that is so.

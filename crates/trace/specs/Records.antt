@@ -11,15 +11,15 @@ use Rattle.fields.specs.Fields.{byte, word}
 abbrev pub freeAt : List ℕ → ℕ → ℕ
 freeAt s place = byte s place
 
-abbrev pub countAt : List ℕ → ℕ → ℕ
-countAt s place = byte s (place + 1)
+abbrev pub pickedAt : List ℕ → ℕ → ℕ
+pickedAt s place = byte s (place + 1)
 
 abbrev pub rowsAt : List ℕ → ℕ → List ℕ
-rowsAt s place = take (countAt s place) (drop (place + 2) s)
+rowsAt s place = take (pickedAt s place) (drop (place + 2) s)
 
 -- where the next record begins
 abbrev pub pastRecord : List ℕ → ℕ → ℕ
-pastRecord s place = place + 2 + countAt s place
+pastRecord s place = place + 2 + pickedAt s place
 
 -- where the record of slot t begins, if that of slot 0 begins at `from`
 unfoldable pub placeOf : List ℕ → ℕ → ℕ → ℕ
@@ -36,8 +36,8 @@ abbrev pub namedIn : List ℕ → ℕ → ℕ → ℕ → Bool
 namedIn s from row t = names (rowsAt s (placeOf s from t)) row
 
 -- how many of the first t records name a row
-abbrev pub count : List ℕ → ℕ → ℕ → ℕ → ℕ
-count s from row t = howMany (namedIn s from row) t
+abbrev pub timesNamedFrom : List ℕ → ℕ → ℕ → ℕ → ℕ
+timesNamedFrom s from row t = howMany (namedIn s from row) t
 
 -- "Slot count (4, at most 1,000,000,000), then one record a slot": the trace's count, and where the record of slot 0 begins
 abbrev pub slotsIn : List ℕ → ℕ
@@ -55,4 +55,4 @@ rowsOfSlot s t = rowsAt s (placeIn s t)
 
 -- how many of the first t records of a trace name a row
 abbrev pub timesNamed : List ℕ → ℕ → ℕ → ℕ
-timesNamed s row t = count s firstPlace row t
+timesNamed s row t = timesNamedFrom s firstPlace row t

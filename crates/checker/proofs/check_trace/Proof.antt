@@ -7,7 +7,7 @@ use Rattle.checker.specs.Answer.{saidOf}
 use Rattle.checker.specs.Check.{recordFindings}
 use Rattle.checker.specs.Walking.{Reached}
 use Rattle.checker.proofs.Judged.{same-walked}
-use Rattle.checker.proofs.Traced.{Come, count-is-cut, is-too-long, check-begins, record-says, check-goes-on, bytes-are-left, trace-passes}
+use Rattle.checker.proofs.Traced.{Come, slot-count-is-cut, is-too-long, check-begins, record-says, check-goes-on, bytes-are-left, trace-passes}
 use Rattle.checker.proofs.check_trace.Statement.{statement}
 use Rattle.checker.proofs.check_trace.Tie as tie
 
@@ -20,7 +20,7 @@ abbrev μ-loop : tie.MeasureT-loop
 returns : tie.Need-returns Inv-loop μ-loop
 returns c =
     let a = c .before .before in
-    count-is-cut (a .args .table) (a .args .trace .now) (c .if1 .taken)
+    slot-count-is-cut (a .args .table) (a .args .trace .now) (c .if1 .taken)
 
 word-requires : tie.Need-word-requires Inv-loop μ-loop
 word-requires c κs = search needs

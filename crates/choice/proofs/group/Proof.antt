@@ -4,7 +4,7 @@ use Prim.Native.Nat.{_+_, _<_}
 use Rattle.windows.specs.declared.Moment.the-variants.{At}
 use Rattle.windows.specs.Group.{groupDeadline}
 use Rattle.windows.proofs.Next.{momentTime, isMoment}
-use Rattle.pd2.specs.Ready.{origin}
+use Rattle.pd2.specs.Ready.{originOf}
 use Rattle.choice.proofs.Asked.{group-is-said, group-asked, no-group-outside, no-group-at-bit-0}
 use borrow.Author.Needs.{needs}
 use Rattle.choice.proofs.group.Statement.{statement}
@@ -14,7 +14,7 @@ use Rattle.choice.proofs.group.Tie as tie
 said : (c : tie.After-next-group-deadline) →
     let a = c .before .before .before .before in
     let row = a .args .row in
-    c .next-group-deadline .result ≡ At (record { 0 = groupDeadline (row .cost) (row .period) (origin row) (a .args .given .0 + 1) })
+    c .next-group-deadline .result ≡ At (record { 0 = groupDeadline (row .cost) (row .period) (originOf row) (a .args .given .0 + 1) })
 said c =
     let a = c .before .before .before .before in
     let small : a .args .row .phase < 65_536 = search needs in

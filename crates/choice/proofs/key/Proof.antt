@@ -6,7 +6,7 @@ use borrow.Author.Tests.{not-true, not-false}
 use Rattle.windows.specs.Windows.{deadline, bit}
 use Rattle.windows.proofs.Windows.{bit-is-0-or-1}
 use Rattle.windows.proofs.Next.{dueTime, dueBit, isDue}
-use Rattle.pd2.specs.Ready.{origin}
+use Rattle.pd2.specs.Ready.{originOf}
 use Rattle.pd2.specs.Verdict.{isYes}
 use native.Mathlib.Omega.{arith}
 use Rattle.choice.specs.Choice.{saysReady}
@@ -62,7 +62,7 @@ time-requires c κs = search needs
 said : (c : tie.After-time) →
     let a = c .before .before .before .before .before .before .before .before .before in
     let row = a .args .row in
-    (c .time .result ≡ deadline (row .cost) (row .period) (origin row) (a .args .given .0 + 1)) × (c .before .before .due .given .0 .1 .0 ≡ bit (row .cost) (row .period) (a .args .given .0 + 1))
+    (c .time .result ≡ deadline (row .cost) (row .period) (originOf row) (a .args .given .0 + 1)) × (c .before .before .due .given .0 .1 .0 ≡ bit (row .cost) (row .period) (a .args .given .0 + 1))
 said c =
     let a = c .before .before .before .before .before .before .before .before .before in
     let small : a .args .row .phase < 65_536 = search needs in

@@ -1,7 +1,7 @@
 use mathlib.Core.Path.{_∙_}
 use native.Mathlib.Omega.{arith}
 use borrow.Author.Needs.{needs}
-use Rattle.trace.proofs.Search.{no-count, past-count, below-count}
+use Rattle.trace.proofs.Search.{no-count, past-count, below-slot-count}
 use Rattle.trace.proofs.find.Statement.{statement}
 use Rattle.trace.proofs.find.Tie as tie
 
@@ -21,7 +21,7 @@ walk-requires : tie.Need-walk-requires
 walk-requires c κs = search needs
 
 returns-3 : tie.Need-returns-3
-returns-3 c = c .walk .ensures ∙ below-count _ _ (omega arith) (omega arith)
+returns-3 c = c .walk .ensures ∙ below-slot-count _ _ (omega arith) (omega arith)
 
 pub find-spec : {M : Type 1} → statement M
 find-spec = tie.close (tie.spec returns word-requires cast-slots returns-2 walk-requires returns-3)

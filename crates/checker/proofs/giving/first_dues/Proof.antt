@@ -59,7 +59,7 @@ loop-again c =
     let at = c .before .before .before .before in
     let l = row-is (c .before .before .before) in
     fills-one-more _ _ _ _ (at .loop .inv) (omega (arith, l, a .pre .few, a .pre .all))
-    (c .next-due .ensures ∙ rw (row-there (table .rows) (table .count) (at .loop .i) _ l, c .before .of .ensures) refl)
+    (c .next-due .ensures ∙ rw (row-there (table .rows) (table .n) (at .loop .i) _ l, c .before .of .ensures) refl)
 
 returns : tie.Need-returns Inv-loop μ-loop
 returns c =

@@ -10,7 +10,7 @@ use Rattle.table.specs.Value.{rowsOf}
 use Rattle.pd2.specs.Ready.{ready}
 use Rattle.pd2.specs.Choice.{rowAt}
 use Rattle.checker.specs.Passes.{due}
-use Rattle.checker.specs.Walking.{givenTo, DueAre, isEarly}
+use Rattle.checker.specs.Walking.{quantaAt, DueAre, isEarly}
 use Rattle.checker.proofs.Named.{PassSoFar, passing-begins, passes-on, fails-first, none-fails, GaveSoFar, giving-begins, not-given-yet, gives-one-more, all-given, named-is-below, how-many-rows, row-at}
 use Rattle.pd2.proofs.Choice.{row-there}
 use Rattle.checker.proofs.Asked.{ready-as-read}
@@ -21,9 +21,9 @@ use Rattle.checker.proofs.giving.give.Tie as tie
 -- the first j rows were ready and have one quantum more, and the dues are as the counts are
 abbrev Inv-loop : tie.InvT-loop
 Inv-loop trace first c counts₀ dues₀ slot table n j₀ counts dues j =
-    PassSoFar (take c (drop first trace)) (λ i. ready (rowAt (rowsOf table) i) (givenTo counts₀ i) (slot .0)) j
+    PassSoFar (take c (drop first trace)) (λ i. ready (rowAt (rowsOf table) i) (quantaAt counts₀ i) (slot .0)) j
     × GaveSoFar (take c (drop first trace)) counts₀ counts j
-    × DueAre table (givenTo counts) dues
+    × DueAre table (quantaAt counts) dues
 
 abbrev μ-loop : tie.MeasureT-loop
 μ-loop trace first c counts₀ dues₀ slot table n j₀ counts dues j = c - j
@@ -64,7 +64,7 @@ fits : (c : tie.After-byte Inv-loop μ-loop) → c .byte .result < 32
 fits c = let can = c .before .before .before .before .pre .ask .can in omega (arith, is-there c, can .few, can .all)
 
 -- which has not been given its quantum yet
-had : (c : tie.After-byte Inv-loop μ-loop) → givenTo (c .before .before .loop .counts) (c .byte .result) ≡ givenTo (c .before .before .before .before .args .counts .now) (c .byte .result)
+had : (c : tie.After-byte Inv-loop μ-loop) → quantaAt (c .before .before .loop .counts) (c .byte .result) ≡ quantaAt (c .before .before .before .before .args .counts .now) (c .byte .result)
 had c = not-given-yet _ _ (c .before .before .before .before .pre .rise) _ (c .before .before .loop .inv .1) (inside (c .before)) (is-row c)
 
 cast-i : tie.Need-cast-i Inv-loop μ-loop
@@ -101,11 +101,11 @@ is-yes-requires c κs = search needs
 
 -- the row is asked as the definition asks it
 asked : (c : tie.After-is-yes Inv-loop μ-loop) → let a = c .before .before .before .before .before .before .before .before .before in let i = getD (take (a .args .c) (drop (a .args .first) (a .args .trace .now))) (c .before .before .before .before .before .before .before .loop .j) 0 in
-    c .is-yes .result ≡ ready (rowAt (rowsOf (a .args .t4)) i) (givenTo (a .args .counts .now) i) (a .args .slot .0)
+    c .is-yes .result ≡ ready (rowAt (rowsOf (a .args .t4)) i) (quantaAt (a .args .counts .now) i) (a .args .slot .0)
 asked c =
     let a = c .before .before .before .before .before .before .before .before .before in
     let byte = c .before .before .before .before .before in
-    subst (λ i. c .is-yes .result ≡ ready (rowAt (rowsOf (a .args .t4)) i) (givenTo (a .args .counts .now) i) (a .args .slot .0)) (is-row byte)
+    subst (λ i. c .is-yes .result ≡ ready (rowAt (rowsOf (a .args .t4)) i) (quantaAt (a .args .counts .now) i) (a .args .slot .0)) (is-row byte)
     (ready-as-read _ _ _ (a .pre .ask) _ (is-there byte) _ (c .before .before .of .ensures ∙ had byte) (c .is-yes .ensures) (c .before .ready .ensures))
 
 returns : tie.Need-returns Inv-loop μ-loop
@@ -171,7 +171,7 @@ loop-again c =
       gives-one-more _ _ (a .pre .rise) _ (inv .1) (inside (c .before .before .before .before .before .before .before .before .before .before)) (is-row byte) (omega (arith, fits byte, long)) _ given,
       one-due-later (a .args .t4) (at .loop .counts) (at .loop .dues) (inv .2) long (byte .byte .result) (fits byte) (count .result)
           (c .next-due .ensures
-          ∙ (ap (λ row. due row (c .before .before .one-more .result .0 + 1)) (row-there (a .args .t4 .rows) (a .args .t4 .count) (byte .byte .result) _ (is-there byte))
+          ∙ (ap (λ row. due row (c .before .before .one-more .result .0 + 1)) (row-there (a .args .t4 .rows) (a .args .t4 .n) (byte .byte .result) _ (is-there byte))
           ∙ ap (λ q. due (rowAt (rowsOf (a .args .t4)) (byte .byte .result)) (q + 1)) (sym (count .ensures)))),
     )
 

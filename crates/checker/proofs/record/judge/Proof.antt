@@ -26,11 +26,11 @@ returns c =
     ends (a .args .table) (a .args .trace .now) (a .args .slot .0) (c .refused .ensures) (shape-ends (a .args .table) (a .args .trace .now) (a .args .slot .0) (a .args .at) _ _ (a .pre) (subst (λ n. FirstFound (shapeAt (a .args .table .cores) n (a .args .trace .now) (a .args .at)) (bare (c .before .before .before .read-at .result .number))) (sym (a .pre .can .all)) (found .2)))
 
 -- a record in which nothing is found was read
-is-read : (c : tie.Else1) → let a = c .before .before .before .before in Read (a .args .table .cores) (length (rowsOf (a .args .table))) (a .args .trace .now) (a .args .at) (c .before .before .read-at .result .first) (c .before .before .read-at .result .count)
+is-read : (c : tie.Else1) → let a = c .before .before .before .before in Read (a .args .table .cores) (length (rowsOf (a .args .table))) (a .args .trace .now) (a .args .at) (c .before .before .read-at .result .first) (c .before .before .read-at .result .picked)
 is-read c =
     let a = c .before .before .before .before in
     let read = c .before .before .read-at in
-    subst (λ n. Read (a .args .table .cores) n (a .args .trace .now) (a .args .at) (read .result .first) (read .result .count)) (sym (a .pre .can .all)) (read .ensures .read (c .if1 .left))
+    subst (λ n. Read (a .args .table .cores) n (a .args .trace .now) (a .args .at) (read .result .first) (read .result .picked)) (sym (a .pre .can .all)) (read .ensures .read (c .if1 .left))
 
 -- the slot's end
 later-is : (c : tie.After-later) → c .later .result .0 ≡ c .before .before .before .before .before .before .before .before .before .before .args .slot .0 + 1

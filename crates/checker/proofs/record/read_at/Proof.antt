@@ -2,7 +2,7 @@ use mathlib.Core.Path.{_≡_, subst}
 use Prim.Native.Nat.{_+_, _≤_}
 use native.Mathlib.Omega.{arith}
 use lib.ListN.{length, take, drop}
-use Rattle.trace.specs.Records.{freeAt, countAt, rowsAt, pastRecord}
+use Rattle.trace.specs.Records.{freeAt, pickedAt, rowsAt, pastRecord}
 use Rattle.checker.specs.Causes.{badRows}
 use Rattle.checker.proofs.Shape.{refuses, head-is-cut, cores-are-too-many, rows-are-too-many, rows-are-cut, rows-are-bad, record-is-read}
 use borrow.Author.Needs.{needs}
@@ -22,7 +22,7 @@ head c = omega (arith, c .if1 .left, c .before .before .pre .1)
 cores : (c : tie.Else2) → let a = c .before .before .before .before .before in freeAt (a .args .trace .now) (a .args .at) ≤ a .args .cores
 cores c = omega (arith, c .if2 .left, c .before .before .byte .ensures)
 
-few : (c : tie.Else3) → let a = c .before .before .before .before .before .before in countAt (a .args .trace .now) (a .args .at) ≤ freeAt (a .args .trace .now) (a .args .at)
+few : (c : tie.Else3) → let a = c .before .before .before .before .before .before in pickedAt (a .args .trace .now) (a .args .at) ≤ freeAt (a .args .trace .now) (a .args .at)
 few c = omega (arith, c .if3 .left, c .before .before .before .byte .ensures, c .before .before .byte2 .ensures)
 
 rows-there : (c : tie.Else4) → let a = c .before .before .before .before .before .before .before in pastRecord (a .args .trace .now) (a .args .at) ≤ length (a .args .trace .now)
@@ -32,7 +32,7 @@ rows-there c = omega (arith, c .if4 .left, c .before .before .before .byte2 .ens
 are-named : (c : tie.After-are-bad) → let a = c .before .before .before .before .before .before .before .before in c .are-bad .result ≡ badRows (a .args .n) 0 (rowsAt (a .args .trace .now) (a .args .at))
 are-named c =
     let a = c .before .before .before .before .before .before .before .before in
-    subst (λ count. c .are-bad .result ≡ badRows (a .args .n) 0 (take count (drop (a .args .at + 2) (a .args .trace .now)))) (c .before .before .before .before .byte2 .ensures) (c .are-bad .ensures)
+    subst (λ picked. c .are-bad .result ≡ badRows (a .args .n) 0 (take picked (drop (a .args .at + 2) (a .args .trace .now)))) (c .before .before .before .before .byte2 .ensures) (c .are-bad .ensures)
 
 returns : tie.Need-returns
 returns c =

@@ -19,8 +19,8 @@ is-broken-requires c κs = search needs
 whole : (c : tie.Else1) → broken (c .before .before .args .self) ≡ false
 whole c = sym (c .before .is-broken .ensures) ∙ c .if1 .left
 
-early : (c : tie.Else3) → timeOf (c .before .before .before .before .before .args .self) < timeLimit
-early c = omega (arith, c .if3 .left, c .before .time .ensures)
+slot-left : (c : tie.Else3) → timeOf (c .before .before .before .before .before .args .self) < timeLimit
+slot-left c = omega (arith, c .if3 .left, c .before .time .ensures)
 
 returns : tie.Need-returns
 returns c =
@@ -48,7 +48,7 @@ returns-4 c =
     let runs = in-time .before .before in
     let a = runs .before .before .before .args in
     cause-is _ _ _ _ TooManyCores refl
-    (λ buffer long. first-33 (a .self) (a .k) buffer (a .place) (whole (runs .before)) (runs .if2 .left) (early in-time) (c .if4 .taken))
+    (λ buffer long. first-33 (a .self) (a .k) buffer (a .place) (whole (runs .before)) (runs .if2 .left) (slot-left in-time) (c .if4 .taken))
 
 returns-5 : tie.Need-returns-5
 returns-5 c =
@@ -57,7 +57,7 @@ returns-5 c =
     let a = runs .before .before .before .args in
     let past = c .if5 .taken in
     cause-is _ _ _ _ NoRoom refl
-    (λ buffer long. past-end (a .self) (a .k) buffer (a .place) (whole (runs .before)) (runs .if2 .left) (early in-time) (c .before .if4 .left) (omega arith))
+    (λ buffer long. past-end (a .self) (a .k) buffer (a .place) (whole (runs .before)) (runs .if2 .left) (slot-left in-time) (c .before .if4 .left) (omega arith))
 
 returns-6 : tie.Need-returns-6
 returns-6 c =
@@ -67,7 +67,7 @@ returns-6 c =
     (record {
       whole = whole (runs .before);
       runs = runs .if2 .left;
-      early = early in-time;
+      slot-left = slot-left in-time;
       enough = c .before .if4 .left;
       inside = c .if5 .left;
     })

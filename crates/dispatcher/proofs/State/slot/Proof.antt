@@ -106,7 +106,7 @@ not-written c e =
     let passed = admitted (picked .before) in
     let a = picked .before .before .before .before .before .args in
     let wrote = rw (lent-from (a .buffer .now) (a .place)) at (c .before .before .write .ensures) in
-    no-room (a .self) (a .k) (a .buffer .now) (a .place) (passed .whole) (passed .runs) (passed .early) (passed .enough) (passed .inside) (picked .picks .ensures) (c .before .before .write .result) (wrote .0) (wrote .1) e
+    no-room (a .self) (a .k) (a .buffer .now) (a .place) (passed .whole) (passed .runs) (passed .slot-left) (passed .enough) (passed .inside) (picked .picks .ensures) (c .before .before .write .result) (wrote .0) (wrote .1) e
 
 is-written : (c : tie.After-slice-known2) → c .before .before .write .result ≡ stored.Written →
     let a = c .before .before .before .before .before .before .before .before .before .args in
@@ -117,7 +117,7 @@ is-written c e =
     let passed = admitted (picked .before) in
     let a = picked .before .before .before .before .before .args in
     let wrote = rw (lent-from (a .buffer .now) (a .place)) at (c .before .before .write .ensures) in
-    has-room (a .self) (a .k) (a .buffer .now) (a .place) (passed .whole) (passed .runs) (passed .early) (passed .enough) (passed .inside) (picked .picks .ensures) (c .before .before .write .result) (wrote .0) (wrote .1) e
+    has-room (a .self) (a .k) (a .buffer .now) (a .place) (passed .whole) (passed .runs) (passed .slot-left) (passed .enough) (passed .inside) (picked .picks .ensures) (c .before .before .write .result) (wrote .0) (wrote .1) e
 
 returns-2 : tie.Need-returns-2
 returns-2 c =
@@ -133,7 +133,7 @@ one-on-requires c κs =
     record {
       usable = usable (picked .before);
       only-rows = marks-are-rows (a .self) (a .k) (picked .picks .result) (picked .picks .ensures);
-      early = admitted (picked .before) .early;
+      slot-left = admitted (picked .before) .slot-left;
     }
 
 same-length-2 : tie.Need-same-length-2
