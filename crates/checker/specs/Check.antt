@@ -3,6 +3,7 @@
 use Prim.Native.Nat.{ℕ, zero, suc, _+_}
 use mathlib.Core.List.{List, [], _∷_, _++_}
 use lib.ListN.{length}
+use Rattle.facts.specs.Zero.{if0}
 use Rattle.facts.specs.Findings.{Finding, _says_, firstFound}
 use Rattle.table.specs.declared.Table.{Table}
 use Rattle.table.specs.Value.{rowsOf}
@@ -57,8 +58,7 @@ traceSaid table s = firstFound (bare 0) (traceFindings table s)
 
 -- "judges the table first and answers its refusal without reading the trace"
 abbrev pub checkBy : ℕ → List ℕ → List ℕ → Said
-checkBy zero tableBytes s = traceSaid (tableIn tableBytes) s
-checkBy (suc number) tableBytes s = bare (suc number)
+checkBy number tableBytes s = let judged = traceSaid (tableIn tableBytes) s in if0 number judged (bare number)
 
 unfoldable pub checkOf : List ℕ → List ℕ → Said
 checkOf tableBytes s = checkBy (tableNumber tableBytes) tableBytes s

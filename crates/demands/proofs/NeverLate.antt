@@ -115,7 +115,7 @@ module _ (table : Table) (c : ℕ) (sound : faultOf table ≡ 0) (few : load (ta
   course-after : (s : State) (k : ℕ) (buffer : List ℕ) (place : ℕ) → Kept s → c ≤ k → slotOf s k buffer place .said .number < 2 →
       Course (timeOf (slotOf s k buffer place .state)) (quantaIn (slotOf s k buffer place .state))
   course-after s k buffer place so more done =
-      rw (done-makes-the-step s k buffer place done .0)
+      rw (ap (λ x. x .state) (done-makes-the-step s k buffer place done))
       (goes-on (timeOf s) (quantaIn s) _ k (so .course) more
       (λ i l. quanta-after s k (is-whole s (so .whole)) (so .long) i ∙ ap (λ b. quantaAt (quantaIn s) i + cond b 1 0) (named i l)))
     where
@@ -127,7 +127,7 @@ module _ (table : Table) (c : ℕ) (sound : faultOf table ≡ 0) (few : load (ta
   not-late s k buffer place so more is-1 =
       let done : slotOf s k buffer place .said .number < 2 = omega (arith, is-1) in
       let after = done-keeps-whole s k buffer place done in
-      let same : slotOf s k buffer place .state .table ≡ table = ap (λ x. x .table) (done-makes-the-step s k buffer place done .0) ∙ so .same in
+      let same : slotOf s k buffer place .state .table ≡ table = ap (λ x. x .state .table) (done-makes-the-step s k buffer place done) ∙ so .same in
       let row = slotOf s k buffer place .said .row in
       let is-late = after .names-row is-1 .passes (after .is-row is-1) in
       let nobody = nobody-late _ _ (course-after s k buffer place so more done) row (rw same at (after .is-row is-1)) in
@@ -148,7 +148,7 @@ module _ (table : Table) (c : ℕ) (sound : faultOf table ≡ 0) (few : load (ta
       go : Dec (slotOf s k buffer place .said .number < 2) → Kept s → Kept (slotOf s k buffer place .state)
       go (yes done) so =
           let after = done-keeps-whole s k buffer place done in
-          let step = done-makes-the-step s k buffer place done .0 in
+          let step = ap (λ x. x .state) (done-makes-the-step s k buffer place done) in
           record {
             same = ap (λ x. x .table) step ∙ so .same;
             whole = after .whole;

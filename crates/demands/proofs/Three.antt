@@ -70,7 +70,7 @@ kept table _ sound (FromFresh.slot s k buffer place from not-late) = go (decLt (
     go (yes done) so =
         let after = done-keeps-whole s k buffer place done in
         record {
-          same = ap (λ x. x .table) (done-makes-the-step s k buffer place done .0) ∙ so .same;
+          same = ap (λ x. x .state .table) (done-makes-the-step s k buffer place done) ∙ so .same;
           whole = after .whole;
           runs = after .runs-on (done-with-0 done not-late);
         }
@@ -136,7 +136,7 @@ module _ (said : Said) (s : State) (after : After s said) (done : said .number <
 -- And so of the table that it began with.
 reports-late : ReportsLate
 reports-late s k buffer place done =
-    subst (λ x. Reports x (slotOf s k buffer place .said) (slotOf s k buffer place .state)) (ap (λ x. x .table) (done-makes-the-step s k buffer place done .0))
+    subst (λ x. Reports x (slotOf s k buffer place .said) (slotOf s k buffer place .state)) (ap (λ x. x .state .table) (done-makes-the-step s k buffer place done))
     (reports (slotOf s k buffer place .said) (slotOf s k buffer place .state) (done-keeps-whole s k buffer place done) done)
 
 pub demand-three : DemandThree

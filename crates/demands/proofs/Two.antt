@@ -35,21 +35,23 @@ pub picks-are-pd2s : PicksArePd2s
 picks-are-pd2s s k buffer place done =
     let so = goes s k buffer place (done-is-not-refused s k buffer place done) in
     let step = done-makes-the-step s k buffer place done in
-    let rows = ap (λ b. rowsAt b place) (step .1) ∙ rows-written buffer place k (picksIn s k) (so .room) in
+    let bytes = ap (λ x. x .bytes) step in
+    let state = ap (λ x. x .state) step in
+    let rows = ap (λ b. rowsAt b place) bytes ∙ rows-written buffer place k (picksIn s k) (so .room) in
     record {
-      bytes = step .1;
-      size = ap length (step .1) ∙ still-as-long buffer place k (picksIn s k) (so .room);
-      before-it = λ j l. ap (λ b. getD b j 0) (step .1) ∙ agrees-before buffer place k (picksIn s k) (so .room) 0 .same j zero-le l;
-      behind-it = λ j l. ap (λ b. getD b j 0) (step .1) ∙ agrees-behind buffer place k (picksIn s k) (so .room) j (omega arith);
+      bytes = bytes;
+      size = ap length bytes ∙ still-as-long buffer place k (picksIn s k) (so .room);
+      before-it = λ j l. ap (λ b. getD b j 0) bytes ∙ agrees-before buffer place k (picksIn s k) (so .room) 0 .same j zero-le l;
+      behind-it = λ j l. ap (λ b. getD b j 0) bytes ∙ agrees-behind buffer place k (picksIn s k) (so .room) j (omega arith);
       picked-rows = λ i l.
           ap (λ named. names named i) rows
           ∙ (listed-are-named (picked (readyIn (rowsIn s) (quantaIn s) (timeOf s)) (goesBeforeBy before (rowsIn s) (quantaIn s)) (length (rowsIn s)) k) (length (rowsIn s)) i
           ∙ rw (lt-ltb i (length (rowsIn s)) l) refl);
-      free = ap (λ b. freeAt b place) (step .1) ∙ free-written buffer place k (picksIn s k) (so .room);
+      free = ap (λ b. freeAt b place) bytes ∙ free-written buffer place k (picksIn s k) (so .room);
       rows = rows;
       best = picks-are-best (readyIn (rowsIn s) (quantaIn s) (timeOf s)) (goesBeforeBy before (rowsIn s) (quantaIn s)) (length (rowsIn s)) k (pd2-is-strict (rowsIn s) (quantaIn s) (timeOf s) (length (rowsIn s)));
-      quanta = λ long i. ap (λ x. quantaAt (quantaIn x) i) (step .0) ∙ rw rows (quanta-after s k (is-whole s (so .whole)) long i);
-      time = ap timeOf (step .0);
+      quanta = λ long i. ap (λ x. quantaAt (quantaIn x) i) state ∙ rw rows (quanta-after s k (is-whole s (so .whole)) long i);
+      time = ap timeOf state;
       ready = λ i h. named-is-ready s k i (sym (ap (λ l. names l i) rows) ∙ h);
       stops = done-keeps-whole s k buffer place done .stops;
       runs-on = done-keeps-whole s k buffer place done .runs-on;

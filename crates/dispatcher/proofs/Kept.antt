@@ -1,6 +1,6 @@
 -- What one slot keeps, and what its answers mean. Assumes nothing.
 use Prim.Native.Nat.{ℕ, zero, suc, _+_, _-_, _≤_, _<_}
-use mathlib.Core.Path.{_≡_, refl, sym, ap, _∙_}
+use mathlib.Core.Path.{_≡_, refl, sym, ap, subst, _∙_}
 use mathlib.Core.List.{List, [], _∷_}
 use mathlib.Core.Bool.{Bool, true, false, cond}
 use mathlib.Core.Logic.{_↔_, _⊎_, inl, inr, ⊎-elim}
@@ -13,7 +13,7 @@ use Rattle.facts.specs.First.{Lowest}
 use Rattle.facts.specs.Faults.{_⇒_, firstMet, numbered}
 use Rattle.facts.proofs.Tests.{both, hold-both, neither-holds}
 use Rattle.facts.proofs.First.{a-lowest}
-use Rattle.facts.proofs.Counting.{some-if, none-if, each-fails, none-is-listed, lowest-is-first}
+use Rattle.facts.proofs.Counting.{some-if, none-if, some-listed, each-fails, none-is-listed, lowest-is-first}
 use Rattle.facts.proofs.Faults.{neither, passed, answered-exactly}
 use Rattle.counts.specs.Limits.{timeLimit}
 use Rattle.table.specs.declared.Row.{Row}
@@ -33,7 +33,7 @@ use Rattle.dispatcher.specs.State.{rowsIn, quantaIn, timeOf, freshOf}
 use Rattle.dispatcher.specs.Broken.{ofRow, broken}
 use Rattle.trace.specs.Said.{bare}
 use Rattle.dispatcher.specs.Answer.{doneSaid}
-use Rattle.dispatcher.specs.Slot.{picksIn, recordIn, lateAt, lateIn, oneOn, judged, stepped, lacksRoom, slotTests, refusal, slotBy, slotOf}
+use Rattle.dispatcher.specs.Slot.{picksIn, recordIn, lateAt, lateIn, stepped, stoppedBy, lacksRoom, slotTests, refusal, doneReply, slotBy, slotOf}
 use Rattle.dispatcher.specs.Kept.{RefusalsAreFirstCauses, RefusalChangesNothing, DoneMakesTheStep, UppersHold, After, DoneKeepsWhole, NextIsStopped, FreshIsWhole, FaultAnswers30}
 use Rattle.dispatcher.proofs.Ran.{as-counted}
 use Rattle.dispatcher.proofs.Whole.{Whole, is-whole, is-not-broken, rows-have-places, nothing-given}
@@ -73,12 +73,12 @@ module _ (s : State) (k : ℕ) (buffer : List ℕ) (place : ℕ) where
       go (suc r) (inr n) h = absurd (omega arith)
 
   -- and one that was not refused makes the step.
-  pub slot-done : refusal s k buffer place ≡ 0 → slotOf s k buffer place ≡ slotBy 0 s k buffer place
+  pub slot-done : refusal s k buffer place ≡ 0 → slotOf s k buffer place ≡ doneReply s k buffer place
   unfolding slotOf
   slot-done e = ap (λ r. slotBy r s k buffer place) e
 
   pub not-refused-is-done : refusal s k buffer place ≡ 0 → slotOf s k buffer place .said .number < 2
-  not-refused-is-done e = rw (slot-done e) (done-number (lateIn (oneOn s k) (timeOf s + 1)) (timeOf s + 1))
+  not-refused-is-done e = rw (slot-done e) (done-number (lateIn (stepped s (picksIn s k))) (timeOf s + 1))
 
   -- What is known where a slot is not refused.
   pub record Goes : Type 0 where
@@ -122,7 +122,7 @@ module _ (s : State) (k : ℕ) (buffer : List ℕ) (place : ℕ) where
     where
       go : (r : ℕ) → (slotBy r s k buffer place .said .number ≡ number) ↔ (r ≡ number)
       go zero = (
-        λ e. absurd (omega (arith, done-number (lateIn (oneOn s k) (timeOf s + 1)) (timeOf s + 1), e)),
+        λ e. absurd (omega (arith, done-number (lateIn (stepped s (picksIn s k))) (timeOf s + 1), e)),
         λ e. absurd (omega arith),
       )
       go (suc r) = (λ e. e, λ e. e)
@@ -141,12 +141,12 @@ unfolding slotOf
 refusal-changes-nothing s k buffer place = go (refusal s k buffer place)
   where
     go : (r : ℕ) → 1 < slotBy r s k buffer place .said .number → (slotBy r s k buffer place .state ≡ s) × (slotBy r s k buffer place .bytes ≡ buffer)
-    go zero h = absurd (omega (arith, done-number (lateIn (oneOn s k) (timeOf s + 1)) (timeOf s + 1)))
+    go zero h = absurd (omega (arith, done-number (lateIn (stepped s (picksIn s k))) (timeOf s + 1)))
     go (suc r) h = (refl, refl)
 
 -- With 0 or 1 it makes the step.
 pub done-makes-the-step : DoneMakesTheStep
-done-makes-the-step s k buffer place h = rw (slot-done s k buffer place (done-is-not-refused s k buffer place h)) (refl, refl)
+done-makes-the-step s k buffer place h = slot-done s k buffer place (done-is-not-refused s k buffer place h)
 
 -- a state has as many places for quanta as its list
 as-many-places : (s : State) → length (quantaIn s) ≡ length (s .quanta)
@@ -155,7 +155,7 @@ as-many-places s = length-map (s .quanta) (λ q. q .0)
 -- What a slot gives, with k cores free.
 module _ (s : State) (k : ℕ) where
   -- The places stay.
-  pub places-stay : length (stepped s k .quanta) ≡ length (s .quanta)
+  pub places-stay : length (stepped s (picksIn s k) .quanta) ≡ length (s .quanta)
   places-stay =
       length-map (given (names (picksIn s k)) 0 (quantaIn s)) (λ q. record { 0 = q })
       ∙ (how-many-given (names (picksIn s k)) 0 (quantaIn s) ∙ as-many-places s)
@@ -168,42 +168,42 @@ module _ (s : State) (k : ℕ) where
       (ltb-true i (length (rowsIn s)) (x .0), picked-is-ready _ _ _ k i (x .1))
 
   -- a row that has a place has one quantum more if it is picked,
-  given-in-place : (i : ℕ) → i < length (s .quanta) → quantaAt (quantaIn (oneOn s k)) i ≡ quantaAt (quantaIn s) i + cond (names (picksIn s k) i) 1 0
+  given-in-place : (i : ℕ) → i < length (s .quanta) → quantaAt (quantaIn (stepped s (picksIn s k))) i ≡ quantaAt (quantaIn s) i + cond (names (picksIn s k) i) 1 0
   given-in-place i l =
       ap (λ l. quantaAt l i) (as-counted (given (names (picksIn s k)) 0 (quantaIn s)))
       ∙ (given-at (names (picksIn s k)) 0 (quantaIn s) i (omega (arith, as-many-places s))
       ∙ ap (λ j. quantaAt (quantaIn s) i + cond (names (picksIn s k) j) 1 0) {x = 0 + i} {y = i} (omega arith))
 
   -- and one that has none has no quanta, as before
-  none-past-places : (i : ℕ) → length (s .quanta) ≤ i → quantaAt (quantaIn (oneOn s k)) i ≡ quantaAt (quantaIn s) i
+  none-past-places : (i : ℕ) → length (s .quanta) ≤ i → quantaAt (quantaIn (stepped s (picksIn s k))) i ≡ quantaAt (quantaIn s) i
   none-past-places i l =
-      List·getD-eq-default (quantaIn (oneOn s k)) 0 {n = i} (omega (arith, as-many-places (oneOn s k), places-stay))
+      List·getD-eq-default (quantaIn (stepped s (picksIn s k))) 0 {n = i} (omega (arith, as-many-places (stepped s (picksIn s k)), places-stay))
       ∙ sym (List·getD-eq-default (quantaIn s) 0 {n = i} (omega (arith, as-many-places s)))
 
   -- Each row has one quantum more if it is picked, in a whole state with places for 32 rows,
-  pub quanta-after : Whole s → length (s .quanta) ≡ rowLimit → (i : ℕ) → quantaAt (quantaIn (oneOn s k)) i ≡ quantaAt (quantaIn s) i + cond (names (picksIn s k) i) 1 0
+  pub quanta-after : Whole s → length (s .quanta) ≡ rowLimit → (i : ℕ) → quantaAt (quantaIn (stepped s (picksIn s k))) i ≡ quantaAt (quantaIn s) i + cond (names (picksIn s k) i) 1 0
   quanta-after whole long i = go (decLt i rowLimit) (names (picksIn s k) i) refl
     where
-      go : Dec (i < rowLimit) → (t : Bool) → names (picksIn s k) i ≡ t → quantaAt (quantaIn (oneOn s k)) i ≡ quantaAt (quantaIn s) i + cond (names (picksIn s k) i) 1 0
+      go : Dec (i < rowLimit) → (t : Bool) → names (picksIn s k) i ≡ t → quantaAt (quantaIn (stepped s (picksIn s k))) i ≡ quantaAt (quantaIn s) i + cond (names (picksIn s k) i) 1 0
       go (yes l) t e = given-in-place i (omega (arith, long))
       go (no l) true e = absurd (omega (arith, named-is-ready i e .0, rows-have-places (s .table) (whole .table)))
       go (no l) false e = none-past-places i (omega (arith, long)) ∙ rw e (omega arith)
 
   -- and in any state it has one more and is picked, or as many as before.
   pub one-more-or-same : (i : ℕ) →
-      ((names (picksIn s k) i ≡ true) × (quantaAt (quantaIn (oneOn s k)) i ≡ quantaAt (quantaIn s) i + 1))
-      ⊎ (quantaAt (quantaIn (oneOn s k)) i ≡ quantaAt (quantaIn s) i)
+      ((names (picksIn s k) i ≡ true) × (quantaAt (quantaIn (stepped s (picksIn s k))) i ≡ quantaAt (quantaIn s) i + 1))
+      ⊎ (quantaAt (quantaIn (stepped s (picksIn s k))) i ≡ quantaAt (quantaIn s) i)
   one-more-or-same i = go (decLt i (length (s .quanta))) (names (picksIn s k) i) refl
     where
       go : Dec (i < length (s .quanta)) → (t : Bool) → names (picksIn s k) i ≡ t →
-          ((names (picksIn s k) i ≡ true) × (quantaAt (quantaIn (oneOn s k)) i ≡ quantaAt (quantaIn s) i + 1))
-          ⊎ (quantaAt (quantaIn (oneOn s k)) i ≡ quantaAt (quantaIn s) i)
+          ((names (picksIn s k) i ≡ true) × (quantaAt (quantaIn (stepped s (picksIn s k))) i ≡ quantaAt (quantaIn s) i + 1))
+          ⊎ (quantaAt (quantaIn (stepped s (picksIn s k))) i ≡ quantaAt (quantaIn s) i)
       go (yes l) true e = inl (e, given-in-place i l ∙ rw e)
       go (yes l) false e = inr (given-in-place i l ∙ rw e (omega arith))
       go (no l) t e = inr (none-past-places i (omega arith))
 
   -- All upper limits hold after it: a row that is picked was ready, and a row that is not picked only waits.
-  uppers-hold : Whole s → s .stopped ≡ false → UppersHold (oneOn s k)
+  uppers-hold : Whole s → s .stopped ≡ false → UppersHold (stepped s (picksIn s k))
   uppers-hold whole runs i l = go (one-more-or-same i)
     where
       row : Row
@@ -215,56 +215,56 @@ module _ (s : State) (k : ℕ) where
       can : CanBe row
       can = row-can-be (s .table) (whole .table) i l
 
-      go : ((names (picksIn s k) i ≡ true) × (quantaAt (quantaIn (oneOn s k)) i ≡ q + 1)) ⊎ (quantaAt (quantaIn (oneOn s k)) i ≡ q) →
-          upper row (quantaAt (quantaIn (oneOn s k)) i) (timeOf s + 1) ≡ true
+      go : ((names (picksIn s k) i ≡ true) × (quantaAt (quantaIn (stepped s (picksIn s k))) i ≡ q + 1)) ⊎ (quantaAt (quantaIn (stepped s (picksIn s k))) i ≡ q) →
+          upper row (quantaAt (quantaIn (stepped s (picksIn s k))) i) (timeOf s + 1) ≡ true
       go (inl more) = rw (more .1) (upper-after-quantum-means-ready row can q (timeOf s) ∙ named-is-ready i (more .0) .1)
       go (inr same) = rw same (upper-kept-when-idle row can q (timeOf s) (both (lower row q (timeOf s)) _ (whole .shares runs i l) .1))
 
   -- No row then has more quanta than the time.
-  quanta-within : Whole s → (i : ℕ) → i < length (rowsIn s) → quantaAt (quantaIn (oneOn s k)) i ≤ timeOf s + 1
+  quanta-within : Whole s → (i : ℕ) → i < length (rowsIn s) → quantaAt (quantaIn (stepped s (picksIn s k))) i ≤ timeOf s + 1
   quanta-within whole i l = ⊎-elim (λ more. omega (arith, more .1, whole .quanta i l)) (λ same. omega (arith, same, whole .quanta i l)) (one-more-or-same i)
 
 -- A state in which all upper limits hold is judged: if a row is late it is named and the state stops, and else every row is within its share.
 module _ (x : State) (table : faultOf (x .table) ≡ 0) (time : timeOf x ≤ timeLimit) (quanta : (i : ℕ) → i < length (rowsIn x) → quantaAt (quantaIn x) i ≤ timeOf x) (uppers : UppersHold x) where
   -- it is not broken,
-  judged-whole : Whole (judged x)
+  judged-whole : Whole (stoppedBy (lateIn x) x)
   judged-whole =
       record {
         table = table;
         time = time;
         quanta = quanta;
         shares = λ runs i l.
-            let none = each-fails (ofRow x (lateAt (timeOf x))) (length (rowsIn x)) runs i l in
+            let none = each-fails (ofRow x (lateAt (timeOf x))) (length (rowsIn x)) (sym (some-listed _ _) ∙ runs) i l in
             let low = late-means-below (rowAt (rowsIn x) i) (row-can-be (x .table) table i l) (quantaAt (quantaIn x) i) (timeOf x) in
             hold-both (not-false (lower (rowAt (rowsIn x) i) (quantaAt (quantaIn x) i) (timeOf x)) (sym low ∙ none)) (uppers i l);
       }
 
   -- and what is said of it is so: by the lowest late row, if there is one
-  judged-after : After (judged x) (doneSaid (lateIn x (timeOf x)) (timeOf x))
+  judged-after : After (stoppedBy (lateIn x) x) (doneSaid (lateIn x) (timeOf x))
   judged-after = let lowest = a-lowest isLate (length (rowsIn x)) in go (lowest .0) (lowest .1) (decLt (lowest .0) (length (rowsIn x)))
     where
       isLate : ℕ → Bool
       isLate = ofRow x (lateAt (timeOf x))
 
-      go : (i : ℕ) → Lowest isLate (length (rowsIn x)) i → Dec (i < length (rowsIn x)) → After (judged x) (doneSaid (lateIn x (timeOf x)) (timeOf x))
+      go : (i : ℕ) → Lowest isLate (length (rowsIn x)) i → Dec (i < length (rowsIn x)) → After (stoppedBy (lateIn x) x) (doneSaid (lateIn x) (timeOf x))
       go i low (yes l) =
-          rw (lowest-is-first isLate (length (rowsIn x)) i low l .1)
+          subst (λ late. After (stoppedBy (lateIn x) x) (doneSaid late (timeOf x))) (sym (lowest-is-first isLate (length (rowsIn x)) i low l .1))
           record {
-            whole = is-not-broken (judged x) judged-whole;
+            whole = is-not-broken (stoppedBy (lateIn x) x) judged-whole;
             uppers = uppers;
             runs-on = λ e. absurd (omega arith);
-            stops = λ e. some-if isLate (length (rowsIn x)) i l (low .passes l);
+            stops = λ e. some-listed isLate _ ∙ some-if isLate (length (rowsIn x)) i l (low .passes l);
             names-time = λ e. refl;
             is-row = λ e. l;
             names-row = λ e. low;
           }
       go i low (no l) =
           let none : (j : ℕ) → j < length (rowsIn x) → isLate j ≡ false = λ j m. low .none-before j (omega arith) in
-          rw (none-is-listed isLate (length (rowsIn x)) none)
+          subst (λ late. After (stoppedBy (lateIn x) x) (doneSaid late (timeOf x))) (sym (none-is-listed isLate (length (rowsIn x)) none))
           record {
-            whole = is-not-broken (judged x) judged-whole;
+            whole = is-not-broken (stoppedBy (lateIn x) x) judged-whole;
             uppers = uppers;
-            runs-on = λ e. none-if isLate (length (rowsIn x)) none;
+            runs-on = λ e. some-listed isLate _ ∙ none-if isLate (length (rowsIn x)) none;
             stops = λ e. absurd (omega arith);
             names-time = λ e. absurd (omega arith);
             is-row = λ e. absurd (omega arith);
@@ -279,7 +279,7 @@ done-keeps-whole s k buffer place h =
     let can = goes s k buffer place done in
     let whole = is-whole s (can .whole) in
     rw (slot-done s k buffer place done)
-    (judged-after (oneOn s k) (whole .table) (omega (arith, can .time)) (quanta-within s k whole) (uppers-hold s k whole (can .runs)))
+    (judged-after (stepped s (picksIn s k)) (whole .table) (omega (arith, can .time)) (quanta-within s k whole) (uppers-hold s k whole (can .runs)))
 
 -- a state that is stopped and not broken answers 31
 stopped-answers : (s : State) (k : ℕ) (buffer : List ℕ) (place : ℕ) → broken s ≡ false → s .stopped ≡ true → slotOf s k buffer place .said .number ≡ 31

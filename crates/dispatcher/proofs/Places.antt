@@ -27,7 +27,7 @@ use Rattle.dispatcher.specs.declared.State.{State}
 use Rattle.dispatcher.specs.State.{rowsIn, quantaIn, timeOf}
 use Rattle.dispatcher.specs.Broken.{ofRow, someRow, exceeds, outsideShare, broken}
 use Rattle.dispatcher.specs.Answer.{doneSaid}
-use Rattle.dispatcher.specs.Slot.{picksIn, lateAt, lateIn, oneOn, stepped, slotTests, refusal, slotBy, slotOf}
+use Rattle.dispatcher.specs.Slot.{picksIn, lateAt, lateIn, stepped, slotTests, refusal, doneReply, slotBy, slotOf}
 use Rattle.dispatcher.specs.Places.{SlotNumbers, BareUnlessLate, AtMostOneQuantum, PastIsReturned, AlikeBelow, SameAnswer, PastIsIgnored}
 use Rattle.dispatcher.proofs.Ran.{as-counted}
 use Rattle.dispatcher.proofs.Kept.{done-number, named-is-ready, one-more-or-same}
@@ -47,7 +47,7 @@ slot-numbers s k buffer place = go (refusal s k buffer place) (met-in-range 30 3
     go : (r : ℕ) → (r ≡ 0) ⊎ ((30 ≤ r) × (r ≤ 34)) →
         let number = slotBy r s k buffer place .said .number in
         (number < 2) ⊎ ((30 ≤ number) × (number ≤ 34))
-    go zero known = inl (done-number (lateIn (oneOn s k) (timeOf s + 1)) (timeOf s + 1))
+    go zero known = inl (done-number (lateIn (stepped s (picksIn s k))) (timeOf s + 1))
     go (suc r) (inl none) = absurd (omega arith)
     go (suc r) (inr range) = inr range
 
@@ -61,15 +61,15 @@ bare-unless-late s k buffer place = go (refusal s k buffer place)
     done (lowest ∷ others) time other = absurd (other refl)
 
     go : (r : ℕ) → (slotBy r s k buffer place .said .number ≡ 1 → ⊥) → slotBy r s k buffer place .said ≡ bare (slotBy r s k buffer place .said .number)
-    go zero other = done (lateIn (oneOn s k) (timeOf s + 1)) (timeOf s + 1) other
+    go zero other = done (lateIn (stepped s (picksIn s k))) (timeOf s + 1) other
     go (suc r) other = refl
 
 -- a slot makes the step or leaves the state as it was
-steps-or-stays : (s : State) (k : ℕ) (buffer : List ℕ) (place : ℕ) → (slotOf s k buffer place .state ≡ stepped s k) ⊎ (slotOf s k buffer place .state ≡ s)
+steps-or-stays : (s : State) (k : ℕ) (buffer : List ℕ) (place : ℕ) → (slotOf s k buffer place .state ≡ doneReply s k buffer place .state) ⊎ (slotOf s k buffer place .state ≡ s)
 unfolding slotOf
 steps-or-stays s k buffer place = go (refusal s k buffer place)
   where
-    go : (r : ℕ) → (slotBy r s k buffer place .state ≡ stepped s k) ⊎ (slotBy r s k buffer place .state ≡ s)
+    go : (r : ℕ) → (slotBy r s k buffer place .state ≡ doneReply s k buffer place .state) ⊎ (slotBy r s k buffer place .state ≡ s)
     go zero = inl refl
     go (suc r) = inr refl
 
@@ -86,7 +86,7 @@ pub past-is-returned : PastIsReturned
 past-is-returned s k buffer place =
     ⊎-elim (λ steps. rw steps (refl, unpicked)) (λ stays. rw stays (refl, λ i l. refl)) (steps-or-stays s k buffer place)
   where
-    unpicked : (i : ℕ) → length (rowsIn s) ≤ i → quantaAt (quantaIn (stepped s k)) i ≡ quantaAt (quantaIn s) i
+    unpicked : (i : ℕ) → length (rowsIn s) ≤ i → quantaAt (quantaIn (stepped s (picksIn s k))) i ≡ quantaAt (quantaIn s) i
     unpicked i l = ⊎-elim (λ more. absurd (omega (arith, named-is-ready s k i (more .0) .0))) (λ same. same) (one-more-or-same s k i)
 
 -- Quanta that agree on the rows
@@ -135,10 +135,10 @@ module _ (s s′ : State) (alike : AlikeBelow s s′) where
       ap (ltb 0) (same-count (ofRow s is) (ofRow s′ is) (length (rowsIn s)) (row-alike is)) ∙ ap (λ rows. some (ofRow s′ is) (length rows)) (alike .rows)
 
   -- and are late in the same rows;
-  late-alike : (time : ℕ) → lateIn s time ≡ lateIn s′ time
-  late-alike time =
-      same-list (ofRow s (lateAt time)) (ofRow s′ (lateAt time)) (length (rowsIn s)) (row-alike (lateAt time))
-      ∙ ap (λ rows. those (ofRow s′ (lateAt time)) (length rows)) (alike .rows)
+  late-alike : lateIn s ≡ lateIn s′
+  late-alike =
+      same-list (ofRow s (lateAt (timeOf s))) (ofRow s′ (lateAt (timeOf s))) (length (rowsIn s)) (row-alike (lateAt (timeOf s)))
+      ∙ ap₂ (λ rows t. those (ofRow s′ (lateAt t)) (length rows)) (alike .rows) (alike .time)
 
   -- both are broken or neither is,
   broken-alike : broken s ≡ broken s′
@@ -153,7 +153,7 @@ module _ (s s′ : State) (alike : AlikeBelow s s′) where
         ∙ ap₂ (λ rows t. pd2Picks rows (quantaIn s′) t k) (alike .rows) (alike .time)
 
     -- and after them the states are still alike.
-    alike-after : AlikeBelow (oneOn s k) (oneOn s′ k)
+    alike-after : AlikeBelow (stepped s (picksIn s k)) (stepped s′ (picksIn s′ k))
     alike-after =
         record {
           cycle = alike .cycle;
@@ -169,7 +169,7 @@ module _ (s s′ : State) (alike : AlikeBelow s s′) where
         n : ℕ
         n = length (rowsIn s)
 
-        front : (x : State) → take n (quantaIn (oneOn x k)) ≡ given (names (picksIn x k)) 0 (take n (quantaIn x))
+        front : (x : State) → take n (quantaIn (stepped x (picksIn x k))) ≡ given (names (picksIn x k)) 0 (take n (quantaIn x))
         front x = ap (take n) (as-counted (given (names (picksIn x k)) 0 (quantaIn x))) ∙ given-in-front (names (picksIn x k)) n 0 (quantaIn x)
 
     -- The same cause is met first.
@@ -182,15 +182,14 @@ pub past-is-ignored : PastIsIgnored
 unfolding slotOf
 past-is-ignored s s′ k buffer place alike = rw (refusal-alike s s′ alike k buffer place) (go (refusal s′ k buffer place))
   where
-    next : timeOf s + 1 ≡ timeOf s′ + 1
-    next = ap (λ t. t + 1) (alike .time)
+    after : AlikeBelow (stepped s (picksIn s k)) (stepped s′ (picksIn s′ k))
+    after = alike-after s s′ alike k
 
-    stopped-alike : someRow (oneOn s k) (lateAt (timeOf s + 1)) ≡ someRow (oneOn s′ k) (lateAt (timeOf s′ + 1))
-    stopped-alike = some-alike (oneOn s k) (oneOn s′ k) (alike-after s s′ alike k) (lateAt (timeOf s + 1)) ∙ ap (λ t. someRow (oneOn s′ k) (lateAt t)) next
+    same-late : lateIn (stepped s (picksIn s k)) ≡ lateIn (stepped s′ (picksIn s′ k))
+    same-late = late-alike (stepped s (picksIn s k)) (stepped s′ (picksIn s′ k)) after
 
-    stepped-alike : AlikeBelow (stepped s k) (stepped s′ k)
-    stepped-alike =
-        let after = alike-after s s′ alike k in
+    judged-alike : AlikeBelow (doneReply s k buffer place .state) (doneReply s′ k buffer place .state)
+    judged-alike =
         record {
           cycle = after .cycle;
           cores = after .cores;
@@ -198,15 +197,15 @@ past-is-ignored s s′ k buffer place alike = rw (refusal-alike s s′ alike k b
           row-count = after .row-count;
           rows = after .rows;
           time = after .time;
-          stopped = stopped-alike;
+          stopped = ap (λ late. ltb 0 (length late)) same-late;
           quanta = after .quanta;
         }
 
     go : (r : ℕ) → SameAnswer (slotBy r s k buffer place) (slotBy r s′ k buffer place)
     go zero =
         record {
-          said = ap₂ doneSaid (late-alike (oneOn s k) (oneOn s′ k) (alike-after s s′ alike k) (timeOf s + 1) ∙ ap (lateIn (oneOn s′ k)) next) next;
+          said = ap₂ doneSaid same-late (after .time);
           bytes = ap (λ picks. withRecord buffer place (recordOf k picks)) (picks-alike s s′ alike k);
-          state = stepped-alike;
+          state = judged-alike;
         }
     go (suc r) = record { said = refl; bytes = refl; state = alike }

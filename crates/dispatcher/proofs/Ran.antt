@@ -12,7 +12,7 @@ use lib.ListN.{length, getD, length-map, List·getD-map, List·getD-eq-default}
 use lib.Seq.{ext-getD}
 use Rattle.facts.specs.First.{Lowest}
 use Rattle.facts.proofs.First.{same-lowest}
-use Rattle.facts.proofs.Counting.{some-if, none-if, lowest-is-first, none-is-listed}
+use Rattle.facts.proofs.Counting.{some-listed, some-if, none-if, lowest-is-first, none-is-listed}
 use Rattle.counts.specs.declared.Quanta.{Quanta}
 use Rattle.counts.specs.Limits.{timeLimit, kept, most}
 use Rattle.pd2.specs.Choice.{quantaAt, given}
@@ -25,7 +25,7 @@ use Rattle.dispatcher.specs.State.{rowsIn, quantaIn, timeOf, counted}
 use Rattle.dispatcher.specs.Broken.{ofRow, someRow}
 use Rattle.trace.specs.Said.{bare, named}
 use Rattle.dispatcher.specs.Answer.{doneSaid}
-use Rattle.dispatcher.specs.Slot.{picksIn, lateAt, lateIn, ran}
+use Rattle.dispatcher.specs.Slot.{picksIn, lateAt, lateIn, stepped}
 use Rattle.table.specs.Causes.{zeroRow}
 use Rattle.pd2.specs.Rows.{quantaOf, GaveMarked, isLate}
 use Rattle.dispatcher.specs.Usable.{UsableState, CanRun}
@@ -75,28 +75,28 @@ as-counted [] = refl
 as-counted (q ∷ l) = ap (λ rest. q ∷ rest) (as-counted l)
 
 -- If only its rows are given to, a usable state stays usable as long as the time is below its limit.
-pub stays-usable : (s : State) (isPicked : ℕ → Bool) → UsableState s → timeOf s < timeLimit → UsableState (ran s isPicked)
-stays-usable s isPicked u slot-left =
+pub stays-usable : (s : State) (rows : List ℕ) → UsableState s → timeOf s < timeLimit → UsableState (stepped s rows)
+stays-usable s rows u slot-left =
     record {
       place = record { few = u .place .few; all = u .place .all; long = same-long ∙ u .place .long };
       each = λ i l. let row = u .each i l in record { cost = row .cost; weight = row .weight; quanta = few i l; time = omega arith };
     }
   where
-    same-long : length (ran s isPicked .quanta) ≡ length (s .quanta)
+    same-long : length (stepped s rows .quanta) ≡ length (s .quanta)
     same-long =
-        length-map (given isPicked 0 (quantaIn s)) (λ q. record { 0 = q })
-        ∙ (how-many-given isPicked 0 (quantaIn s) ∙ length-map (s .quanta) (λ q. q .0))
+        length-map (given (names rows) 0 (quantaIn s)) (λ q. record { 0 = q })
+        ∙ (how-many-given (names rows) 0 (quantaIn s) ∙ length-map (s .quanta) (λ q. q .0))
 
     one-at-most : (b : Bool) → cond b 1 0 ≤ 1
     one-at-most true = omega arith
     one-at-most false = omega arith
 
-    few : (i : ℕ) → i < length (rowsIn s) → quantaAt (quantaIn (ran s isPicked)) i ≤ timeOf s + 1
+    few : (i : ℕ) → i < length (rowsIn s) → quantaAt (quantaIn (stepped s rows)) i ≤ timeOf s + 1
     few i l =
         let place = u .place in
         let there : i < length (quantaIn s) = omega (arith, length-map (s .quanta) (λ q. q .0), place .few, place .all, place .long) in
-        rw (as-counted (given isPicked 0 (quantaIn s)), given-at isPicked 0 (quantaIn s) i there)
-        (omega (arith, u .each i l .quanta, one-at-most (isPicked (0 + i))))
+        rw (as-counted (given (names rows) 0 (quantaIn s)), given-at (names rows) 0 (quantaIn s) i there)
+        (omega (arith, u .each i l .quanta, one-at-most (names rows (0 + i))))
 
 -- Marks that say what PD2 picks mark only rows of the state.
 pub marks-are-rows : (s : State) (k : ℕ) (marks : List Bool) → marked marks ≡ picksIn s k → (i : ℕ) → getD marks i false ≡ true → i < length (rowsIn s)
@@ -127,14 +127,14 @@ lowest-of-state s u {i} low =
 
 -- The lowest late row is named, and the state is stopped; where none is late the slot is done, and the state runs on.
 pub by-lowest : (s : State) {i : ℕ} → Lowest (ofRow s (lateAt (timeOf s))) (length (rowsIn s)) i → {n : ℕ} → n ≡ length (rowsIn s) →
-    (cond (ltb i n) (named 1 i (timeOf s)) (bare 0) ≡ doneSaid (lateIn s (timeOf s)) (timeOf s)) × (ltb i n ≡ someRow s (lateAt (timeOf s)))
+    (cond (ltb i n) (named 1 i (timeOf s)) (bare 0) ≡ doneSaid (lateIn s) (timeOf s)) × (ltb i n ≡ ltb 0 (length (lateIn s)))
 by-lowest s {i} low {n} all = go (decLt i n)
   where
-    go : Dec (i < n) → (cond (ltb i n) (named 1 i (timeOf s)) (bare 0) ≡ doneSaid (lateIn s (timeOf s)) (timeOf s)) × (ltb i n ≡ someRow s (lateAt (timeOf s)))
+    go : Dec (i < n) → (cond (ltb i n) (named 1 i (timeOf s)) (bare 0) ≡ doneSaid (lateIn s) (timeOf s)) × (ltb i n ≡ ltb 0 (length (lateIn s)))
     go (yes l) =
         let there : i < length (rowsIn s) = omega arith in
         let first = lowest-is-first _ _ i low there in
-        rw (lt-ltb i n l) (sym (ap (λ rows. doneSaid rows (timeOf s)) (first .1)), sym (some-if _ _ i there (low .passes there)))
+        rw (lt-ltb i n l) (sym (ap (λ rows. doneSaid rows (timeOf s)) (first .1)), sym (some-listed _ _ ∙ some-if _ _ i there (low .passes there)))
     go (no l) =
         let none : (j : ℕ) → j < length (rowsIn s) → ofRow s (lateAt (timeOf s)) j ≡ false = λ j m. low .none-before j (omega arith) in
-        rw (le-ltb i n (omega arith)) (sym (ap (λ rows. doneSaid rows (timeOf s)) (none-is-listed _ _ none)), sym (none-if _ _ none))
+        rw (le-ltb i n (omega arith)) (sym (ap (λ rows. doneSaid rows (timeOf s)) (none-is-listed _ _ none)), sym (some-listed _ _ ∙ none-if _ _ none))

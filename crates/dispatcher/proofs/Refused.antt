@@ -20,8 +20,8 @@ use Rattle.dispatcher.specs.declared.Outcome.{Outcome}
 use Rattle.dispatcher.specs.State.{timeOf}
 use Rattle.dispatcher.specs.Broken.{broken}
 use Rattle.trace.specs.Said.{bare}
-use Rattle.dispatcher.specs.Answer.{saidOf, doneSaid}
-use Rattle.dispatcher.specs.Slot.{picksIn, recordIn, lateIn, lacksRoom, oneOn, stepped, refusal, slotOf}
+use Rattle.dispatcher.specs.Answer.{saidOf}
+use Rattle.dispatcher.specs.Slot.{picksIn, recordIn, lacksRoom, refusal, doneReply, slotOf}
 use Rattle.dispatcher.specs.Usable.{Admitted, CauseIs}
 
 -- Whether a record of c rows has room: the two tests of 01 are one.
@@ -53,8 +53,8 @@ module _ (s : State) (k : ℕ) (buffer : List ℕ) (place : ℕ) where
       go (suc number) e = rw e (ap saidOf (out .0) ∙ (said ∙ ap bare e), (out .1, same))
 
   -- A slot that is not refused gives what the definition says.
-  pub done-gives : refusal s k buffer place ≡ 0 → (r : Outcome) → saidOf (r .answer) ≡ doneSaid (lateIn (oneOn s k) (timeOf s + 1)) (timeOf s + 1) →
-      r .state ≡ stepped s k → {bytes : List ℕ} → bytes ≡ withRecord buffer place (recordIn s k) → Gives r bytes
+  pub done-gives : refusal s k buffer place ≡ 0 → (r : Outcome) → saidOf (r .answer) ≡ doneReply s k buffer place .said →
+      r .state ≡ doneReply s k buffer place .state → {bytes : List ℕ} → bytes ≡ withRecord buffer place (recordIn s k) → Gives r bytes
   unfolding slotOf
   done-gives e r said state bytes = rw e (said, (state, bytes))
 

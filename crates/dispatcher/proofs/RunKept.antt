@@ -24,7 +24,7 @@ use Rattle.trace.proofs.Records.{next-place, named-once-more}
 use Rattle.dispatcher.specs.declared.State.{State}
 use Rattle.dispatcher.specs.State.{rowsIn, quantaIn, timeOf}
 use Rattle.dispatcher.specs.Broken.{broken}
-use Rattle.dispatcher.specs.Slot.{picksIn, recordIn, stepped, slotOf}
+use Rattle.dispatcher.specs.Slot.{picksIn, recordIn, doneReply, slotOf}
 use Rattle.dispatcher.specs.Kept.{After}
 use Rattle.dispatcher.specs.Run.{Run, placeBy, runWith, oneMore, run}
 use Rattle.dispatcher.specs.RunKept.{quantaNow, Owed, runFor, KeepsShares, LateWhenOwed, FirstLate, FirstLateIsOwed, QuantaAreRecords, RecordsStandInTurn}
@@ -84,7 +84,7 @@ record Stands (from : ℕ) (s : State) (b : List ℕ) (next : ℕ) : Type 0 wher
 
 -- one record more
 stands-after : (from : ℕ) (s : State) (b : List ℕ) (next k : ℕ) → Stands from s b next → Whole s → next ≤ length b →
-    Stands from (stepped s k) (withRecord b next (recordIn s k)) (next + length (recordIn s k))
+    Stands from (doneReply s k b next .state) (doneReply s k b next .bytes) (next + length (recordIn s k))
 stands-after from s b next k so whole room =
     let inside : placeOf b from (timeOf s) ≤ length b = rw (← so .place) room in
     record {
@@ -117,7 +117,7 @@ stands-on from s b next k so = go (decLt (slotOf s k b next .said .number) 2)
     go (yes h) =
         let step = done-makes-the-step s k b next h in
         let can = goes s k b next (done-is-not-refused s k b next h) in
-        rw (step .0, step .1, place-behind _ next (recordIn s k) h) (stands-after from s b next k so (is-whole s (can .whole)) (omega (arith, can .room)))
+        rw (place-behind _ next (recordIn s k) h, step) (stands-after from s b next k so (is-whole s (can .whole)) (omega (arith, can .room)))
     go (no h) =
         let refused : 1 < slotOf s k b next .said .number = omega arith in
         let same = refusal-changes-nothing s k b next refused in
@@ -149,12 +149,12 @@ module _ (table : Table) (free : ℕ → ℕ) (buffer : List ℕ) (place : ℕ) 
       let r = runFor table free buffer place m in
       let next = next-run m e in
       let done : slotOf (r .state) (free m) (r .bytes) (r .place) .said .number < 2 = rw next at h in
-      let step = done-makes-the-step (r .state) (free m) (r .bytes) (r .place) done .0 in
+      let step = done-makes-the-step (r .state) (free m) (r .bytes) (r .place) done in
       rw next (
         done-keeps-whole (r .state) (free m) (r .bytes) (r .place) done,
-        ap (λ s. s .table) step ∙ g .same,
-        ap timeOf step ∙ ap (λ t. t + 1) (g .clock),
-        ap (λ s. length (s .quanta)) step ∙ (places-stay (r .state) (free m) ∙ g .long),
+        ap (λ x. x .state .table) step ∙ g .same,
+        ap (λ x. timeOf (x .state)) step ∙ ap (λ t. t + 1) (g .clock),
+        ap (λ x. length (x .state .quanta)) step ∙ (places-stay (r .state) (free m) ∙ g .long),
       )
 
   -- While every answer is 0 the run goes on.

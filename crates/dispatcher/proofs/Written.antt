@@ -121,7 +121,7 @@ module _ (table : Table) (free : ℕ → ℕ) (buffer : List ℕ) (place : ℕ) 
       let done : slotOf (r .state) (free m) (r .bytes) (r .place) .said .number < 2 = rw on at h in
       record {
         goes = goes (r .state) (free m) (r .bytes) (r .place) (done-is-not-refused (r .state) (free m) (r .bytes) (r .place) done);
-        bytes = ap (λ x. x .bytes) on ∙ done-makes-the-step (r .state) (free m) (r .bytes) (r .place) done .1;
+        bytes = ap (λ x. x .bytes) on ∙ ap (λ x. x .bytes) (done-makes-the-step (r .state) (free m) (r .bytes) (r .place) done);
         next = ap (λ x. x .place) on ∙ place-behind _ (r .place) (recordIn (r .state) (free m)) done;
       }
 

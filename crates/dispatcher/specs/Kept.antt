@@ -10,12 +10,11 @@ use Rattle.facts.specs.Faults.{FirstMet}
 use Rattle.table.specs.declared.Table.{Table}
 use Rattle.table.specs.Value.{faultOf}
 use Rattle.pd2.specs.Share.{upper}
-use Rattle.trace.specs.Record.{withRecord}
 use Rattle.dispatcher.specs.declared.State.{State}
 use Rattle.dispatcher.specs.State.{rowsIn, timeOf, freshOf}
 use Rattle.dispatcher.specs.Broken.{ofRow, broken}
 use Rattle.trace.specs.Said.{Said, bare}
-use Rattle.dispatcher.specs.Slot.{recordIn, lateAt, stepped, slotTests, slotOf}
+use Rattle.dispatcher.specs.Slot.{lateAt, slotTests, doneReply, slotOf}
 
 -- Each number 30 to 34 is answered exactly when its cause is the first met.
 abbrev pub RefusalsAreFirstCauses : Type 0
@@ -29,11 +28,11 @@ RefusalChangesNothing =
     (s : State) (k : ℕ) (buffer : List ℕ) (place : ℕ) → 1 < slotOf s k buffer place .said .number →
     (slotOf s k buffer place .state ≡ s) × (slotOf s k buffer place .bytes ≡ buffer)
 
--- D1: with 0 and 1 the record of the rows that PD2 picks stands in the buffer, and the state has made the step.
+-- With 0 and 1 the record of the rows that PD2 picks stands in the buffer, and the state has made the step.
 abbrev pub DoneMakesTheStep : Type 0
 DoneMakesTheStep =
     (s : State) (k : ℕ) (buffer : List ℕ) (place : ℕ) → slotOf s k buffer place .said .number < 2 →
-    (slotOf s k buffer place .state ≡ stepped s k) × (slotOf s k buffer place .bytes ≡ withRecord buffer place (recordIn s k))
+    slotOf s k buffer place ≡ doneReply s k buffer place
 
 -- All rows are within their upper limits.
 abbrev pub UppersHold : State → Type 0

@@ -2,6 +2,7 @@
 use Prim.Native.Nat.{ℕ, zero, suc, _+_}
 use mathlib.Core.List.{List}
 use lib.ListN.{length}
+use Rattle.facts.specs.Zero.{if0, if01}
 use Rattle.table.specs.declared.Table.{Table}
 use Rattle.dispatcher.specs.declared.State.{State}
 use Rattle.dispatcher.specs.State.{freshOf}
@@ -17,17 +18,16 @@ pub record Run : Type 0 where
 
 -- The place goes behind the record of a slot that was done (0 or 1).
 abbrev pub placeBy : ℕ → ℕ → List ℕ → ℕ
-placeBy zero place entry = place + length entry
-placeBy (suc zero) place entry = place + length entry
-placeBy (suc (suc number)) place entry = place
+placeBy number place entry = if01 number (place + length entry) (place + length entry) place
 
 abbrev pub runWith : SlotReply → Run → List ℕ → Run
 runWith g r entry = record { said = g .said; state = g .state; bytes = g .bytes; place = placeBy (g .said .number) (r .place) entry }
 
 -- A slot more, with k cores free, if the number of the last answer is 0.
 abbrev pub oneMore : ℕ → Run → ℕ → Run
-oneMore zero r k = runWith (slotOf (r .state) k (r .bytes) (r .place)) r (recordIn (r .state) k)
-oneMore (suc number) r k = r
+oneMore number r k =
+    let next = runWith (slotOf (r .state) k (r .bytes) (r .place)) r (recordIn (r .state) k) in
+    if0 number next r
 
 -- A run of at most m slots, with `free s` cores in slot s, from the given place in the buffer on.
 unfoldable pub run : Table → (ℕ → ℕ) → List ℕ → ℕ → ℕ → Run

@@ -1,9 +1,10 @@
 -- One slot (01, "What comes back").
-use Prim.Native.Nat.{ℕ, zero, suc, _+_, _-_}
+use Prim.Native.Nat.{ℕ, _+_, _-_}
 use mathlib.Core.List.{List, [], _∷_}
 use mathlib.Core.Bool.{Bool, _||_}
 use lib.Dec.{ltb, eqb}
 use lib.ListN.{length}
+use Rattle.facts.specs.Zero.{if0}
 use Rattle.facts.specs.Counting.{those}
 use Rattle.facts.specs.Faults.{Test, _⇒_, firstMet}
 use Rattle.counts.specs.Limits.{timeLimit}
@@ -14,7 +15,7 @@ use Rattle.trace.specs.Record.{recordOf, withRecord}
 use Rattle.trace.specs.Records.{names}
 use Rattle.dispatcher.specs.declared.State.{State}
 use Rattle.dispatcher.specs.State.{rowsIn, quantaIn, timeOf, counted}
-use Rattle.dispatcher.specs.Broken.{ofRow, someRow, broken}
+use Rattle.dispatcher.specs.Broken.{ofRow, broken}
 use Rattle.trace.specs.Said.{Said, bare}
 use Rattle.dispatcher.specs.Answer.{doneSaid}
 
@@ -26,33 +27,27 @@ picksIn s k = pd2Picks (rowsIn s) (quantaIn s) (timeOf s) k
 abbrev pub recordIn : State → ℕ → List ℕ
 recordIn s k = recordOf k (picksIn s k)
 
--- the rows that are late at a time
+-- A row is late at a time,
 abbrev pub lateAt : ℕ → Row → ℕ → Bool
 lateAt time row q = late row q time
 
-abbrev pub lateIn : State → ℕ → List ℕ
-lateIn s time = those (ofRow s (lateAt time)) (length (rowsIn s))
+-- and these rows of a state are late at its time, rising.
+abbrev pub lateIn : State → List ℕ
+lateIn s = those (ofRow s (lateAt (timeOf s))) (length (rowsIn s))
 
 -- "time is one higher, each picked row has one quantum more"
-abbrev pub ran : State → (ℕ → Bool) → State
-ran s isPicked =
+abbrev pub stepped : State → List ℕ → State
+stepped s rows =
     record {
       table = s .table;
       time = record { 0 = timeOf s + 1 };
       stopped = s .stopped;
-      quanta = counted (given isPicked 0 (quantaIn s));
+      quanta = counted (given (names rows) 0 (quantaIn s));
     }
 
--- "with 1 the state is also stopped"
-abbrev pub judged : State → State
-judged s = record { table = s .table; time = s .time; stopped = someRow s (lateAt (timeOf s)); quanta = s .quanta }
-
--- One slot's effect, as a step without refusals or limits.
-abbrev pub oneOn : State → ℕ → State
-oneOn s k = ran s (names (picksIn s k))
-
-abbrev pub stepped : State → ℕ → State
-stepped s k = judged (oneOn s k)
+-- "with 1 the state is also stopped": with some late row
+abbrev pub stoppedBy : List ℕ → State → State
+stoppedBy late s = record { table = s .table; time = s .time; stopped = ltb 0 (length late); quanta = s .quanta }
 
 -- "the place is past the buffer's end, or fewer than 2 + c bytes remain after it"
 abbrev pub lacksRoom : List ℕ → ℕ → ℕ → Bool
@@ -77,16 +72,22 @@ pub record SlotReply : Type 0 where
   pub state : State
   pub bytes : List ℕ
 
--- "With 30 to 34 the state returns equal and the buffer is untouched."
--- "With 0 and 1 the record stands at the given place in the lent buffer, every other byte is as before"
-abbrev pub slotBy : ℕ → State → ℕ → List ℕ → ℕ → SlotReply
-slotBy zero s k buffer place =
+-- "With 0 and 1 the record stands at the given place in the lent buffer, every other byte is as before": the rows that are late after the step decide which.
+abbrev pub doneReply : State → ℕ → List ℕ → ℕ → SlotReply
+doneReply s k buffer place =
+    let after = stepped s (picksIn s k) in
+    let late = lateIn after in
     record {
-      said = doneSaid (lateIn (oneOn s k) (timeOf s + 1)) (timeOf s + 1);
-      state = stepped s k;
+      said = doneSaid late (timeOf after);
+      state = stoppedBy late after;
       bytes = withRecord buffer place (recordIn s k);
     }
-slotBy (suc number) s k buffer place = record { said = bare (suc number); state = s; bytes = buffer }
+
+-- "With 30 to 34 the state returns equal and the buffer is untouched."
+abbrev pub slotBy : ℕ → State → ℕ → List ℕ → ℕ → SlotReply
+slotBy number s k buffer place =
+    let done = doneReply s k buffer place in
+    if0 number done (record { said = bare number; state = s; bytes = buffer })
 
 unfoldable pub slotOf : State → ℕ → List ℕ → ℕ → SlotReply
 slotOf s k buffer place = slotBy (refusal s k buffer place) s k buffer place

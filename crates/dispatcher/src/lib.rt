@@ -12,12 +12,11 @@ ghost use lib.Dec.{ltb};
 ghost use lib.ListN.{length};
 ghost use Rattle.facts.specs.First.{Lowest};
 ghost use Rattle.trace.specs.Record.{marked};
-ghost use Rattle.trace.specs.Records.{names};
 ghost use Rattle.trace.specs.Said.{bare, named};
 ghost use Rattle.dispatcher.specs.State.{rowsIn, timeOf, freshOf};
 ghost use Rattle.dispatcher.specs.Broken.{ofRow};
 ghost use Rattle.dispatcher.specs.Answer.{saidOf, doneSaid};
-ghost use Rattle.dispatcher.specs.Slot.{picksIn, lateAt, lateIn, ran, judged, slotOf};
+ghost use Rattle.dispatcher.specs.Slot.{picksIn, lateAt, lateIn, stepped, stoppedBy, slotOf};
 ghost use Rattle.dispatcher.specs.Usable.{UsableState, CanRun, CauseIs};
 
 pub struct State {
@@ -122,8 +121,8 @@ impl State {
     // The slot is over: the marked rows have one quantum more, time is one higher, and lateness is judged.
     fn one_on(self, marks: [bool; 32]) -> Outcome
         requires { ⌜ CanRun self marks ⌝ }
-        ensures { λ r. ⌜ saidOf (r .answer) ≡ doneSaid (lateIn (ran self (names (marked marks))) (timeOf self + 1)) (timeOf self + 1) ⌝ }
-        ensures { λ r. ⌜ r .state ≡ judged (ran self (names (marked marks))) ⌝ }
+        ensures { λ r. ⌜ saidOf (r .answer) ≡ doneSaid (lateIn (stepped self (marked marks))) (timeOf self + 1) ⌝ }
+        ensures { λ r. ⌜ r .state ≡ stoppedBy (lateIn (stepped self (marked marks))) (stepped self (marked marks)) ⌝ }
     {
         self.run(marks).judge()
     }
@@ -131,7 +130,7 @@ impl State {
     // One quantum more for each marked row, and the time one higher.
     fn run(mut self, marks: [bool; 32]) -> State
         requires { ⌜ CanRun self marks ⌝ }
-        ensures { λ r. ⌜ r ≡ ran self (names (marked marks)) ⌝ }
+        ensures { λ r. ⌜ r ≡ stepped self (marked marks) ⌝ }
     {
         let given = self.quanta;
         let quanta = pd2::give(given, marks);
@@ -144,8 +143,8 @@ impl State {
     // Answer 1 and a stopped state if a row is late, else 0.
     fn judge(mut self) -> Outcome
         requires { ⌜ UsableState self ⌝ }
-        ensures { λ r. ⌜ saidOf (r .answer) ≡ doneSaid (lateIn self (timeOf self)) (timeOf self) ⌝ }
-        ensures { λ r. ⌜ r .state ≡ judged self ⌝ }
+        ensures { λ r. ⌜ saidOf (r .answer) ≡ doneSaid (lateIn self) (timeOf self) ⌝ }
+        ensures { λ r. ⌜ r .state ≡ stoppedBy (lateIn self) self ⌝ }
     {
         let late = self.lowest_late();
         let n = self.table.n as usize;

@@ -226,6 +226,10 @@ more-listed a i n l h =
     let grow = counts-grow a (i + 1) n (omega arith) in
     omega (arith, grow, counted-if-passed a i h, as-many-listed a i, as-many-listed a n)
 
+-- Some pass exactly if the list of those that do is not empty.
+pub some-listed : (a : ℕ → Bool) (n : ℕ) → ltb 0 (length (those a n)) ≡ some a n
+some-listed a n = ap (ltb 0) (as-many-listed a n)
+
 -- If one passes, some do,
 pub some-if : (a : ℕ → Bool) (n i : ℕ) → i < n → a i ≡ true → some a n ≡ true
 some-if a n i l h = lt-ltb 0 (howMany a n) (omega (arith, more-listed a i n l h, as-many-listed a n))

@@ -1,4 +1,5 @@
 pub mod Rounding
+pub mod Zero
 pub mod First
 pub mod Counting
 pub mod Faults

@@ -4,14 +4,15 @@ use mathlib.Core.List.{List}
 use Prim.Native.Nat.{ℕ, _+_, _≤_, _<_}
 use native.Mathlib.Decide.{ℕ-discrete, decLt}
 use native.Mathlib.Omega.{arith}
-use borrow.Author.Tests.{lt-ltb, le-ltb, eq-eqb, ne-eqb}
+use borrow.Author.Tests.{lt-ltb, le-ltb}
 use lib.ListN.{length}
 use Rattle.facts.specs.Faults.{firstMet}
+use Rattle.facts.proofs.Zero.{if0-other}
 use Rattle.fields.specs.Fields.{byte}
 use Rattle.table.specs.declared.Row.{Row}
 use Rattle.table.specs.declared.Cursor.{Cursor}
 use Rattle.table.specs.declared.RowRead as read
-use Rattle.table.specs.Causes.{rowTests, boardTests}
+use Rattle.table.specs.Causes.{rowTests, boardTests, zeroRow}
 use Rattle.table.specs.Bytes.{rowInBytes, boardTestsIn, rowTestsIn}
 use Rattle.table.specs.RowRead.{RowReply, rowReplyOf, rowReplyBy, rowReply}
 
@@ -38,10 +39,10 @@ module _ (s : List ℕ) (least i : ℕ) where
 module _ (k : ℕ) (row : Row) (past : ℕ) where
   -- without a fault the row, with one the number alone.
   by-none : k ≡ 0 → rowReplyBy k row past ≡ record { number = 0; row = row; past = past }
-  by-none none = rw (eq-eqb k 0 none) refl
+  by-none none = rw none refl
 
   by-fault : (k ≡ 0 → ⊥) → rowReplyBy k row past ≡ rowReplyOf (read.the-variants.Fault k)
-  by-fault some = rw (ne-eqb k 0 some) refl
+  by-fault some = rw (if0-other k row zeroRow some, if0-other k past 0 some) refl
 
   -- So what was read tells the fault: a row comes with 0, and a fault with no place past it.
   was-row : {row′ : Row} {past′ : Cursor} → rowReplyOf (read.the-variants.Row row′ past′) ≡ rowReplyBy k row past → (k ≡ 0) × (row′ ≡ row) × (past′ .at ≡ past)

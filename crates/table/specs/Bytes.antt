@@ -1,7 +1,8 @@
 -- The table in bytes, and what reading them answers (01, "The table, in bytes").
-use Prim.Native.Nat.{ℕ, zero, suc, _+_, _*_}
+use Prim.Native.Nat.{ℕ, _+_, _*_}
 use mathlib.Core.List.{List, [], _∷_, map}
 use lib.ListN.{replicate}
+use Rattle.facts.specs.Zero.{if0}
 use Rattle.facts.specs.Faults.{Test, _then_, firstMet, rising}
 use Rattle.facts.specs.Places.{places, padded}
 use Rattle.fields.specs.Fields.{byte, half, word}
@@ -114,8 +115,7 @@ noTable = record { cycle = 0; cores = 0; boards = replicate coreLimit 0; n = 0; 
 
 -- the answer: 0 with the table, or the number of the first fault met
 abbrev pub readingOf : ℕ → Table → Reading
-readingOf zero table = record { number = 0; table = table }
-readingOf (suc k) table = record { number = suc k; table = noTable }
+readingOf number table = record { number = number; table = if0 number table noTable }
 
 unfoldable pub reading : List ℕ → Reading
 reading s = readingOf (tableNumber s) (tableIn s)

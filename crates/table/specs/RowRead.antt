@@ -1,8 +1,7 @@
 -- What reading one row answers (01, "Our forms for each place"): "each row read is an enum of row with cursor or number".
 use Prim.Native.Nat.{ℕ, _+_}
 use mathlib.Core.List.{List}
-use mathlib.Core.Bool.{cond}
-use lib.Dec.{eqb}
+use Rattle.facts.specs.Zero.{if0}
 use Rattle.facts.specs.Faults.{firstMet}
 use Rattle.table.specs.declared.Row.{Row}
 use Rattle.table.specs.declared.RowRead as read
@@ -22,7 +21,7 @@ rowReplyOf (read.the-variants.Fault number) = record { number = number; row = ze
 
 -- "a row once all its nine are, and then in the order of the numbers below": by the number of the first fault met, 0 for none, the row and the place past it
 abbrev pub rowReplyBy : ℕ → Row → ℕ → RowReply
-rowReplyBy number row past = cond (eqb number 0) (record { number = 0; row = row; past = past }) (record { number = number; row = zeroRow; past = 0 })
+rowReplyBy number row past = record { number = number; row = if0 number row zeroRow; past = if0 number past 0 }
 
 -- the answer for the row in the nine bytes from place i on
 unfoldable pub rowReply : List ℕ → ℕ → ℕ → ℕ → RowReply

@@ -1,5 +1,4 @@
 use Rattle.trace.specs.Record.{marked}
-use Rattle.trace.specs.Records.{names}
 use Rattle.dispatcher.proofs.Ran.{stays-usable}
 use borrow.Author.Needs.{needs}
 use Rattle.dispatcher.proofs.State.one_on.Statement.{statement}
@@ -11,7 +10,7 @@ run-requires c κs = search needs
 judge-requires : tie.Need-judge-requires
 judge-requires c κs =
     let a = c .before in
-    rw (c .run .ensures) (stays-usable (a .args .self) (names (marked (a .args .marks))) (a .pre .usable) (a .pre .slot-left))
+    rw (c .run .ensures) (stays-usable (a .args .self) (marked (a .args .marks)) (a .pre .usable) (a .pre .slot-left))
 
 returns : tie.Need-returns
 returns c =

@@ -8,7 +8,6 @@ use lib.ListN.{length, take, length-map}
 use Rattle.facts.proofs.Lent.{lent-from, comes-back}
 use Rattle.table.proofs.Taken.{sizes-are-within}
 use Rattle.trace.specs.declared.Stored.the-variants as stored
-use Rattle.trace.specs.Records.{names}
 use Rattle.dispatcher.specs.declared.State.{State}
 use Rattle.dispatcher.specs.declared.Answer.{Answer}
 use Rattle.dispatcher.specs.declared.Answer.the-variants.{Done, Late, Broken, Stopped, AtLimit, TooManyCores, NoRoom}
@@ -17,7 +16,7 @@ use Rattle.dispatcher.specs.State.{timeOf}
 use Rattle.trace.specs.Record.{withRecord}
 use Rattle.trace.specs.Said.{bare}
 use Rattle.dispatcher.specs.Answer.{saidOf, doneSaid}
-use Rattle.dispatcher.specs.Slot.{recordIn, refusal, ran, judged, lateIn}
+use Rattle.dispatcher.specs.Slot.{recordIn, refusal, lateIn, stepped, stoppedBy}
 use Rattle.dispatcher.specs.Usable.{UsableState, Admitted}
 use Rattle.dispatcher.proofs.Ran.{marks-are-rows}
 use Rattle.dispatcher.proofs.Refused.{refused-gives, done-gives, no-room, has-room}
@@ -140,8 +139,8 @@ same-length-2 : tie.Need-same-length-2
 same-length-2 c = search needs
 
 -- what is said of a slot goes by the rows that ran in it
-said-with : (s : State) {l m : List ℕ} → l ≡ m → doneSaid (lateIn (ran s (names l)) (timeOf s + 1)) (timeOf s + 1) ≡ doneSaid (lateIn (ran s (names m)) (timeOf s + 1)) (timeOf s + 1)
-said-with s e = ap (λ rows. doneSaid (lateIn (ran s (names rows)) (timeOf s + 1)) (timeOf s + 1)) e
+said-with : (s : State) {l m : List ℕ} → l ≡ m → doneSaid (lateIn (stepped s l)) (timeOf s + 1) ≡ doneSaid (lateIn (stepped s m)) (timeOf s + 1)
+said-with s e = ap (λ rows. doneSaid (lateIn (stepped s rows)) (timeOf s + 1)) e
 
 returns-3 : tie.Need-returns-3
 returns-3 c =
@@ -149,7 +148,7 @@ returns-3 c =
     let a = known .before .before .before .before .before .before .before .before .before .args in
     let law = is-written known (c .before .enum-told2 .given .1) in
     let picked = known .before .before .before .before .picks .ensures in
-    done-gives (a .self) (a .k) (a .buffer .now) (a .place) (law .0) (c .one-on .result) (c .one-on .ensures .0 ∙ said-with (a .self) picked) (c .one-on .ensures .1 ∙ ap (λ rows. judged (ran (a .self) (names rows))) picked) (comes-back (a .buffer .now) (a .place) (known .before .before .write .last .0) ∙ law .1)
+    done-gives (a .self) (a .k) (a .buffer .now) (a .place) (law .0) (c .one-on .result) (c .one-on .ensures .0 ∙ said-with (a .self) picked) (c .one-on .ensures .1 ∙ ap (λ rows. stoppedBy (lateIn (stepped (a .self) rows)) (stepped (a .self) rows)) picked) (comes-back (a .buffer .now) (a .place) (known .before .before .write .last .0) ∙ law .1)
 
 pub slot-spec : {M : Type 1} → statement M
 slot-spec =
