@@ -18,10 +18,11 @@ use Rattle.table.specs.declared.Row.{Row}
 use Rattle.pd2.specs.Choice.{rowAt, quantaAt}
 use Rattle.trace.specs.Record.{marked}
 use Rattle.choice.specs.Arrays.{InPlace}
-use Rattle.choice.specs.Choice.{numbersOf, saysReady, saysReadyIn}
+use Rattle.counts.specs.Numbers.{numbersOf}
+use Rattle.choice.specs.Choice.{saysReady, saysReadyIn}
 use Rattle.choice.specs.Classes.{keyOf, keyIn, KeysAre, groupOf, HasWindow, GroupsAre, tied, inCut}
 use Rattle.pd2.proofs.Choice.{row-there}
-use Rattle.choice.proofs.Arrays.{quanta-there}
+use Rattle.counts.proofs.Numbers.{number-there}
 
 -- Whether a row is in the cut: its key lies before the class,
 module _ (key group : ℕ → ℕ) (n class left i : ℕ) where
@@ -79,7 +80,7 @@ module _ {rows : List Row} {quanta : List Quanta} {n : ℕ} (place : InPlace row
       (v ≡ keyOf (getD rows i r) (getD quanta i q .0) t) × (saysReady (getD rows i r) (getD quanta i q .0) t ≡ true → v < most) →
       Keyed (take n rows) (numbersOf quanta) t (set keys i v) (i + 1)
   one-more-keyed {t} {keys} {v} so key =
-      let is = rw (row-there rows n i r l, quanta-there quanta i q there) at key in
+      let is = rw (row-there rows n i r l, number-there quanta i q there) at key in
       record { keyed = fills-one-more _ _ _ _ (so .keyed) room (is .0); low = λ j m h. low j m h (decLt j i) (is .1) }
     where
       isReady : ℕ → Type 0
@@ -93,12 +94,12 @@ module _ {rows : List Row} {quanta : List Quanta} {n : ℕ} (place : InPlace row
 
   -- row i has a window as the code reads it,
   pub window-there : {key class : ℕ} → (key ≡ class → HasWindow (rowAt (take n rows) i) (quantaAt (numbersOf quanta) i)) → key ≡ class → HasWindow (getD rows i r) (getD quanta i q .0)
-  window-there told same = rw (row-there rows n i r l, quanta-there quanta i q there) (told same)
+  window-there told same = rw (row-there rows n i r l, number-there quanta i q there) (told same)
 
   -- one group deadline more.
   pub one-more-grouped : (keys : List ℕ) (class : ℕ) {groups : List ℕ} {v : ℕ} → Grouped (take n rows) (numbersOf quanta) keys class groups i →
       v ≡ groupOf (getD rows i r) (getD quanta i q .0) (keyIn keys i) class → Grouped (take n rows) (numbersOf quanta) keys class (set groups i v) (i + 1)
-  one-more-grouped keys class so group = fills-one-more _ _ _ _ so room (rw (row-there rows n i r l, quanta-there quanta i q there) at group)
+  one-more-grouped keys class so group = fills-one-more _ _ _ _ so room (rw (row-there rows n i r l, number-there quanta i q there) at group)
 
 module _ (rows : List Row) (quanta : List ℕ) where
   pub all-keyed : {t : ℕ} {keys : List ℕ} {i : ℕ} → Keyed rows quanta t keys i → length rows ≤ i → KeysAre rows quanta t keys

@@ -1,4 +1,3 @@
-pub mod Arrays
 pub mod Asked
 pub mod KeyOrder
 pub mod Classes

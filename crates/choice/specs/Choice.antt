@@ -1,20 +1,15 @@
 -- Who runs in a slot (01, "Who is ready, and who goes first"), of rows, quanta and numbers that may be wild.
 use Prim.Native.Nat.{ℕ, _<_}
 use mathlib.Core.Path.{_≡_}
-use mathlib.Core.List.{List, map}
+use mathlib.Core.List.{List}
 use mathlib.Core.Bool.{Bool, true}
 use lib.ListN.{length}
-use Rattle.counts.specs.declared.Quanta.{Quanta}
 use Rattle.table.specs.declared.Row.{Row}
 use Rattle.pd2.specs.Verdict.{isYes, answered, verdict}
 use Rattle.pd2.specs.Ready.{ready}
 use Rattle.pd2.specs.Order.{before}
 use Rattle.pd2.specs.Picks.{picks}
 use Rattle.pd2.specs.Choice.{rowAt, quantaAt, goesBeforeBy, pd2Picks}
-
--- the numbers that counts of quanta hold
-abbrev pub numbersOf : List Quanta → List ℕ
-numbersOf = map (λ q. q .0)
 
 -- A row is answered to be ready; one of which pd2 cannot say so is not ready.
 abbrev pub saysReady : Row → ℕ → ℕ → Bool

@@ -16,7 +16,8 @@ ghost use Rattle.trace.specs.Record.{marked};
 ghost use Rattle.facts.specs.Counting.{howMany, those};
 ghost use Rattle.counts.specs.Limits.{most};
 ghost use Rattle.choice.specs.Arrays.{InPlace};
-ghost use Rattle.choice.specs.Choice.{numbersOf, saysReady, chosen};
+ghost use Rattle.counts.specs.Numbers.{numbersOf};
+ghost use Rattle.choice.specs.Choice.{saysReady, chosen};
 ghost use Rattle.choice.specs.Classes.{
   keyOf,
   keyIn,

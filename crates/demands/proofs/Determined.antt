@@ -9,7 +9,8 @@ use Rattle.windows.proofs.Next.{next-due-is-determined}
 use Rattle.pd2.specs.Ready.{originOf}
 use Rattle.pd2.proofs.Rows.{give-is-determined, lowest-late-is-determined}
 use Rattle.trace.proofs.Determined.{write-is-determined, record-is-determined-but-for-its-name}
-use Rattle.choice.specs.Choice.{numbersOf, chosen}
+use Rattle.counts.specs.Numbers.{numbersOf}
+use Rattle.choice.specs.Choice.{chosen}
 use Rattle.choice.proofs.Chosen.{picks-are-determined}
 use Rattle.dispatcher.proofs.Determined as dispatcher
 use Rattle.checker.proofs.Determined.{check-is-determined}

@@ -7,7 +7,7 @@ use Rattle.table.specs.declared.Row.{Row}
 use Rattle.table.specs.declared.Table.{Table}
 use Rattle.table.specs.Limits.{rowLimit}
 use Rattle.dispatcher.specs.declared.State.{State}
-use Rattle.dispatcher.specs.State.{counted}
+use Rattle.counts.specs.Numbers.{counted}
 use Rattle.demands.specs.RunPasses.{wordBytes}
 use Rattle.demands.specs.Bench.{plainRow, box}
 

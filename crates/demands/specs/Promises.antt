@@ -11,6 +11,7 @@ use Rattle.counts.specs.declared.Slot.{Slot}
 use Rattle.counts.specs.declared.Quanta.{Quanta}
 use Rattle.counts.specs.declared.Subtask.{Subtask}
 use Rattle.counts.specs.Limits.{kept}
+use Rattle.counts.specs.Numbers.{numbersOf}
 use Rattle.fields.specs.Fields.{byte, half, word}
 use Rattle.windows.specs.declared.Answer.{Answer as Window}
 use Rattle.windows.specs.declared.Due.{Due}
@@ -28,11 +29,11 @@ use Rattle.pd2.specs.declared.Verdict.{Verdict}
 use Rattle.pd2.specs.Ready.{originOf, ready, late}
 use Rattle.pd2.specs.Share.{within}
 use Rattle.pd2.specs.Verdict.{isYes, answered, verdict}
-use Rattle.pd2.specs.Rows.{GaveMarked, isLate}
+use Rattle.pd2.specs.Rows.{GaveMarked, saysLateIn}
 use Rattle.trace.specs.declared.Stored.{Stored}
 use Rattle.trace.specs.Record.{recordOf, marked, storedNumber, writeNumber, partAfter}
 use Rattle.trace.specs.Found.{partFound, partBegins}
-use Rattle.choice.specs.Choice.{numbersOf, chosen}
+use Rattle.choice.specs.Choice.{chosen}
 use Rattle.dispatcher.specs.declared.State.{State}
 use Rattle.dispatcher.specs.declared.Outcome.{Outcome}
 use Rattle.dispatcher.specs.State.{timeOf, freshOf}
@@ -165,7 +166,7 @@ pd2·give quanta marks r = GaveMarked marks quanta r
 
 -- pd2::lowest_late
 abbrev pub pd2·lowest-late : List Row → List Quanta → ℕ → Slot → ℕ → Type 0
-pd2·lowest-late rows quanta n time r = Lowest (isLate rows quanta (time .0)) (min n 32) r
+pd2·lowest-late rows quanta n time r = Lowest (saysLateIn rows (numbersOf quanta) (time .0)) (min n 32) r
 
 -- trace::write
 abbrev pub trace·write : List ℕ → ℕ → List Bool → Stored → List ℕ → Type 0

@@ -13,9 +13,10 @@ use Rattle.pd2.specs.declared.Verdict.{Verdict}
 use Rattle.pd2.specs.Verdict.{isYes, answered, verdict}
 use Rattle.pd2.proofs.Verdicts.{yes-when-answered}
 use Rattle.choice.specs.Arrays.{InPlace}
-use Rattle.choice.specs.Choice.{numbersOf, chosen}
+use Rattle.counts.specs.Numbers.{numbersOf}
+use Rattle.choice.specs.Choice.{chosen}
 use Rattle.pd2.proofs.Choice.{row-there}
-use Rattle.choice.proofs.Arrays.{quanta-there}
+use Rattle.counts.proofs.Numbers.{number-there}
 use Rattle.choice.proofs.Chosen.{chosen-as-pd2}
 use Rattle.dispatcher.specs.declared.State.{State}
 use Rattle.dispatcher.specs.State.{rowsIn, quantaIn, timeOf}
@@ -38,7 +39,7 @@ module _ {rows : List Row} {quanta : List Quanta} {n : ℕ} where
   pub as-read : InPlace rows quanta n → {i : ℕ} → i < length (take n rows) → (r : Row) (q : Quanta) (is : Row → ℕ → Bool) →
       is (getD rows i r) (getD quanta i q .0) ≡ ofRowAt (take n rows) (numbersOf quanta) is i
   as-read place {i} l r q is =
-      rw (row-there rows n i r l, quanta-there quanta i q (omega (arith, l, place .few, place .all, place .long))) refl
+      rw (row-there rows n i r l, number-there quanta i q (omega (arith, l, place .few, place .all, place .long))) refl
 
 -- Row i of usable rows, as the code reads it.
 module _ {rows : List Row} {quanta : List Quanta} {n t : ℕ} (u : Usable rows quanta n t) {i : ℕ} (l : i < length (take n rows)) (r : Row) (q : Quanta) where
@@ -47,7 +48,7 @@ module _ {rows : List Row} {quanta : List Quanta} {n t : ℕ} (u : Usable rows q
 
   -- It is usable,
   pub usable-there : UsableRow (getD rows i r) (getD quanta i q .0) t
-  usable-there = rw (row-there rows n i r l, quanta-there quanta i q there) (u .each i l)
+  usable-there = rw (row-there rows n i r l, number-there quanta i q there) (u .each i l)
 
   -- and a question about it is answered as row i is.
   pub answered-there : (is : Row → ℕ → Bool) {answer : Bool} {v : Verdict} →
@@ -56,7 +57,7 @@ module _ {rows : List Row} {quanta : List Quanta} {n t : ℕ} (u : Usable rows q
       answer ≡ ofRowAt (take n rows) (numbersOf quanta) is i
   answered-there is e f =
       e ∙ (ap isYes f ∙ (yes-when-answered (is (getD rows i r) (getD quanta i q .0)) (can-be-asked usable-there)
-      ∙ rw (row-there rows n i r l, quanta-there quanta i q there) refl))
+      ∙ rw (row-there rows n i r l, number-there quanta i q there) refl))
 
 -- The rows that are chosen of a usable state are those that PD2 picks.
 pub state-chosen-as-pd2 : (s : State) (k : ℕ) → UsableState s → k ≤ 8 → chosen (rowsIn s) (quantaIn s) (timeOf s) (min k 8) ≡ picksIn s k

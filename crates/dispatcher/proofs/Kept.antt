@@ -35,7 +35,7 @@ use Rattle.trace.specs.Said.{bare}
 use Rattle.dispatcher.specs.Answer.{doneSaid}
 use Rattle.dispatcher.specs.Slot.{picksIn, recordIn, lateAt, lateIn, stepped, stoppedBy, lacksRoom, slotTests, refusal, doneReply, slotBy, slotOf}
 use Rattle.dispatcher.specs.Kept.{RefusalsAreFirstCauses, RefusalChangesNothing, DoneMakesTheStep, UppersHold, After, DoneKeepsWhole, NextIsStopped, FreshIsWhole, FaultAnswers30}
-use Rattle.dispatcher.proofs.Ran.{as-counted}
+use Rattle.counts.proofs.Numbers.{as-many-numbers, as-counted}
 use Rattle.dispatcher.proofs.Whole.{Whole, is-whole, is-not-broken, rows-have-places, nothing-given}
 
 -- A slot is done with 0 or 1.
@@ -150,7 +150,7 @@ done-makes-the-step s k buffer place h = slot-done s k buffer place (done-is-not
 
 -- a state has as many places for quanta as its list
 as-many-places : (s : State) → length (quantaIn s) ≡ length (s .quanta)
-as-many-places s = length-map (s .quanta) (λ q. q .0)
+as-many-places s = as-many-numbers (s .quanta)
 
 -- What a slot gives, with k cores free.
 module _ (s : State) (k : ℕ) where

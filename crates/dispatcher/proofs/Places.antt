@@ -29,7 +29,7 @@ use Rattle.dispatcher.specs.Broken.{ofRow, someRow, exceeds, outsideShar
 use Rattle.dispatcher.specs.Answer.{doneSaid}
 use Rattle.dispatcher.specs.Slot.{picksIn, lateAt, lateIn, stepped, slotTests, refusal, doneReply, slotBy, slotOf}
 use Rattle.dispatcher.specs.Places.{SlotNumbers, BareUnlessLate, AtMostOneQuantum, PastIsReturned, AlikeBelow, SameAnswer, PastIsIgnored}
-use Rattle.dispatcher.proofs.Ran.{as-counted}
+use Rattle.counts.proofs.Numbers.{as-counted}
 use Rattle.dispatcher.proofs.Kept.{done-number, named-is-ready, one-more-or-same}
 
 -- No more rows are picked than there are cores free.

@@ -8,13 +8,14 @@ use Rattle.facts.specs.Zero.{if0}
 use Rattle.facts.specs.Counting.{those}
 use Rattle.facts.specs.Faults.{Test, _⇒_, firstMet}
 use Rattle.counts.specs.Limits.{timeLimit}
+use Rattle.counts.specs.Numbers.{counted}
 use Rattle.table.specs.declared.Row.{Row}
 use Rattle.pd2.specs.Ready.{late}
 use Rattle.pd2.specs.Choice.{pd2Picks, given}
 use Rattle.trace.specs.Record.{recordOf, withRecord}
 use Rattle.trace.specs.Records.{names}
 use Rattle.dispatcher.specs.declared.State.{State}
-use Rattle.dispatcher.specs.State.{rowsIn, quantaIn, timeOf, counted}
+use Rattle.dispatcher.specs.State.{rowsIn, quantaIn, timeOf}
 use Rattle.dispatcher.specs.Broken.{ofRow, broken}
 use Rattle.trace.specs.Said.{Said, bare}
 use Rattle.dispatcher.specs.Answer.{doneSaid}

@@ -1,10 +1,10 @@
 -- The dispatcher's state (01, "What comes back"): "The dispatcher's state holds the table, the time, a stopped mark and the quanta given to
 -- each row".
 use Prim.Native.Nat.{ℕ}
-use mathlib.Core.List.{List, map}
+use mathlib.Core.List.{List}
 use mathlib.Core.Bool.{false}
 use lib.ListN.{replicate}
-use Rattle.counts.specs.declared.Quanta.{Quanta}
+use Rattle.counts.specs.Numbers.{numbersOf}
 use Rattle.table.specs.declared.Row.{Row}
 use Rattle.table.specs.declared.Table.{Table}
 use Rattle.table.specs.Limits.{rowLimit}
@@ -16,14 +16,10 @@ abbrev pub rowsIn : State → List Row
 rowsIn s = rowsOf (s .table)
 
 abbrev pub quantaIn : State → List ℕ
-quantaIn s = map (λ q. q .0) (s .quanta)
+quantaIn s = numbersOf (s .quanta)
 
 abbrev pub timeOf : State → ℕ
 timeOf s = s .time .0
-
--- counts of quanta, as the state keeps them
-abbrev pub counted : List ℕ → List Quanta
-counted = map (λ q. record { 0 = q })
 
 -- "A fresh state can be made from any table value: time 0, not stopped, all quanta 0"
 abbrev pub freshOf : Table → State

@@ -12,7 +12,7 @@ use Rattle.table.specs.declared.Row.{Row}
 use Rattle.pd2.specs.Share.{CanBe, within}
 use Rattle.pd2.specs.Choice.{rowAt, quantaAt}
 use Rattle.choice.specs.Arrays.{InPlace}
-use Rattle.choice.specs.Choice.{numbersOf}
+use Rattle.counts.specs.Numbers.{numbersOf}
 use Rattle.dispatcher.specs.declared.State.{State}
 use Rattle.dispatcher.specs.declared.Answer.{Answer}
 use Rattle.dispatcher.specs.State.{rowsIn, timeOf}

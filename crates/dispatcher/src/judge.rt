@@ -10,7 +10,7 @@ ghost use Rattle.facts.specs.Counting.{some};
 ghost use Rattle.counts.specs.Limits.{timeLimit};
 ghost use Rattle.pd2.specs.Share.{CanBe};
 ghost use Rattle.dispatcher.specs.Broken.{ofRowAt, broken};
-ghost use Rattle.choice.specs.Choice.{numbersOf};
+ghost use Rattle.counts.specs.Numbers.{numbersOf};
 ghost use Rattle.dispatcher.specs.Usable.{Testable, brokenRow};
 
 // Whether the state is broken. The state may be wild: only what passed is looked at further.

@@ -7,10 +7,11 @@ ghost use mathlib.Core.Bool.{true};
 ghost use Prim.Native.Nat.{_*_, _<_, _≤_, min};
 ghost use Rattle.facts.specs.First.{Lowest};
 ghost use Rattle.windows.specs.Fits.{furthest, products};
+ghost use Rattle.counts.specs.Numbers.{numbersOf};
 ghost use Rattle.pd2.specs.Ready.{originOf, ready, late};
 ghost use Rattle.pd2.specs.Share.{lower, upper, upperPlain, upperEarlyRelease, within};
 ghost use Rattle.pd2.specs.Verdict.{isYes, answered, verdict, Near};
-ghost use Rattle.pd2.specs.Rows.{GaveMarked, isLate};
+ghost use Rattle.pd2.specs.Rows.{GaveMarked, saysLateIn};
 
 // The answer to a question about one row.
 pub enum Verdict {
@@ -162,7 +163,7 @@ pub fn give(mut quanta: [Quanta; 32], marks: [bool; 32]) -> [Quanta; 32]
 
 // The lowest row below n that is late, or n where none is; no more than 32 rows are looked at.
 pub fn lowest_late(rows: [Row; 32], quanta: [Quanta; 32], n: usize, time: Slot) -> usize
-    ensures { λ r. ⌜ Lowest (isLate rows quanta (time .0)) (min n 32) r ⌝ }
+    ensures { λ r. ⌜ Lowest (saysLateIn rows (numbersOf quanta) (time .0)) (min n 32) r ⌝ }
 {
     let last = at_most_32(n);
     let mut i: usize = 0;

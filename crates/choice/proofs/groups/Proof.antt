@@ -1,7 +1,7 @@
 use Prim.Native.Nat.{_-_, _<_}
 use native.Mathlib.Omega.{arith}
 use lib.ListN.{length, take}
-use Rattle.choice.specs.Choice.{numbersOf}
+use Rattle.counts.specs.Numbers.{numbersOf}
 use Rattle.choice.proofs.Filled.{Grouped, window-there, one-more-grouped, all-grouped}
 use Rattle.facts.proofs.Filling.{filling-begins}
 use Rattle.choice.proofs.groups.Statement.{statement}

@@ -2,7 +2,7 @@ use Prim.Native.Nat.{_-_, _<_}
 use native.Mathlib.Omega.{arith}
 use borrow.Author.Needs.{needs}
 use lib.ListN.{length, take}
-use Rattle.choice.specs.Choice.{numbersOf}
+use Rattle.counts.specs.Numbers.{numbersOf}
 use Rattle.choice.proofs.Filled.{Keyed, no-keys-yet, one-more-keyed, all-keyed}
 use Rattle.choice.proofs.keys.Statement.{statement}
 use Rattle.choice.proofs.keys.Tie as tie

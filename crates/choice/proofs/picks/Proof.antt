@@ -1,6 +1,6 @@
 use mathlib.Core.Path.{_≡_, _∙_}
 use lib.ListN.{length}
-use Rattle.choice.specs.Choice.{numbersOf}
+use Rattle.counts.specs.Numbers.{numbersOf}
 use Rattle.choice.proofs.Chosen.{first-in-place, same-chosen}
 use borrow.Author.Needs.{needs}
 use Rattle.choice.proofs.picks.Statement.{statement}

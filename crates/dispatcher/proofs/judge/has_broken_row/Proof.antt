@@ -3,7 +3,7 @@ use Prim.Native.Nat.{_-_, _<_}
 use native.Mathlib.Omega.{arith}
 use lib.ListN.{length, take}
 use Rattle.facts.proofs.Counting.{NoneYet, looking-begins, looks-on, some-if, none-at-all}
-use Rattle.choice.specs.Choice.{numbersOf}
+use Rattle.counts.specs.Numbers.{numbersOf}
 use Rattle.dispatcher.specs.Broken.{ofRowAt}
 use Rattle.dispatcher.specs.Usable.{brokenRow}
 use Rattle.dispatcher.proofs.Asked.{can-be-there, as-read}
