@@ -1,28 +1,35 @@
--- What it means that a trace passes (C1 and C2), and what is answered where it does not (C3, and which answers there are). Assumes nothing.
-use Prim.Native.Nat.{ℕ, zero, suc, _+_, _≤_}
+-- When a trace passes, and what is answered where it does not: of a table value. crates/demands says it of the bytes of a table. Assumes nothing.
+use Prim.Native.Nat.{ℕ, zero, suc, _+_, _≤_, _<_}
 use mathlib.Core.Path.{_≡_, refl, sym, ap, subst}
 use mathlib.Core.List.{List, [], _∷_, _++_}
-use mathlib.Core.Logic.{_⊎_, inl, inr, ⊎-elim}
+use mathlib.Core.Bool.{true}
+use mathlib.Core.Logic.{_↔_, _⊎_, inl, inr, ⊎-elim}
 use native.Mathlib.Omega.{arith}
+use lib.ListN.{length}
 use Rattle.facts.specs.Findings.{Finding, FirstFound}
 use Rattle.facts.proofs.Findings.{first-is-said, said-is-first, none-says-otherwise, none-or-first}
 use Rattle.table.specs.declared.Table.{Table}
+use Rattle.table.specs.Value.{faultOf, rowsOf}
 use Rattle.table.specs.Bytes.{tableNumber, tableIn}
-use Rattle.trace.specs.Records.{slotsIn}
+use Rattle.pd2.specs.Share.{within}
+use Rattle.pd2.specs.Choice.{rowAt}
+use Rattle.trace.specs.Records.{slotsIn, timesNamed}
 use Rattle.trace.specs.Said.{Said, bare, named}
 use Rattle.checker.specs.Check.{recordFindings, recordsFindings, traceFindings, traceSaid, checkBy, checkOf}
-use Rattle.checker.specs.Passes.{NumbersAreFirstFound, JudgesTableFirst, TraceNumbers, BareUnlessNamed, PassesInWindows, PassesInShares}
+use Rattle.checker.specs.WellFormed.{WellFormed}
+use Rattle.checker.specs.Passes.{Passes, InWindows}
 use Rattle.checker.proofs.Sound.{passes-exactly}
 use Rattle.checker.proofs.Rows.{within-after, within-was-ready, within-not-late, in-time-is-allowed, in-time-is-held, allowed-was-ready, held-not-late}
 
--- C3: an answer with a number is what the first cause that is met says.
-pub numbers-are-first-found : NumbersAreFirstFound
+-- An answer with a number is what the first cause that is met says.
+pub numbers-are-first-found : (table : Table) (s : List ℕ) (x : Said) → (x .number ≡ 0 → ⊥) → (traceSaid table s ≡ x) ↔ FirstFound (traceFindings table s) x
 unfolding traceSaid
 numbers-are-first-found table s x numbered =
     (said-is-first (bare 0) (traceFindings table s) (λ e. numbered (ap (λ y. y .number) e)), first-is-said (bare 0))
 
 -- The table is judged first: its refusal is answered, and else what the trace says.
-pub judges-table-first : JudgesTableFirst
+pub judges-table-first : (bytes s : List ℕ) →
+    ((tableNumber bytes ≡ 0 → ⊥) → checkOf bytes s ≡ bare (tableNumber bytes)) × (tableNumber bytes ≡ 0 → checkOf bytes s ≡ traceSaid (tableIn bytes) s)
 unfolding checkOf
 judges-table-first bytes s = go (tableNumber bytes)
   where
@@ -96,16 +103,18 @@ module _ (table : Table) (s : List ℕ) where
       (none-or-first (traceFindings table s))
 
 -- Of a trace no other number is answered than 0 and 40 to 47,
-pub trace-numbers : TraceNumbers
+pub trace-numbers : (table : Table) (s : List ℕ) → let number = traceSaid table s .number in (number ≡ 0) ⊎ ((40 ≤ number) × (number ≤ 47))
 trace-numbers table s = ⊎-elim (λ passes. inl (ap (λ x. x .number) passes)) (λ says. inr (says .range)) (passes-or-says table s)
 
 -- and row and time are 0 except with 44 and 45.
-pub bare-unless-named : BareUnlessNamed
+pub bare-unless-named : (table : Table) (s : List ℕ) →
+    let said = traceSaid table s in
+    (said .number ≡ 44 → ⊥) → (said .number ≡ 45 → ⊥) → said ≡ bare (said .number)
 bare-unless-named table s not-44 not-45 =
     ⊎-elim (λ passes. rw passes) (λ says. says .bare-else not-44 not-45) (passes-or-says table s)
 
--- C1: a trace passes exactly if it is well formed, each quantum falls inside its allowed slots, and none is overdue.
-pub passes-in-windows : PassesInWindows
+-- A trace passes exactly if it is well formed, each quantum falls inside its allowed slots, and none is overdue.
+pub passes-in-windows : (table : Table) (s : List ℕ) → faultOf table ≡ 0 → Passes table s ↔ (WellFormed table s × InWindows table s)
 passes-in-windows table s sound = (
   λ passes.
       let known = passes-exactly table s .0 passes in (
@@ -124,8 +133,9 @@ passes-in-windows table s sound = (
   ),
 )
 
--- C2: a well-formed trace passes exactly if each row is within its share at each time.
-pub passes-in-shares : PassesInShares
+-- A well-formed trace passes exactly if each row is within its share at each time.
+pub passes-in-shares : (table : Table) (s : List ℕ) → faultOf table ≡ 0 → WellFormed table s →
+    Passes table s ↔ ((t row : ℕ) → t ≤ slotsIn s → row < length (rowsOf table) → within (rowAt (rowsOf table) row) (timesNamed s row t) t ≡ true)
 passes-in-shares table s sound well = (
   λ passes t row k l. within-after table s sound row l t (λ u m. passes-exactly table s .0 passes .1 u (omega arith)),
   λ shares. passes-exactly table s .1 (

@@ -15,18 +15,17 @@ use Rattle.table.specs.declared.Table.{Table}
 use Rattle.table.specs.Value.{faultOf, rowsOf}
 use Rattle.pd2.specs.Ready.{ready, late}
 use Rattle.pd2.specs.Share.{upper, within}
-use Rattle.pd2.specs.Choice.{rowAt}
+use Rattle.pd2.specs.Choice.{rowAt, quantaAt}
 use Rattle.pd2.proofs.Share.{row-can-be, upper-after-quantum-means-ready}
 use Rattle.trace.specs.Records.{firstPlace, placeOf, names, rowsOfSlot, timesNamed, timesNamedFrom}
 use Rattle.trace.specs.Said.{bare, named}
 use Rattle.trace.proofs.Records.{counted-if-named}
-use Rattle.dispatcher.specs.State.{timeOf, freshOf}
+use Rattle.dispatcher.specs.State.{quantaIn, timeOf, freshOf}
 use Rattle.dispatcher.specs.Slot.{slotOf}
 use Rattle.dispatcher.specs.Run.{Run, run, oneMore}
-use Rattle.dispatcher.specs.RunKept.{quantaNow}
 use Rattle.dispatcher.proofs.Whole.{is-whole}
 use Rattle.dispatcher.proofs.Kept.{done-is-not-refused, goes, fault-answers-30}
-use Rattle.dispatcher.proofs.RunKept.{going, one-on, first-late-is-owed, first-late-is-lowest, quanta-are-records}
+use Rattle.dispatcher.proofs.RunKept.{going, one-on, first-late, first-late-is-lowest, quanta-are-records}
 use Rattle.dispatcher.proofs.Written.{Written, written-going, written-last, shares-written, shares-before, ends-late}
 use Rattle.checker.specs.Causes.{slotLimit, tooLate}
 use Rattle.checker.specs.Check.{recordsFindings, traceSaid}
@@ -119,7 +118,7 @@ module _ (table : Table) (free : ℕ → ℕ) (buffer : List ℕ) (sound : fault
         }
 
     -- the trace counts the quanta that the run gave,
-    quanta-counted : (i : ℕ) → quantaNow last i ≡ timesNamed late-trace i (m + 1)
+    quanta-counted : (i : ℕ) → quantaAt (quantaIn (last .state)) i ≡ timesNamed late-trace i (m + 1)
     quanta-counted i =
         quanta-are-records table free buffer firstPlace (suc m) i
         ∙ (ap (timesNamedFrom (last .bytes) firstPlace i) (late-clock .0)
@@ -130,28 +129,28 @@ module _ (table : Table) (free : ℕ → ℕ) (buffer : List ℕ) (sound : fault
     last-readied i l named-there =
         let row = rowAt (rowsOf table) i in
         let one-more = quanta-counted i ∙ counted-if-named late-trace firstPlace i m named-there in
-        let high = first-late-is-owed table free buffer firstPlace sound m e is-late .uppers i l in
+        let high = first-late table free buffer firstPlace sound m e is-late .2 i l in
         sym (upper-after-quantum-means-ready row (row-can-be table sound i l) (timesNamed late-trace i m) m)
         ∙ subst (λ q. upper row q (m + 1) ≡ true) one-more high
 
     -- and the row that the run named is the lowest late one
     lowest-counted : Lowest (tooLate table late-trace (m + 1)) (length (rowsOf table)) (last .said .row)
     lowest-counted =
-        same-lowest (λ i. late (rowAt (rowsOf table) i) (quantaNow last i) (m + 1)) (tooLate table late-trace (m + 1)) (length (rowsOf table)) (last .said .row)
+        same-lowest (λ i. late (rowAt (rowsOf table) i) (quantaAt (quantaIn (last .state)) i) (m + 1)) (tooLate table late-trace (m + 1)) (length (rowsOf table)) (last .said .row)
         (λ i l. ap (λ q. late (rowAt (rowsOf table) i) q (m + 1)) (quanta-counted i))
         (first-late-is-lowest table free buffer firstPlace sound m e is-late)
 
     -- So the check names the same row and time.
     named-late : IsTrace table last
     named-late =
-        let first = first-late-is-owed table free buffer firstPlace sound m e is-late in
+        let first = first-late table free buffer firstPlace sound m e is-late in
         let slots = slots-are table (m + 1) (last .bytes) (last .place) late-written (late-clock .1) in
         let well = is-well-formed table (m + 1) (last .bytes) (last .place) late-written (late-clock .1) in
-        let said = late-is-said table late-trace m (last .said .row) lowest-counted (first .is-row) well (slots ∙ add-one m) in-time-before last-readied in
+        let said = late-is-said table late-trace m (last .said .row) lowest-counted (first .1) well (slots ∙ add-one m) in-time-before last-readied in
         trace-of-run table last (m + 1) (late-clock .0) late-written (late-clock .1)
         record {
           passes = λ z. absurd (omega (arith, is-late, z));
-          late = λ z. said ∙ ap (named 45 (last .said .row)) (sym (first .time));
+          late = λ z. said ∙ ap (named 45 (last .said .row)) (sym (first .0));
         }
 
 -- So of a table without fault, in a buffer with a place for the first record.

@@ -1,7 +1,7 @@
 -- Demand 3. Assumes nothing.
 use Prim.Native.Nat.{ℕ, _*_, _≤_, _<_, zero-le}
 use mathlib.Core.Path.{_≡_, refl, sym, ap, _∙_, subst}
-use mathlib.Core.List.{List, []}
+use mathlib.Core.List.{List}
 use mathlib.Core.Bool.{Bool, true, false, true≢false}
 use mathlib.Core.Logic.{_↔_}
 use native.Mathlib.Decide.{decLt, ℕ-discrete}
@@ -26,7 +26,7 @@ use Rattle.dispatcher.specs.Slot.{slotOf}
 use Rattle.dispatcher.specs.Kept.{After}
 use Rattle.dispatcher.proofs.Whole.{is-whole, nothing-given}
 use Rattle.dispatcher.proofs.Kept.{refusal-changes-nothing, done-makes-the-step, done-keeps-whole, fresh-is-whole, fault-answers-30}
-use Rattle.dispatcher.proofs.RunKept.{one-when-owed, quanta-are-records, records-stand-in-turn}
+use Rattle.dispatcher.proofs.RunKept.{one-when-late, quanta-are-records, records-stand-in-turn}
 use Rattle.checker.proofs.Passes.{passes-in-shares, checked-as-table}
 use Rattle.demands.specs.Limits.{sincePhase, InLimits}
 use Rattle.demands.specs.Three.{PassesInLimits, FromFresh, KeepsLimits, IsOwed, Reports, ReportsLate, DemandThree}
@@ -121,11 +121,11 @@ module _ (said : Said) (s : State) (after : After s said) (done : said .number <
 
   reports : Reports (s .table) said s
   reports =
-      let means = one-when-owed (record { said = said; state = s; bytes = []; place = 0 }) after done in
+      let means = one-when-late s said after done in
       record {
         exactly = (
-          λ e. let found = means .0 e in (found .0, found .1, omega (arith, found .2)),
-          λ found. means .1 (found .0, found .1, omega (arith, found .2)),
+          λ e. let found = means .0 e in (found .0, found .1, late-if-owed (found .0) (found .1) .0 (found .2)),
+          λ found. means .1 (found .0, found .1, late-if-owed (found .0) (found .1) .1 (found .2)),
         );
         names-time = after .names-time;
         names-row = λ e. (after .is-row e, late-if-owed (said .row) (after .is-row e) .0 (after .names-row e .passes (after .is-row e)));

@@ -17,8 +17,8 @@ use Rattle.table.specs.Value.{faultOf, rowsOf}
 use Rattle.pd2.specs.Ready.{late}
 use Rattle.pd2.specs.Share.{lower, upper, within}
 use Rattle.pd2.specs.Choice.{rowAt, quantaAt}
-use Rattle.pd2.proofs.Share.{row-can-be, late-means-below, late-exactly-if-owed}
-use Rattle.trace.specs.Record.{withRecord}
+use Rattle.pd2.proofs.Share.{row-can-be, late-means-below}
+use Rattle.trace.specs.Said.{Said}
 use Rattle.trace.specs.Records.{placeOf, namedIn, timesNamedFrom}
 use Rattle.trace.proofs.Records.{next-place, named-once-more}
 use Rattle.dispatcher.specs.declared.State.{State}
@@ -27,37 +27,27 @@ use Rattle.dispatcher.specs.Broken.{broken}
 use Rattle.dispatcher.specs.Slot.{picksIn, recordIn, doneReply, slotOf}
 use Rattle.dispatcher.specs.Kept.{After}
 use Rattle.dispatcher.specs.Run.{Run, placeBy, runWith, oneMore, run}
-use Rattle.dispatcher.specs.RunKept.{quantaNow, Owed, runFor, KeepsShares, LateWhenOwed, FirstLate, FirstLateIsOwed, QuantaAreRecords, RecordsStandInTurn}
+use Rattle.dispatcher.specs.RunKept.{runFor, QuantaAreRecords, RecordsStandInTurn}
 use Rattle.dispatcher.proofs.Whole.{Whole, is-whole, nothing-given}
 use Rattle.dispatcher.proofs.Kept.{done-is-not-refused, goes, refusal-changes-nothing, done-makes-the-step, places-stay, quanta-after, done-keeps-whole, fresh-is-whole}
 
--- The answer is 1 exactly if some row of the table is owed a whole quantum at time t.
-abbrev pub OneWhenOwed : Run → Table → ℕ → Type 0
-OneWhenOwed r table t = (r .said .number ≡ 1) ↔ ((i : ℕ) × (i < length (rowsOf table)) × Owed table r i t)
-
--- So it is after each slot that is done: with 1 the row that is named is late, and with 0 all rows are within their shares, so none is.
-pub one-when-owed : (r : Run) → After (r .state) (r .said) → r .said .number < 2 → OneWhenOwed r (r .state .table) (timeOf (r .state))
-one-when-owed r after h = (
-  λ e. (r .said .row, after .is-row e, is-owed (r .said .row) (after .is-row e) .0 (after .names-row e .passes (after .is-row e))),
-  λ found. go (r .said .number) refl h found,
-)
+-- A slot that is done answers 1 exactly if some row is late: with 1 the row that is named is, and with 0 all rows are within their shares, so none is.
+pub one-when-late : (s : State) (said : Said) → After s said → said .number < 2 →
+    (said .number ≡ 1) ↔ ((i : ℕ) × (i < length (rowsIn s)) × (late (rowAt (rowsIn s) i) (quantaAt (quantaIn s) i) (timeOf s) ≡ true))
+one-when-late s said after h = (λ e. (said .row, after .is-row e, after .names-row e .passes (after .is-row e)), λ found. go (said .number) refl h found)
   where
-    whole : Whole (r .state)
-    whole = is-whole (r .state) (after .whole)
+    whole : Whole s
+    whole = is-whole s (after .whole)
 
-    is-owed : (i : ℕ) → i < length (rowsIn (r .state)) →
-        (late (rowAt (rowsIn (r .state)) i) (quantaNow r i) (timeOf (r .state)) ≡ true) ↔ Owed (r .state .table) r i (timeOf (r .state))
-    is-owed i l = late-exactly-if-owed (rowAt (rowsIn (r .state)) i) (row-can-be (r .state .table) (whole .table) i l) (quantaNow r i) (timeOf (r .state))
+    none-late : said .number ≡ 0 → (i : ℕ) → i < length (rowsIn s) → late (rowAt (rowsIn s) i) (quantaAt (quantaIn s) i) (timeOf s) ≡ true → ⊥
+    none-late e i l is-late =
+        let row = rowAt (rowsIn s) i in
+        let inside = both (lower row (quantaAt (quantaIn s) i) (timeOf s)) _ (whole .shares (after .runs-on e) i l) .0 in
+        let below = late-means-below row (row-can-be (s .table) (whole .table) i l) (quantaAt (quantaIn s) i) (timeOf s) in
+        true≢false (sym is-late ∙ rw inside at below)
 
-    not-within : r .said .number ≡ 0 → (i : ℕ) → i < length (rowsIn (r .state)) → Owed (r .state .table) r i (timeOf (r .state)) → ⊥
-    not-within e i l owed =
-        let row = rowAt (rowsIn (r .state)) i in
-        let inside = both (lower row (quantaNow r i) (timeOf (r .state))) _ (whole .shares (after .runs-on e) i l) .0 in
-        let below = late-means-below row (row-can-be (r .state .table) (whole .table) i l) (quantaNow r i) (timeOf (r .state)) in
-        true≢false (sym (is-owed i l .1 owed) ∙ rw inside at below)
-
-    go : (n : ℕ) → r .said .number ≡ n → n < 2 → (i : ℕ) × (i < length (rowsIn (r .state))) × Owed (r .state .table) r i (timeOf (r .state)) → n ≡ 1
-    go zero e l found = absurd (not-within e (found .0) (found .1) (found .2))
+    go : (n : ℕ) → said .number ≡ n → n < 2 → (i : ℕ) × (i < length (rowsIn s)) × (late (rowAt (rowsIn s) i) (quantaAt (quantaIn s) i) (timeOf s) ≡ true) → n ≡ 1
+    go zero e l found = absurd (none-late e (found .0) (found .1) (found .2))
     go (suc zero) e l found = refl
     go (suc (suc n)) e l found = absurd (omega arith)
 
@@ -167,41 +157,33 @@ module _ (table : Table) (free : ℕ → ℕ) (buffer : List ℕ) (place : ℕ) 
       record { same = on .1; clock = on .2 ∙ add-one m; whole = on .0 .whole; runs = on .0 .runs-on e; long = on .3 }
 
   -- While every answer is 0, m slots lead to time m, and every row is within its share.
-  pub keeps-shares : KeepsShares table free buffer place
+  pub keeps-shares : faultOf table ≡ 0 → (m : ℕ) → runFor table free buffer place m .said .number ≡ 0 →
+      let s = runFor table free buffer place m .state in
+      (timeOf s ≡ m) × ((i : ℕ) → i < length (rowsOf table) → within (rowAt (rowsOf table) i) (quantaAt (quantaIn s) i) m ≡ true)
   keeps-shares h m e = let g = going h m e in (g .clock, going-shares table (runFor table free buffer place m .state) m g)
 
-  -- A slot that is done answers 1 exactly if some row is then owed a whole quantum.
-  pub late-when-owed : LateWhenOwed table free buffer place
-  late-when-owed h m e l =
-      let on = one-on m (going h m e) e l in
+  -- At the first late time that time and a row of the table are named, and all upper limits hold.
+  pub first-late : faultOf table ≡ 0 → (m : ℕ) → runFor table free buffer place m .said .number ≡ 0 →
       let r = runFor table free buffer place (suc m) in
-      subst (λ t. OneWhenOwed r table t) (on .2) (subst (λ t. OneWhenOwed r t (timeOf (r .state))) (on .1) (one-when-owed r (on .0) l))
-
-  -- At the first late time the named row is owed a whole quantum, and all upper limits hold.
-  pub first-late-is-owed : FirstLateIsOwed table free buffer place
-  first-late-is-owed h m e l =
+      r .said .number ≡ 1 →
+      (r .said .time ≡ m + 1) × (r .said .row < length (rowsOf table))
+      × ((i : ℕ) → i < length (rowsOf table) → upper (rowAt (rowsOf table) i) (quantaAt (quantaIn (r .state)) i) (m + 1) ≡ true)
+  first-late h m e l =
       let on = one-on m (going h m e) e (omega (arith, l)) in
-      let r = runFor table free buffer place (suc m) in
+      let s = runFor table free buffer place (suc m) .state in
+      let said = runFor table free buffer place (suc m) .said in
       let after = on .0 in
-      let row = rowAt (rowsIn (r .state)) (r .said .row) in
-      let can = row-can-be (r .state .table) (is-whole (r .state) (after .whole) .table) (r .said .row) (after .is-row l) in
-      let owed = late-exactly-if-owed row can (quantaNow r (r .said .row)) (timeOf (r .state)) .0 (after .names-row l .passes (after .is-row l)) in
-      subst (λ t. FirstLate t free buffer place m r) (on .1)
-      record {
-        time = after .names-time l ∙ on .2;
-        is-row = after .is-row l;
-        owed = subst (λ t. Owed (r .state .table) r (r .said .row) t) (on .2) owed;
-        uppers = λ i k. subst (λ t. upper (rowAt (rowsIn (r .state)) i) (quantaNow r i) t ≡ true) (on .2) (after .uppers i k);
-      }
+      subst (λ t. (said .time ≡ m + 1) × (said .row < length (rowsOf t)) × ((i : ℕ) → i < length (rowsOf t) → upper (rowAt (rowsOf t) i) (quantaAt (quantaIn s) i) (m + 1) ≡ true)) (on .1)
+      (after .names-time l ∙ on .2, after .is-row l, λ i k. subst (λ t. upper (rowAt (rowsIn s) i) (quantaAt (quantaIn s) i) t ≡ true) (on .2) (after .uppers i k))
 
   -- The row that is named then is the lowest late row.
   pub first-late-is-lowest : faultOf table ≡ 0 → (m : ℕ) → runFor table free buffer place m .said .number ≡ 0 →
-      (let r = runFor table free buffer place (suc m) in r .said .number ≡ 1 → Lowest (λ i. late (rowAt (rowsOf table) i) (quantaNow r i) (m + 1)) (length (rowsOf table)) (r .said .row))
+      (let r = runFor table free buffer place (suc m) in r .said .number ≡ 1 → Lowest (λ i. late (rowAt (rowsOf table) i) (quantaAt (quantaIn (r .state)) i) (m + 1)) (length (rowsOf table)) (r .said .row))
   first-late-is-lowest h m e l =
       let on = one-on m (going h m e) e (omega (arith, l)) in
       let r = runFor table free buffer place (suc m) in
-      subst (λ t. Lowest (λ i. late (rowAt (rowsOf t) i) (quantaNow r i) (m + 1)) (length (rowsOf t)) (r .said .row)) (on .1)
-      (subst (λ t. Lowest (λ i. late (rowAt (rowsIn (r .state)) i) (quantaNow r i) t) (length (rowsIn (r .state))) (r .said .row)) (on .2) (on .0 .names-row l))
+      subst (λ t. Lowest (λ i. late (rowAt (rowsOf t) i) (quantaAt (quantaIn (r .state)) i) (m + 1)) (length (rowsOf t)) (r .said .row)) (on .1)
+      (subst (λ t. Lowest (λ i. late (rowAt (rowsIn (r .state)) i) (quantaAt (quantaIn (r .state)) i) t) (length (rowsIn (r .state))) (r .said .row)) (on .2) (on .0 .names-row l))
 
   -- Slot after slot the records stand: a slot that is done writes one behind the others, a refused one changes nothing, and after an answer
   -- that is not 0 the run is at its end.
