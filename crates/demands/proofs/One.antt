@@ -22,11 +22,9 @@ use Rattle.dispatcher.proofs.Kept.{refusals-are-first-causes, refusal-changes-n
 use Rattle.dispatcher.proofs.Places.{slot-numbers, bare-unless-late, past-is-returned, past-is-ignored}
 use Rattle.checker.specs.Check.{traceSaid, checkOf}
 use Rattle.checker.proofs.Passes.{numbers-are-first-found, judges-table-first, trace-numbers, bare-unless-named}
-use Rattle.printer.proofs.Buffer.{is-too-short}
 use Rattle.checker.proofs.Sound.{rising-exactly}
-use Rattle.demands.specs.One.{Questions, Tables, Slots, Checks, HandsBack, DemandOne}
+use Rattle.demands.specs.One.{Questions, Tables, Slots, Checks, DemandOne}
 use Rattle.demands.proofs.Refusals.{broken-exactly, slot-exactly}
-use Rattle.demands.proofs.Determined.{every-promise-determines}
 
 -- Numbers that 01 knows are far within reach.
 questions : Questions
@@ -104,23 +102,14 @@ checks =
       parts = check-parts;
     }
 
-hands-back : HandsBack
-hands-back =
-    record {
-      slot = refusal-changes-nothing;
-      write = λ part free marks none. rw none;
-      print = λ input out short. sym (is-too-short input out short .1);
-    }
-
 pub demand-one : DemandOne
 demand-one =
     record {
-      determined = every-promise-determines;
       questions = questions;
       windows = record { answered = windows-are-answered; next-start = next-start-is-d-less-b; group = walk-gives-least-time; light = light-has-none };
       tables = tables;
       slots = slots;
       checks = checks;
       records = record { found = found-if-all-inside; itself = part-is-record; begins = λ trace s h. rw h refl; nothing = λ trace s h. (rw h, rw h) };
-      hands-back = hands-back;
+      hands-back = refusal-changes-nothing;
     }

@@ -85,7 +85,11 @@ holds (window e p f i r d b D) =
     eqb (reply .number) 0 && eqb (reply .r) r && eqb (reply .d) d && agrees b (reply .b) && agrees D (reply .D)
 holds (picks table k rows) = let r = runOf table (k ∷ []) in sameSaid (r .said) (bare 0) && same (rowsAt (r .bytes) 0) rows
 holds (answers table free last) = sameSaid (runOf table free .said) last
-holds (runs table m slots) = let r = runOf table (replicate m 1) in sameSaid (r .said) (bare 0) && same (those (namedIn (r .bytes) 0 0) m) slots
+holds (runs table m slots) =
+    let r = runOf table (replicate m 1) in
+    let place = 0 in
+    let row = 0 in
+    sameSaid (r .said) (bare 0) && same (those (namedIn (r .bytes) place row) m) slots
 holds (traced bytes k m trace) =
     same (traceOf (run (tableIn bytes) (λ s. k) (replicate 100 0) firstPlace m)) trace && sameSaid (checkOf bytes trace) (bare 0)
 holds (table-read bytes number) = eqb (tableNumber bytes) number

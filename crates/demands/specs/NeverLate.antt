@@ -28,7 +28,7 @@ pub record NeverLateWith (table : Table) (c : ℕ) : Type 0 where
   pub always-0 : (s : State) → WithCores table c s → (k : ℕ) (buffer : List ℕ) (place : ℕ) → c ≤ k → k ≤ table .cores → timeOf s < timeLimit →
       place + 10 ≤ length buffer → slotOf s k buffer place .said ≡ bare 0
 
--- D7: for every table that the reader takes, from `fresh`, if every slot has all M cores, no slot ever answers 1.
+-- For every table that the reader takes, from `fresh`, if every slot has all M cores, no slot ever answers 1.
 abbrev pub NeverLateWithAllCores : Type 0
 NeverLateWithAllCores = (bytes : List ℕ) → tableNumber bytes ≡ 0 → NeverLateWith (tableIn bytes) (tableIn bytes .cores)
 

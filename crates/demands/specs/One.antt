@@ -5,7 +5,7 @@ use mathlib.Core.Path.{_≡_}
 use mathlib.Core.List.{List, []}
 use mathlib.Core.Logic.{_↔_, _⊎_}
 use lib.ListN.{length, replicate}
-use mathlib.Core.Bool.{Bool, true, false}
+use mathlib.Core.Bool.{true, false}
 use Rattle.facts.specs.Findings.{FirstFound}
 use Rattle.windows.specs.Question.{WindowsAreAnswered}
 use Rattle.windows.specs.Windows.{deadline, bit, NextStartIsDLessB}
@@ -21,7 +21,7 @@ use Rattle.table.specs.Taken.{NumbersAreFirstCauses, NumbersAre10To22, TakenWhe
 use Rattle.table.specs.Faultless.{FaultlessExactly, TakenExactly}
 use Rattle.pd2.specs.Verdict.{answered}
 use Rattle.pd2.specs.Choice.{rowAt, quantaAt, pd2Picks}
-use Rattle.trace.specs.Record.{recordOf, marked, hasRoom, partAfter}
+use Rattle.trace.specs.Record.{recordOf}
 use Rattle.trace.specs.Said.{Said, bare}
 use Rattle.trace.specs.Records.{freeAt, placeIn, rowsOfSlot}
 use Rattle.trace.specs.Found.{isFound, partFound, partBegins, FoundIfAllInside}
@@ -33,10 +33,7 @@ use Rattle.dispatcher.specs.Kept.{RefusalsAreFirstCauses, RefusalChangesNothing
 use Rattle.dispatcher.specs.Places.{SlotNumbers, BareUnlessLate, PastIsReturned, PastIsIgnored}
 use Rattle.checker.specs.Causes.{RisingExactly}
 use Rattle.checker.specs.Check.{traceFindings, checkOf}
-use Rattle.printer.specs.Text.{textOf}
-use Rattle.printer.specs.Buffer.{outAfter}
 use Rattle.demands.specs.Limits.{InLimits}
-use Rattle.demands.specs.Determined.{EveryPromiseDetermines}
 
 -- "with one of the refusals in document 01, given exactly when that paper says", of a window: 50 exactly if e = 0, e is not below p, or i is not in 1
 -- to 1,000,000,001, and else the window;
@@ -132,22 +129,14 @@ pub record Records : Type 0 where
   -- "Otherwise the part handed back has length 0 and begins at 0."
   pub nothing : (trace : List ℕ) (s : ℕ) → isFound trace s ≡ false → (partFound trace s ≡ []) × (partBegins trace s ≡ 0)
 
--- "A refusal hands back the state as it came and writes no byte": a slot's, the record writer's, and the printer's where its buffer is too short.
-pub record HandsBack : Type 0 where
-  pub slot : RefusalChangesNothing
-  pub write : (part : List ℕ) (free : ℕ) (marks : List Bool) →
-      let entry = recordOf free (marked marks) in
-      hasRoom part entry ≡ false → partAfter part entry ≡ part
-  pub print : (input out : List ℕ) → length out < length (textOf input) → outAfter input out ≡ out
-
 -- "Nobody has to check anything before calling": no public function has a `requires`, or the gate refuses it; and what each answers is determined, on all
--- inputs.
+-- inputs (`determined` of specs/All.antt).
 pub record DemandOne : Type 0 where
-  pub determined : EveryPromiseDetermines
   pub windows : Windows
   pub questions : Questions
   pub tables : Tables
   pub slots : Slots
   pub checks : Checks
   pub records : Records
-  pub hands-back : HandsBack
+  -- "A refusal hands back the state as it came and writes no byte": a slot's. (The record writer's is `no-room`, the printer's `too-short` of specs/Meanings.antt.)
+  pub hands-back : RefusalChangesNothing

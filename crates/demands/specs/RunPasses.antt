@@ -45,7 +45,7 @@ pub record IsTrace (table : Table) (r : Run) : Type 0 where
   pub checked : SaysTheSame (r .said) (traceSaid table (traceOf r))
   pub checked-by-bytes : (bytes : List ℕ) → tableNumber bytes ≡ 0 → tableIn bytes ≡ table → SaysTheSame (r .said) (checkOf bytes (traceOf r))
 
--- D5: the records of a run whose last answer is 0 or 1, with their count in front, are a well-formed trace, within the trace's limit; the checker passes it,
+-- The records of a run whose last answer is 0 or 1, with their count in front, are a well-formed trace, within the trace's limit; the checker passes it,
 -- or answers 45 with the same row and time as the run's 1.
 abbrev pub RunPasses : Type 0
 RunPasses =

@@ -47,5 +47,5 @@ module _ (s : State) where
     by-rows slot-left =
         let n = length (rowsIn s) in
         rw (eq-eqb (faultOf (s .table)) 0 none, le-ltb timeLimit (timeOf s) slot-left)
-        (some-either (ofRow s (exceeds s)) (λ i. not (s .stopped) && ofRow s (outsideShare s) i) n
-        ∙ ap (λ b. someRow s (exceeds s) || b) (some-where (not (s .stopped)) (ofRow s (outsideShare s)) n))
+        (some-either (ofRow s (exceeds (timeOf s))) (λ i. not (s .stopped) && ofRow s (outsideShare (timeOf s)) i) n
+        ∙ ap (λ b. someRow s (exceeds (timeOf s)) || b) (some-where (not (s .stopped)) (ofRow s (outsideShare (timeOf s))) n))

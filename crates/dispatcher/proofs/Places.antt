@@ -143,7 +143,7 @@ module _ (s s′ : State) (alike : AlikeBelow s s′) where
   -- both are broken or neither is,
   broken-alike : broken s ≡ broken s′
   unfolding broken
-  broken-alike = rw (fault-alike, some-alike (exceeds s), some-alike (outsideShare s), alike .time, alike .stopped)
+  broken-alike = rw (fault-alike, some-alike (exceeds (timeOf s)), some-alike (outsideShare (timeOf s)), alike .time, alike .stopped)
 
   module _ (k : ℕ) where
     -- the same rows are picked,

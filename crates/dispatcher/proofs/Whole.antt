@@ -36,16 +36,16 @@ pub record Whole (s : State) : Type 0 where
 pub is-whole : (s : State) → broken s ≡ false → Whole s
 unfolding broken
 is-whole s h =
-    let last = neither-holds _ (not (s .stopped) && someRow s (outsideShare s)) h in
-    let given = neither-holds _ (someRow s (exceeds s)) (last .0) in
+    let last = neither-holds _ (not (s .stopped) && someRow s (outsideShare (timeOf s))) h in
+    let given = neither-holds _ (someRow s (exceeds (timeOf s))) (last .0) in
     let first = neither-holds (not (eqb (faultOf (s .table)) 0)) (ltb timeLimit (timeOf s)) (given .0) in
     record {
       table = eqb-true (faultOf (s .table)) 0 (not-false _ (first .0));
       time = ltb-false timeLimit (timeOf s) (first .1);
-      quanta = λ i l. ltb-false (timeOf s) (quantaAt (quantaIn s) i) (each-fails (ofRow s (exceeds s)) (length (rowsIn s)) (given .1) i l);
+      quanta = λ i l. ltb-false (timeOf s) (quantaAt (quantaIn s) i) (each-fails (ofRow s (exceeds (timeOf s))) (length (rowsIn s)) (given .1) i l);
       shares = λ runs i l.
           not-false (ofRow s (λ row q. within row q (timeOf s)) i)
-          (each-fails (ofRow s (outsideShare s)) (length (rowsIn s)) (rw runs at (last .1)) i l);
+          (each-fails (ofRow s (outsideShare (timeOf s))) (length (rowsIn s)) (rw runs at (last .1)) i l);
     }
 
 -- and a whole state is not broken.
@@ -54,12 +54,12 @@ unfolding broken
 is-not-broken s w =
     let fault = eq-eqb (faultOf (s .table)) 0 (w .table) in
     let time = le-ltb timeLimit (timeOf s) (w .time) in
-    let given : someRow s (exceeds s) ≡ false = none-if (ofRow s (exceeds s)) (length (rowsIn s)) (λ i l. le-ltb (timeOf s) (quantaAt (quantaIn s) i) (w .quanta i l)) in
+    let given : someRow s (exceeds (timeOf s)) ≡ false = none-if (ofRow s (exceeds (timeOf s))) (length (rowsIn s)) (λ i l. le-ltb (timeOf s) (quantaAt (quantaIn s) i) (w .quanta i l)) in
     rw (fault, time, given) (share (s .stopped) refl)
   where
-    share : (stopped : Bool) → s .stopped ≡ stopped → not stopped && someRow s (outsideShare s) ≡ false
+    share : (stopped : Bool) → s .stopped ≡ stopped → not stopped && someRow s (outsideShare (timeOf s)) ≡ false
     share true e = refl
-    share false e = none-if (ofRow s (outsideShare s)) (length (rowsIn s)) (λ i l. ap not (w .shares e i l))
+    share false e = none-if (ofRow s (outsideShare (timeOf s))) (length (rowsIn s)) (λ i l. ap not (w .shares e i l))
 
 -- A table without fault has no more rows than a state has places.
 pub rows-have-places : (t : Table) → faultOf t ≡ 0 → length (rowsOf t) ≤ rowLimit

@@ -26,12 +26,12 @@ abbrev pub someRow : State → (Row → ℕ → Bool) → Bool
 someRow s is = some (ofRow s is) (length (rowsIn s))
 
 -- "a row's quanta exceed time"
-abbrev pub exceeds : State → Row → ℕ → Bool
-exceeds s row q = ltb (timeOf s) q
+abbrev pub exceeds : ℕ → Row → ℕ → Bool
+exceeds time row q = ltb time q
 
 -- "some row is outside its share at its time"
-abbrev pub outsideShare : State → Row → ℕ → Bool
-outsideShare s row q = not (within row q (timeOf s))
+abbrev pub outsideShare : ℕ → Row → ℕ → Bool
+outsideShare time row q = not (within row q time)
 
 -- "A state is broken (30) if its table has a fault 12 to 20 or 22, if time is above 1,000,000,000, if a row's quanta exceed time, or if it is
 -- not stopped and some row is outside its share at its time."
@@ -39,5 +39,5 @@ unfoldable pub broken : State → Bool
 broken s =
     not (eqb (faultOf (s .table)) 0)
     || ltb timeLimit (timeOf s)
-    || someRow s (exceeds s)
-    || (not (s .stopped) && someRow s (outsideShare s))
+    || someRow s (exceeds (timeOf s))
+    || (not (s .stopped) && someRow s (outsideShare (timeOf s)))

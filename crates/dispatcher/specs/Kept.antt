@@ -22,7 +22,7 @@ RefusalsAreFirstCauses =
     (s : State) (k : ℕ) (buffer : List ℕ) (place number : ℕ) → 1 < number →
     (slotOf s k buffer place .said .number ≡ number) ↔ FirstMet (slotTests s k buffer place) number
 
--- D2: "With 30 to 34 the state returns equal and the buffer is untouched."
+-- "With 30 to 34 the state returns equal and the buffer is untouched."
 abbrev pub RefusalChangesNothing : Type 0
 RefusalChangesNothing =
     (s : State) (k : ℕ) (buffer : List ℕ) (place : ℕ) → 1 < slotOf s k buffer place .said .number →
@@ -38,7 +38,7 @@ DoneMakesTheStep =
 abbrev pub UppersHold : State → Type 0
 UppersHold s = (i : ℕ) → i < length (rowsIn s) → ofRow s (λ row q. upper row q (timeOf s)) i ≡ true
 
--- D3: a slot that is done, so from a state that is neither broken nor stopped, leads to one that is not broken. With 0 it is not stopped. With 1 it
+-- A slot that is done, so from a state that is neither broken nor stopped, leads to one that is not broken. With 0 it is not stopped. With 1 it
 -- is, the answer names the lowest late row and the new time, and all upper limits hold.
 pub record After (s : State) (said : Said) : Type 0 where
   pub whole : broken s ≡ false

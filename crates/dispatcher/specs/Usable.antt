@@ -4,19 +4,18 @@ use Prim.Native.Nat.{ℕ, _≤_, _<_}
 use mathlib.Core.Path.{_≡_}
 use mathlib.Core.List.{List}
 use mathlib.Core.Bool.{Bool, true, false, not, _&&_, _||_}
-use lib.Dec.{ltb}
 use lib.ListN.{length, getD, take}
 use Rattle.counts.specs.declared.Quanta.{Quanta}
 use Rattle.counts.specs.Limits.{timeLimit}
 use Rattle.table.specs.declared.Row.{Row}
-use Rattle.pd2.specs.Share.{CanBe, within}
+use Rattle.pd2.specs.Share.{CanBe}
 use Rattle.pd2.specs.Choice.{rowAt, quantaAt}
 use Rattle.choice.specs.Arrays.{InPlace}
 use Rattle.counts.specs.Numbers.{numbersOf}
 use Rattle.dispatcher.specs.declared.State.{State}
 use Rattle.dispatcher.specs.declared.Answer.{Answer}
 use Rattle.dispatcher.specs.State.{rowsIn, timeOf}
-use Rattle.dispatcher.specs.Broken.{broken}
+use Rattle.dispatcher.specs.Broken.{exceeds, outsideShare, broken}
 use Rattle.trace.specs.Said.{bare}
 use Rattle.dispatcher.specs.Answer.{saidOf}
 use Rattle.dispatcher.specs.Slot.{refusal}
@@ -36,7 +35,7 @@ pub record Testable (rows : List Row) (quanta : List Quanta) (n t : ℕ) : Type 
 
 -- A row that breaks a state: its quanta exceed the time, or it is outside its share and the state is not stopped.
 abbrev pub brokenRow : Bool → ℕ → Row → ℕ → Bool
-brokenRow stopped time row q = ltb time q || (not stopped && not (within row q time))
+brokenRow stopped time row q = exceeds time row q || (not stopped && outsideShare time row q)
 
 -- Rows that are all usable.
 pub record Usable (rows : List Row) (quanta : List Quanta) (n t : ℕ) : Type 0 where

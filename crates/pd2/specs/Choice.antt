@@ -35,6 +35,6 @@ unfoldable pub given : (ℕ → Bool) → ℕ → List ℕ → List ℕ
 given isPicked i [] = []
 given isPicked i (q ∷ quanta) = (q + cond (isPicked i) 1 0) ∷ given isPicked (i + 1) quanta
 
--- PD2's order is strict among any rows, whatever their quanta: so O4 holds of its picks.
+-- PD2's order is strict among any rows, whatever their quanta: so its picks are the best (`PicksAreBest`).
 abbrev pub Pd2IsStrict : Type 0
 Pd2IsStrict = (rows : List Row) (quanta : List ℕ) (t n : ℕ) → Strict (readyIn rows quanta t) (goesBeforeBy before rows quanta) n

@@ -17,7 +17,7 @@ pub record IsGroupDeadline (e p o i t : ℕ) : Type 0 where
   pub marked : (j : ℕ) × (0 < j) × Marks e p o j t
   pub least : (j u : ℕ) → 0 < j → Marks e p o j u → deadline e p o i ≤ u → t ≤ u
 
--- W7: of every heavy row, "when e/p is more than one half", the walk gives that time and no other, whatever the origin.
+-- Of every heavy row, "when e/p is more than one half", the walk gives that time and no other, whatever the origin.
 abbrev pub WalkGivesLeastTime : Type 0
 WalkGivesLeastTime =
     (e p o i t : ℕ) → 0 < e → e ≤ p → p < 2 * e → 0 < i → IsGroupDeadline e p o i t ↔ (t ≡ groupDeadline e p o i)

@@ -17,10 +17,14 @@ pub record Reply : Type 0 where
   pub b : ℕ
   pub D : ℕ
 
+-- "then r, d, b and D come back as 0"
+abbrev pub refusedReply : Reply
+refusedReply = record { number = 50; r = 0; d = 0; b = 0; D = 0 }
+
 -- What each case of the answer stands for.
 abbrev pub replyOf : Answer → Reply
 replyOf (Window r d b D) = record { number = 0; r = r .0; d = d .0; b = b; D = D .0 }
-replyOf Refused = record { number = 50; r = 0; d = 0; b = 0; D = 0 }
+replyOf Refused = refusedReply
 
 -- "i is not in 1 to 1,000,000,001": the last one is one past the time limit
 abbrev pub lastSubtask : ℕ
@@ -30,11 +34,11 @@ lastSubtask = timeLimit + 1
 abbrev pub refused : ℕ → ℕ → ℕ → Bool
 refused e p i = eqb e 0 || not (ltb e p) || not (leb 1 i && leb i lastSubtask)
 
--- "then r, d, b and D come back as 0"
+-- what comes back
 unfoldable pub windowReply : ℕ → ℕ → ℕ → ℕ → Reply
 windowReply e p f i =
     cond (refused e p i)
-    (record { number = 50; r = 0; d = 0; b = 0; D = 0 })
+    refusedReply
     (record { number = 0; r = start e p f i; d = deadline e p f i; b = bit e p i; D = groupDeadline e p f i })
 
 -- The same, said case by case: a question that is refused,
@@ -46,7 +50,7 @@ pub data Unfit (e p i : ℕ) : Type 0 where
 
 -- with 50, and with its other parts 0; every other question is answered with its window.
 pub record IsAnswered (e p f i : ℕ) : Type 0 where
-  pub if-unfit : Unfit e p i → windowReply e p f i ≡ record { number = 50; r = 0; d = 0; b = 0; D = 0 }
+  pub if-unfit : Unfit e p i → windowReply e p f i ≡ refusedReply
   pub if-fit : (Unfit e p i → ⊥) →
       windowReply e p f i ≡ record { number = 0; r = start e p f i; d = deadline e p f i; b = bit e p i; D = groupDeadline e p f i }
 

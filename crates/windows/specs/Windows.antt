@@ -18,7 +18,7 @@ deadline e p o i = o + ceilDiv (i * p) e
 unfoldable pub bit : ℕ → ℕ → ℕ → ℕ
 bit e p i = cond (eqb (i * p % e) 0) 0 1
 
--- W1: "Then the next start is d - b."
+-- "Then the next start is d - b."
 abbrev pub NextStartIsDLessB : Type 0
 NextStartIsDLessB = (e p o i : ℕ) → 0 < e → start e p o (i + 1) ≡ deadline e p o i - bit e p i
 
