@@ -87,8 +87,8 @@ holds (picks table k rows) = let r = runOf table (k ∷ []) in sameSaid (r .said
 holds (answers table free last) = sameSaid (runOf table free .said) last
 holds (runs table m slots) =
     let r = runOf table (replicate m 1) in
-    let place = 0 in
-    let row = 0 in
+    let place : ℕ = 0 in
+    let row : ℕ = 0 in
     sameSaid (r .said) (bare 0) && same (those (namedIn (r .bytes) place row) m) slots
 holds (traced bytes k m trace) =
     same (traceOf (run (tableIn bytes) (λ s. k) (replicate 100 0) firstPlace m)) trace && sameSaid (checkOf bytes trace) (bare 0)

@@ -35,9 +35,11 @@ use Rattle.trace.specs.Record.{recordOf, marked, storedNumber, writeNumber, par
 use Rattle.trace.specs.Found.{partFound, partBegins}
 use Rattle.choice.specs.Choice.{chosen}
 use Rattle.dispatcher.specs.declared.State.{State}
+use Rattle.dispatcher.specs.declared.Answer.{Answer}
+use Rattle.dispatcher.specs.declared.Told.{Told}
 use Rattle.dispatcher.specs.declared.Outcome.{Outcome}
 use Rattle.dispatcher.specs.State.{timeOf, freshOf}
-use Rattle.dispatcher.specs.Answer.{saidOf}
+use Rattle.dispatcher.specs.Answer.{saidOf, saidBy}
 use Rattle.dispatcher.specs.Slot.{slotOf}
 use Rattle.checker.specs.declared.Answer.{Answer as Checked}
 use Rattle.checker.specs.Answer as checked
@@ -183,6 +185,10 @@ trace·begins trace slot r = r ≡ partBegins trace (slot .0)
 -- choice::picks
 abbrev pub choice·picks : List Row → List Quanta → ℕ → Slot → ℕ → List Bool → Type 0
 choice·picks rows quanta n time k r = (length r ≡ 32) × (marked r ≡ chosen (take n rows) (numbersOf quanta) (time .0) (min k 8))
+
+-- dispatcher::Answer::told
+abbrev pub dispatcher·Answer·told : Answer → Told → Type 0
+dispatcher·Answer·told self r = saidBy r ≡ saidOf self
 
 -- dispatcher::State::fresh
 abbrev pub dispatcher·State·fresh : Table → State → Type 0

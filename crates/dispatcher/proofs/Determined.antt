@@ -10,10 +10,11 @@ use Rattle.table.specs.declared.Table.{Table}
 use Rattle.dispatcher.specs.declared.State.{State}
 use Rattle.dispatcher.specs.declared.Answer.{Answer}
 use Rattle.dispatcher.specs.declared.Answer.the-variants.{Done, Late, Broken, Stopped, AtLimit, TooManyCores, NoRoom}
+use Rattle.dispatcher.specs.declared.Told.{Told}
 use Rattle.dispatcher.specs.declared.Outcome.{Outcome}
 use Rattle.dispatcher.specs.State.{freshOf}
 use Rattle.trace.specs.Said.{Said}
-use Rattle.dispatcher.specs.Answer.{saidOf}
+use Rattle.dispatcher.specs.Answer.{saidOf, saidBy}
 use Rattle.dispatcher.proofs.Refused.{Gives}
 
 -- the answer of a number, row and time
@@ -39,6 +40,12 @@ back NoRoom = refl
 -- Two answers with one number, row and time are one answer.
 pub answers-tell-apart : TellsApart saidOf
 answers-tell-apart a b e = sym (back a) ∙ (ap answerFor e ∙ back b)
+
+-- The promise of `told` gives what is told, field by field.
+pub told-is-determined : (a : Answer) → Determined {R = Told} (λ r. saidBy r ≡ saidOf a)
+told-is-determined a x y p q =
+    let same = p ∙ sym q in
+    λ k. record { number = same k .number; row = same k .row; time = same k .time }
 
 -- The promise of `fresh` gives the state itself.
 pub fresh-is-determined : (t : Table) → Determined {R = State} (λ r. r ≡ freshOf t)

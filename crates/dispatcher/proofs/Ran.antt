@@ -113,8 +113,8 @@ lowest-of-state s u {i} low =
     let bound : min (s .table .n) 32 ≡ length (rowsIn s) = omega (arith, place .few, place .all) in
     same-lowest (saysLateIn (s .table .rows) (quantaIn s) (timeOf s)) (ofRow s (lateAt (timeOf s))) (length (rowsIn s)) i
     (λ j l.
-        ap (λ q. saysLate (rowAt (s .table .rows) j) q (timeOf s)) (sym (number-at (s .quanta) j))
-        ∙ answered-there u l zeroRow (record { 0 = 0 }) (lateAt (timeOf s)) refl refl)
+    ap (λ q. saysLate (rowAt (s .table .rows) j) q (timeOf s)) (sym (number-at (s .quanta) j))
+    ∙ answered-there u l zeroRow (record { 0 = 0 }) (lateAt (timeOf s)) refl refl)
     (subst (λ n. Lowest (saysLateIn (s .table .rows) (quantaIn s) (timeOf s)) n i) bound low)
 
 -- The lowest late row is named, and the state is stopped; where none is late the slot is done, and the state runs on.

@@ -2,6 +2,7 @@
 use Prim.Native.Nat.{ℕ}
 use mathlib.Core.List.{List, [], _∷_}
 use Rattle.trace.specs.Said.{Said, bare, named}
+use Rattle.dispatcher.specs.declared.Told.{Told}
 use Rattle.dispatcher.specs.declared.Answer.{Answer}
 use Rattle.dispatcher.specs.declared.Answer.the-variants.{Done, Late, Broken, Stopped, AtLimit, TooManyCores, NoRoom}
 
@@ -14,6 +15,10 @@ saidOf Stopped = bare 31
 saidOf AtLimit = bare 32
 saidOf TooManyCores = bare 33
 saidOf NoRoom = bare 34
+
+-- What was told of an answer.
+abbrev pub saidBy : Told → Said
+saidBy told = record { number = told .number; row = told .row; time = told .time }
 
 -- "slot done, and some row is late at the new time; names the lowest such row and that time": by the late rows, rising, and the time
 abbrev pub doneSaid : List ℕ → ℕ → Said

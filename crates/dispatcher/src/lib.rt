@@ -15,7 +15,7 @@ ghost use Rattle.trace.specs.Record.{marked};
 ghost use Rattle.trace.specs.Said.{bare, named};
 ghost use Rattle.dispatcher.specs.State.{rowsIn, timeOf, freshOf};
 ghost use Rattle.dispatcher.specs.Broken.{ofRow};
-ghost use Rattle.dispatcher.specs.Answer.{saidOf, doneSaid};
+ghost use Rattle.dispatcher.specs.Answer.{saidOf, saidBy, doneSaid};
 ghost use Rattle.dispatcher.specs.Slot.{picksIn, lateAt, lateIn, stepped, stoppedBy, slotOf};
 ghost use Rattle.dispatcher.specs.Usable.{UsableState, CanRun, CauseIs};
 
@@ -37,10 +37,49 @@ pub enum Answer {
     NoRoom,
 }
 
+// What an answer says: 01's number, and the row and the time that it names.
+pub struct Told {
+    pub number: u8,
+    pub row: u8,
+    pub time: u64,
+}
+
 // The answer, and the state as it is after the slot.
 pub struct Outcome {
     pub answer: Answer,
     pub state: State,
+}
+
+impl Answer {
+    // 01's number, row and time for each answer.
+    pub fn told(self) -> Told
+        ensures { λ r. ⌜ saidBy r ≡ saidOf self ⌝ }
+    {
+        match self {
+            Answer::Done => bare(0),
+            Answer::Late { row, time } => Told {
+                number: 1,
+                row,
+                time: time.time(),
+            },
+            Answer::Broken => bare(30),
+            Answer::Stopped => bare(31),
+            Answer::AtLimit => bare(32),
+            Answer::TooManyCores => bare(33),
+            Answer::NoRoom => bare(34),
+        }
+    }
+}
+
+// Only a late row is named.
+fn bare(number: u8) -> Told
+    ensures { λ r. ⌜ r ≡ record { number = number; row = 0; time = 0 } ⌝ }
+{
+    Told {
+        number,
+        row: 0,
+        time: 0,
+    }
 }
 
 impl State {

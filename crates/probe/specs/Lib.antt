@@ -1,2 +1,2 @@
 pub mod Values
-pub mod Verdict
+pub mod Told

@@ -1,9 +1,9 @@
 // One function for each letter. Each is lent the input from its letter on, writes the answer, and says how many bytes the request has: 0
 // if it is cut, and then nothing was written. Bytes past the end count as 0, so a length that is itself cut is read as some number; but
 // what it measures would begin past the end, so the request is cut whatever the number is.
+use crate::checked;
 use crate::put;
 use crate::read;
-use crate::verdicts;
 use crate::write;
 use counts::Slot;
 use counts::Subtask;
@@ -84,7 +84,7 @@ pub(crate) fn slot(request: &mut [u8]) -> usize
 fn tell(outcome: Outcome) {
     let mut out = [0u8; 577];
     let answer = outcome.answer;
-    let next = write::verdict(&mut out, 0, verdicts::of_slot(answer));
+    let next = write::told(&mut out, 0, answer.told());
     let after = outcome.state;
     write::state(&mut out, next, after);
     io::write_all(STDOUT_FILENO, &out);
@@ -124,7 +124,7 @@ pub(crate) fn check(request: &[u8]) -> usize
     }
     let answer = checker::check(&request[5..table_end], &request[trace_start..end]);
     let mut out = [0u8; 10];
-    write::verdict(&mut out, 0, verdicts::of_check(answer));
+    write::told(&mut out, 0, checked::told(answer));
     io::write_all(STDOUT_FILENO, &out);
     end
 }

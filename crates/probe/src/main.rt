@@ -2,9 +2,9 @@
 // of this repository on wild inputs. A request is a letter and what is asked; one that is unknown or cut is answered by the byte 255, and
 // ends the run. Numbers are little-endian.
 mod answers;
+mod checked;
 mod put;
 mod read;
-mod verdicts;
 mod write;
 
 use libc::STDIN_FILENO;
@@ -14,13 +14,6 @@ ghost use Prim.Native.Nat.{_≤_, min};
 ghost use lib.ListN.{length};
 
 const INPUT_LIMIT: usize = 1_048_576;
-
-// What a slot or a check says: 01's number, and the row and the time that it names.
-struct Verdict {
-    number: u8,
-    row: u8,
-    time: u64,
-}
 
 fn main() {
     let mut input = room();

@@ -1,8 +1,8 @@
 // Values written into a lent answer. Each function writes from a place on, and says the place behind.
-use crate::Verdict;
 use crate::put;
 use counts::Quanta;
 use dispatcher::State;
+use dispatcher::Told;
 use table::Row;
 use table::Table;
 ghost use mathlib.Core.Path.{_≡_};
@@ -32,13 +32,13 @@ pub(crate) fn window(out: &mut [u8], answer: windows::Answer)
     }
 }
 
-pub(crate) fn verdict(out: &mut [u8], at: usize, verdict: Verdict) -> usize
+pub(crate) fn told(out: &mut [u8], at: usize, told: Told) -> usize
     requires { ⌜ at + 10 ≤ length (now out) ⌝ }
     ensures { λ r. ⌜ r ≡ at + 10 ⌝ }
 {
-    let past_number = put::byte(out, at, verdict.number);
-    let past_row = put::byte(out, past_number, verdict.row);
-    put::long(out, past_row, verdict.time)
+    let past_number = put::byte(out, at, told.number);
+    let past_row = put::byte(out, past_number, told.row);
+    put::long(out, past_row, told.time)
 }
 
 pub(crate) fn state(out: &mut [u8], at: usize, state: State) -> usize
