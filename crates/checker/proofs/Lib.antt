@@ -1,3 +1,4 @@
+pub mod Said
 pub mod Sound
 pub mod Rows
 pub mod Passes

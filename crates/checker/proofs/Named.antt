@@ -1,23 +1,23 @@
 -- The rows that a record names: whether their numbers are bad, and what is done with them if they are not. Assumes nothing.
-use Prim.Native.Nat.{ℕ, zero, suc, _+_, _≤_, _<_}
+use Prim.Native.Nat.{ℕ, _+_, _≤_, _<_}
 use mathlib.Core.Path.{_≡_, refl, sym, ap, subst, _∙_}
-use mathlib.Core.List.{List, [], _∷_}
+use mathlib.Core.List.{List, _∷_}
 use mathlib.Core.Bool.{Bool, true, false, cond, not, _&&_, _||_, false≢true}
-use native.Mathlib.Decide.{ℕ-discrete}
+use native.Mathlib.Decide.{ℕ-discrete, decLt}
 use native.Mathlib.Numerals.{add-one}
 use native.Mathlib.Omega.{arith}
-use borrow.Author.Tests.{lt-ltb, le-ltb, eq-eqb, ne-eqb, ltb-true, ltb-false, not-false}
-use lib.Dec.{ltb, eqb}
-use lib.ListN.{length, getD, take, drop, set, length-set, length-take, length-drop, drop-of-length-le}
-use lib.Seq.{drop-cons, take-suc, take-all, getD-set-same, getD-set-other, getD-take, getD-drop}
+use borrow.Author.Tests.{lt-ltb, le-ltb, eq-eqb, ne-eqb}
+use lib.ListN.{length, getD, take, drop, set, length-set, length-take, length-drop, take-append-drop, drop-of-length-le}
+use lib.Seq.{drop-cons, length-take-le, take-all, getD-set-same, getD-set-other, getD-take, getD-drop}
 use Rattle.facts.specs.First.{Lowest}
-use Rattle.facts.proofs.Tests.{neither-holds, or-true, or-false}
+use Rattle.facts.proofs.Tests.{or-true, or-false}
 use Rattle.fields.specs.Fields.{byte}
 use Rattle.counts.specs.Limits.{kept}
 use Rattle.trace.specs.Records.{names}
-use Rattle.trace.proofs.Records.{names-either}
+use Rattle.trace.proofs.Names.{names-nothing, names-either, named-at, not-named, named-one-more}
 use Rattle.checker.specs.Causes.{badRows}
 use Rattle.checker.specs.Walking.{quantaAt, GaveNamed}
+use Rattle.checker.proofs.Sound.{rising-exactly}
 
 -- the c numbers from a place on, and the j-th of them
 pub how-many-rows : (s : List ℕ) (first c : ℕ) → first + c ≤ length s → length (take c (drop first s)) ≡ c
@@ -60,65 +60,6 @@ module _ (rows : List ℕ) (n : ℕ) where
   unfolding badRows
   none-bad {j = j} so h = sym (so .rest ∙ rw (drop-of-length-le rows {i = j} h) refl)
 
--- Numbers that are not bad: the first is below n and no less than it may be, and so are the others behind it.
-parts : (n least row : ℕ) (rows : List ℕ) → badRows n least (row ∷ rows) ≡ false → (row < n) × (least ≤ row) × (badRows n (row + 1) rows ≡ false)
-unfolding badRows
-parts n least row rows h =
-    let a = neither-holds (not (ltb row n) || ltb row least) (badRows n (row + 1) rows) h in
-    let b = neither-holds (not (ltb row n)) (ltb row least) (a .0) in
-    (ltb-true row n (not-false (ltb row n) (b .0)), ltb-false row least (b .1), a .1)
-
--- Each of them lies between,
-between : (n least : ℕ) (rows : List ℕ) → badRows n least rows ≡ false → (j : ℕ) → j < length rows → (least ≤ getD rows j 0) × (getD rows j 0 < n)
-between n least [] h j l = absurd (omega arith)
-between n least (row ∷ rows) h zero l = let p = parts n least row rows h in (p .1, p .0)
-between n least (row ∷ rows) h (suc j) l =
-    let p = parts n least row rows h in
-    let rest = between n (row + 1) rows (p .2) j (omega arith) in
-    (omega (arith, p .1, rest .0), rest .1)
-
--- so none below the least is named.
-none-below : (n least : ℕ) (rows : List ℕ) → badRows n least rows ≡ false → (i : ℕ) → i < least → names rows i ≡ false
-unfolding names
-none-below n least [] h i l = refl
-none-below n least (row ∷ rows) h i l =
-    let p = parts n least row rows h in
-    rw (ne-eqb row i (λ e. omega (arith, p .1, l, e)), none-below n (row + 1) rows (p .2) i (omega (arith, p .1))) refl
-
--- What is named below the j-th is among the first j,
-named-before : (n least : ℕ) (rows : List ℕ) → badRows n least rows ≡ false → (j : ℕ) → j < length rows → (i : ℕ) → i < getD rows j 0 → names rows i ≡ names (take j rows) i
-unfolding names
-named-before n least [] h j l i b = absurd (omega arith)
-named-before n least (row ∷ rows) h zero l i b =
-    let p = parts n least row rows h in
-    rw (ne-eqb row i (λ e. omega (arith, b, e)), none-below n (row + 1) rows (p .2) i (omega arith)) refl
-named-before n least (row ∷ rows) h (suc j) l i b =
-    ap (λ x. eqb row i || x) (named-before n (row + 1) rows (parts n least row rows h .2) j (omega arith) i b)
-
--- the j-th is named,
-is-named : (rows : List ℕ) (j : ℕ) → j < length rows → names rows (getD rows j 0) ≡ true
-unfolding names
-is-named [] j l = absurd (omega arith)
-is-named (row ∷ rows) zero l = rw (eq-eqb row row refl) refl
-is-named (row ∷ rows) (suc j) l = ap (λ x. eqb row (getD rows j 0) || x) (is-named rows j (omega arith)) ∙ or-true (eqb row (getD rows j 0))
-
--- and not among the first j.
-not-named-yet : (n least : ℕ) (rows : List ℕ) → badRows n least rows ≡ false → (j : ℕ) → j < length rows → names (take j rows) (getD rows j 0) ≡ false
-unfolding names
-not-named-yet n least [] h j l = absurd (omega arith)
-not-named-yet n least (row ∷ rows) h zero l = refl
-not-named-yet n least (row ∷ rows) h (suc j) l =
-    let p = parts n least row rows h in
-    let above = between n (row + 1) rows (p .2) j (omega arith) .0 in
-    rw (ne-eqb row (getD rows j 0) (λ e. omega (arith, above, e)), not-named-yet n (row + 1) rows (p .2) j (omega arith)) refl
-
--- one row more
-named-one-more : (rows : List ℕ) (j i : ℕ) → j < length rows → names (take (j + 1) rows) i ≡ names (take j rows) i || eqb (getD rows j 0) i
-unfolding names
-named-one-more rows j i l =
-    ap (λ x. names x i) (ap (λ k. take k rows) (add-one j) ∙ take-suc rows j 0 l)
-    ∙ (names-either (take j rows) (getD rows j 0 ∷ []) i ∙ ap (λ b. names (take j rows) i || b) (or-false (eqb (getD rows j 0) i)))
-
 -- For the loop that looks for a named row that fails a test: the first j pass.
 pub record PassSoFar (rows : List ℕ) (a : ℕ → Bool) (j : ℕ) : Type 0 where
   pub within : j ≤ length rows
@@ -130,9 +71,35 @@ pub record GaveSoFar (rows : List ℕ) (before after : List ℕ) (j : ℕ) : Typ
   pub gave : GaveNamed (take j rows) before after
 
 module _ (rows : List ℕ) (n : ℕ) (rise : badRows n 0 rows ≡ false) where
-  -- A row that is named is below n.
+  -- A row that is named is below n,
   pub named-is-below : (j : ℕ) → j < length rows → getD rows j 0 < n
-  named-is-below j l = between n 0 rows rise j l .1
+  named-is-below = rising-exactly n rows .0 rise .0
+
+  -- no row behind the j-th is lower,
+  none-lower-behind : (j k : ℕ) → j + k < length rows → getD rows j 0 ≤ getD rows (j + k) 0
+  none-lower-behind j k l = go (decLt j (j + k))
+    where
+      go : Dec (j < j + k) → getD rows j 0 ≤ getD rows (j + k) 0
+      go (yes b) = omega (arith, rising-exactly n rows .0 rise .1 j (j + k) b l)
+      go (no b) = omega (arith, ap (λ i. getD rows i 0) {x = j + k} {y = j} (omega arith))
+
+  -- so what is named below the j-th is among the first j,
+  named-before : (j : ℕ) → j < length rows → (i : ℕ) → i < getD rows j 0 → names rows i ≡ names (take j rows) i
+  named-before j l i b =
+      ap (λ x. names x i) (sym (take-append-drop j rows))
+      ∙ (names-either (take j rows) (drop j rows) i ∙ (ap (λ x. names (take j rows) i || x) (not-named (drop j rows) i behind) ∙ or-false (names (take j rows) i)))
+    where
+      behind : (k : ℕ) → k < length (drop j rows) → getD (drop j rows) k 0 ≡ i → ⊥
+      behind k h e = omega (arith, length-drop j rows, getD-drop j rows k 0, none-lower-behind j k (omega (arith, length-drop j rows)))
+
+  -- and the j-th is not among them.
+  not-named-yet : (j : ℕ) → j < length rows → names (take j rows) (getD rows j 0) ≡ false
+  not-named-yet j l = not-named (take j rows) (getD rows j 0) before
+    where
+      before : (k : ℕ) → k < length (take j rows) → getD (take j rows) k 0 ≡ getD rows j 0 → ⊥
+      before k h e =
+          let b : k < j = omega (arith, length-take-le j rows (omega arith)) in
+          omega (arith, getD-take j rows k 0 b, rising-exactly n rows .0 rise .1 k j b l)
 
   -- the j-th row is among the first j + 1, and any other exactly if it is among the first j
   own-named : (j : ℕ) → j < length rows → names (take (j + 1) rows) (getD rows j 0) ≡ true
@@ -152,8 +119,7 @@ module _ (rows : List ℕ) (n : ℕ) (rise : badRows n 0 rows ≡ false) where
 
     -- It begins,
     pub passing-begins : PassSoFar rows a 0
-    unfolding names
-    passing-begins = record { within = omega arith; pass = λ i h. absurd (false≢true h) }
+    passing-begins = record { within = omega arith; pass = λ i h. absurd (false≢true (sym (names-nothing i) ∙ h)) }
 
     module _ {j : ℕ} (so : PassSoFar rows a j) (l : j < length rows) where
       -- goes on past a row that passes,
@@ -170,11 +136,11 @@ module _ (rows : List ℕ) (n : ℕ) (rise : badRows n 0 rows ≡ false) where
           record {
             within = omega (arith, named-is-below j l);
             passes = λ _. rw (named, h) refl;
-            none-before = λ i b. not-failing i _ (named-before n 0 rows rise j l i b) (so .pass i);
+            none-before = λ i b. not-failing i _ (named-before j l i b) (so .pass i);
           }
         where
           named : names rows (getD rows j 0) ≡ true
-          named = is-named rows j l
+          named = named-at rows j l
 
     -- or at the end, where none does.
     pub none-fails : {j : ℕ} → PassSoFar rows a j → length rows ≤ j → Lowest fails n n
@@ -188,12 +154,11 @@ module _ (rows : List ℕ) (n : ℕ) (rise : badRows n 0 rows ≡ false) where
   module _ (before : List ℕ) where
     -- Giving begins with nothing given,
     pub giving-begins : GaveSoFar rows before before 0
-    unfolding names
-    giving-begins = record { within = omega arith; gave = record { places = refl; each = λ i. refl } }
+    giving-begins = record { within = omega arith; gave = record { places = refl; each = λ i. rw (names-nothing i) refl } }
 
     -- has not come to the row that is next,
     pub not-given-yet : {after : List ℕ} {j row : ℕ} → GaveSoFar rows before after j → j < length rows → row ≡ getD rows j 0 → quantaAt after row ≡ quantaAt before row
-    not-given-yet {j = j} {row = row} so l same = so .gave .each row ∙ rw (same, not-named-yet n 0 rows rise j l) refl
+    not-given-yet {j = j} {row = row} so l same = so .gave .each row ∙ rw (same, not-named-yet j l) refl
 
     -- goes on row by row,
     pub gives-one-more : {after : List ℕ} {j row : ℕ} → GaveSoFar rows before after j → j < length rows → row ≡ getD rows j 0 → row < length after → (v : ℕ) →

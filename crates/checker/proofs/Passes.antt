@@ -1,23 +1,24 @@
 -- When a trace passes, and what is answered where it does not: of a table value. crates/demands says it of the bytes of a table. Assumes nothing.
 use Prim.Native.Nat.{ℕ, zero, suc, _+_, _≤_, _<_}
-use mathlib.Core.Path.{_≡_, refl, sym, ap, subst}
-use mathlib.Core.List.{List, [], _∷_, _++_}
+use mathlib.Core.Path.{_≡_, refl, ap}
+use mathlib.Core.List.{List}
 use mathlib.Core.Bool.{true}
 use mathlib.Core.Logic.{_↔_, _⊎_, inl, inr, ⊎-elim}
 use native.Mathlib.Omega.{arith}
 use lib.ListN.{length}
-use Rattle.facts.specs.Findings.{Finding, FirstFound}
-use Rattle.facts.proofs.Findings.{first-is-said, said-is-first, none-says-otherwise, none-or-first}
+use Rattle.facts.specs.Findings.{FirstFound}
+use Rattle.facts.proofs.Findings.{said-exactly}
 use Rattle.table.specs.declared.Table.{Table}
 use Rattle.table.specs.Value.{faultOf, rowsOf}
 use Rattle.table.specs.Bytes.{tableNumber, tableIn}
 use Rattle.pd2.specs.Share.{within}
 use Rattle.pd2.specs.Choice.{rowAt}
 use Rattle.trace.specs.Records.{slotsIn, timesNamed}
-use Rattle.trace.specs.Said.{Said, bare, named}
-use Rattle.checker.specs.Check.{recordFindings, recordsFindings, traceFindings, traceSaid, checkBy, checkOf}
+use Rattle.trace.specs.Said.{Said, bare}
+use Rattle.checker.specs.Check.{traceFindings, traceSaid, checkBy, checkOf}
 use Rattle.checker.specs.WellFormed.{WellFormed}
 use Rattle.checker.specs.Passes.{Passes, InWindows}
+use Rattle.checker.proofs.Said.{passes-or-says}
 use Rattle.checker.proofs.Sound.{passes-exactly}
 use Rattle.checker.proofs.Rows.{within-after, within-was-ready, within-not-late, in-time-is-allowed, in-time-is-held, allowed-was-ready, held-not-late}
 
@@ -25,7 +26,7 @@ use Rattle.checker.proofs.Rows.{within-after, within-was-ready, within-
 pub numbers-are-first-found : (table : Table) (s : List ℕ) (x : Said) → (x .number ≡ 0 → ⊥) → (traceSaid table s ≡ x) ↔ FirstFound (traceFindings table s) x
 unfolding traceSaid
 numbers-are-first-found table s x numbered =
-    (said-is-first (bare 0) (traceFindings table s) (λ e. numbered (ap (λ y. y .number) e)), first-is-said (bare 0))
+    said-exactly (bare 0) (traceFindings table s) (λ e. numbered (ap (λ y. y .number) e))
 
 -- The table is judged first: its refusal is answered, and else what the trace says.
 pub judges-table-first : (bytes s : List ℕ) →
@@ -36,71 +37,6 @@ judges-table-first bytes s = go (tableNumber bytes)
     go : (n : ℕ) → ((n ≡ 0 → ⊥) → checkBy n bytes s ≡ bare n) × (n ≡ 0 → checkBy n bytes s ≡ traceSaid (tableIn bytes) s)
     go zero = (λ other. absurd (other refl), λ e. refl)
     go (suc n) = (λ other. refl, λ e. absurd (omega arith))
-
--- what a finding says of a trace: a number of 40 to 47, and row and time are 0 except with 44 and 45
-record Sayable (x : Said) : Type 0 where
-  range : (40 ≤ x .number) × (x .number ≤ 47)
-  bare-else : (x .number ≡ 44 → ⊥) → (x .number ≡ 45 → ⊥) → x ≡ bare (x .number)
-
--- each finding of a list says such a thing
-data Says : List (Finding Said) → Type 0 where
-  end : Says []
-  next : {f : Finding Said} {fs : List (Finding Said)} → Sayable (f .answer) → Says fs → Says (f ∷ fs)
-
--- So do joined lists,
-says-joined : {a b : List (Finding Said)} → Says a → Says b → Says (a ++ b)
-says-joined Says.end q = q
-says-joined (Says.next x p) q = Says.next x (says-joined p q)
-
--- and so does the first that is found.
-first-is-sayable : {fs : List (Finding Said)} {x : Said} → Says fs → FirstFound fs x → Sayable x
-first-is-sayable (Says.next x p) (FirstFound.here c) = x
-first-is-sayable (Says.next x p) (FirstFound.later c first) = first-is-sayable p first
-
--- A number alone can be said,
-alone : (k : ℕ) → 40 ≤ k → k ≤ 47 → Sayable (bare k)
-alone k l h = record { range = (l, h); bare-else = λ a b. refl }
-
--- 44 with any row and time,
-with-44 : (row time : ℕ) → Sayable (named 44 row time)
-with-44 row time = record { range = (omega arith, omega arith); bare-else = λ a b. absurd (a refl) }
-
--- and so can 45.
-with-45 : (row time : ℕ) → Sayable (named 45 row time)
-with-45 row time = record { range = (omega arith, omega arith); bare-else = λ a b. absurd (b refl) }
-
-module _ (table : Table) (s : List ℕ) where
-  -- All that is looked for in a record says such a thing,
-  record-says : (t : ℕ) → Says (recordFindings table s t)
-  record-says t =
-      Says.next (alone 40 (omega arith) (omega arith))
-      (Says.next (alone 41 (omega arith) (omega arith))
-      (Says.next (alone 42 (omega arith) (omega arith))
-      (Says.next (alone 40 (omega arith) (omega arith))
-      (Says.next (alone 43 (omega arith) (omega arith))
-      (Says.next (with-44 _ t) (Says.next (with-45 _ (t + 1)) Says.end))))))
-
-  -- in records,
-  records-say : (t m : ℕ) → Says (recordsFindings table s t m)
-  unfolding recordsFindings
-  records-say t zero = Says.end
-  records-say t (suc m) = says-joined (record-says t) (records-say (t + 1) m)
-
-  -- and in a trace,
-  trace-says : Says (traceFindings table s)
-  trace-says =
-      Says.next (alone 40 (omega arith) (omega arith))
-      (Says.next (alone 47 (omega arith) (omega arith))
-      (says-joined (records-say 0 (slotsIn s)) (Says.next (alone 46 (omega arith) (omega arith)) Says.end)))
-
-  -- so a trace passes or is answered with such a thing.
-  passes-or-says : (traceSaid table s ≡ bare 0) ⊎ Sayable (traceSaid table s)
-  unfolding traceSaid
-  passes-or-says =
-      ⊎-elim
-      (λ none. inl (none-says-otherwise (bare 0) none))
-      (λ one. inr (subst Sayable (sym (first-is-said (bare 0) (one .1))) (first-is-sayable trace-says (one .1))))
-      (none-or-first (traceFindings table s))
 
 -- Of a trace no other number is answered than 0 and 40 to 47,
 pub trace-numbers : (table : Table) (s : List ℕ) → let number = traceSaid table s .number in (number ≡ 0) ⊎ ((40 ≤ number) × (number ≤ 47))

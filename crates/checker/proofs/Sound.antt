@@ -1,29 +1,29 @@
 -- A trace passes exactly if it is well formed and each slot is in time: what the findings of the check mean. Assumes nothing.
 use Prim.Native.Nat.{ℕ, zero, suc, _+_, _≤_, _<_}
-use mathlib.Core.Path.{_≡_, refl, sym, ap, _∙_}
-use mathlib.Core.List.{List, [], _∷_, _++_}
+use mathlib.Core.Path.{_≡_, refl}
+use mathlib.Core.List.{List, [], _∷_}
 use mathlib.Core.Bool.{Bool, true, false, not, _&&_, _||_}
-use mathlib.Core.Logic.{_↔_, _⊎_, inl, inr}
+use mathlib.Core.Logic.{_↔_}
 use native.Mathlib.Decide.{decLt}
 use native.Mathlib.Omega.{arith}
 use borrow.Author.Tests.{ltb-true, ltb-false, lt-ltb, le-ltb, not-false}
 use lib.Dec.{ltb}
 use lib.ListN.{length, getD}
 use Rattle.facts.specs.Counting.{those}
-use Rattle.facts.specs.Findings.{Finding, FirstFound, NoneFound}
-use Rattle.facts.proofs.Findings.{none-says-otherwise, first-is-said, none-or-first, none-joined, none-apart}
-use Rattle.facts.proofs.Tests.{both, hold-both, neither-holds}
+use Rattle.facts.specs.Findings.{NoneFound}
+use Rattle.facts.proofs.Findings.{none-joined, none-apart}
+use Rattle.facts.proofs.Tests.{neither-holds}
 use Rattle.facts.proofs.Counting.{none-if, each-fails, listed-pass, listed-rise}
 use Rattle.table.specs.declared.Table.{Table}
 use Rattle.table.specs.Value.{rowsOf}
 use Rattle.pd2.specs.Ready.{ready, late}
 use Rattle.pd2.specs.Choice.{rowAt}
 use Rattle.trace.specs.Records.{names, slotsIn, placeIn, rowsOfSlot, timesNamed}
-use Rattle.trace.specs.Said.{Said, bare}
 use Rattle.checker.specs.Causes.{badRows, RisingExactly, tooEarly, tooLate, extra}
-use Rattle.checker.specs.Check.{shapeAt, timeFindings, recordFindings, recordsFindings, lastFindings, traceFindings, traceSaid}
+use Rattle.checker.specs.Check.{shapeAt, timeFindings, recordFindings, recordsFindings, lastFindings, traceFindings}
 use Rattle.checker.specs.WellFormed.{SoundRecord, WellFormed}
 use Rattle.checker.specs.Passes.{Passes}
+use Rattle.checker.proofs.Said.{passes-where-none-found}
 
 -- Slot t is in time: each row that it names was ready, and at its end no row is late.
 pub record InTime (table : Table) (s : List ℕ) (t : ℕ) : Type 0 where
@@ -80,46 +80,7 @@ rising-exactly n rows = (
 pub listed-not-bad : (a : ℕ → Bool) (n : ℕ) → badRows n 0 (those a n) ≡ false
 listed-not-bad a n = rising-exactly n (those a n) .1 (λ j l. listed-pass a n j 0 l .0, λ i j. listed-rise a n i j 0)
 
--- All that may be said has a number.
-unfoldable numbered : List (Finding Said) → Bool
-numbered [] = true
-numbered (f ∷ fs) = ltb 0 (f .answer .number) && numbered fs
-
--- So it is of joined lists,
-both-numbered : (a b : List (Finding Said)) → numbered a ≡ true → numbered b ≡ true → numbered (a ++ b) ≡ true
-unfolding numbered
-both-numbered [] b p q = q
-both-numbered (f ∷ a) b p q = let x = both (ltb 0 (f .answer .number)) (numbered a) p in hold-both (x .0) (both-numbered a b (x .1) q)
-
--- and then what is found first has a number.
-first-has-number : {fs : List (Finding Said)} {x : Said} → numbered fs ≡ true → FirstFound fs x → 0 < x .number
-unfolding numbered
-first-has-number {fs = f ∷ fs} h (FirstFound.here c) = ltb-true 0 (f .answer .number) (both (ltb 0 (f .answer .number)) (numbered fs) h .0)
-first-has-number {fs = f ∷ fs} h (FirstFound.later c first) = first-has-number (both (ltb 0 (f .answer .number)) (numbered fs) h .1) first
-
 module _ (table : Table) (s : List ℕ) where
-  -- all that may be said of records has a number,
-  records-numbered : (t m : ℕ) → numbered (recordsFindings table s t m) ≡ true
-  unfolding recordsFindings numbered
-  records-numbered t zero = refl
-  records-numbered t (suc m) = both-numbered (recordFindings table s t) (recordsFindings table s (t + 1) m) refl (records-numbered (t + 1) m)
-
-  -- and so has all that may be said of a trace
-  trace-numbered : numbered (traceFindings table s) ≡ true
-  unfolding numbered
-  trace-numbered = both-numbered (recordsFindings table s 0 (slotsIn s)) (lastFindings s) (records-numbered 0 (slotsIn s)) refl
-
-  -- A trace passes exactly if nothing is found in it.
-  pub passes-where-none-found : Passes table s ↔ NoneFound (traceFindings table s)
-  unfolding traceSaid
-  passes-where-none-found = (λ e. go e (none-or-first (traceFindings table s)), none-says-otherwise (bare 0))
-    where
-      go : traceSaid table s ≡ bare 0 → NoneFound (traceFindings table s) ⊎ ((x : Said) × FirstFound (traceFindings table s) x) → NoneFound (traceFindings table s)
-      go e (inl none) = none
-      go e (inr one) =
-          let same : one .0 .number ≡ 0 = ap (λ x. x .number) (sym (first-is-said (bare 0) (one .1)) ∙ e) in
-          absurd (omega (arith, first-has-number trace-numbered (one .1)))
-
   -- Nothing is found in the shape of a record exactly if it is sound.
   pub none-in-shape : (place : ℕ) → NoneFound (shapeAt (table .cores) (length (rowsOf table)) s place) ↔ SoundRecord table s place
   none-in-shape place = (
@@ -180,7 +141,7 @@ module _ (table : Table) (s : List ℕ) where
 
   -- A trace passes exactly if it is well formed and each of its slots is in time.
   pub passes-exactly : Passes table s ↔ (WellFormed table s × ((t : ℕ) → t < slotsIn s → InTime table s t))
-  passes-exactly = (λ e. to (passes-where-none-found .0 e), λ x. passes-where-none-found .1 (from (x .0) (x .1)))
+  passes-exactly = (λ e. to (passes-where-none-found table s .0 e), λ x. passes-where-none-found table s .1 (from (x .0) (x .1)))
     where
       to : NoneFound (traceFindings table s) → WellFormed table s × ((t : ℕ) → t < slotsIn s → InTime table s t)
       to (NoneFound.later a (NoneFound.later b rest)) =

@@ -1,12 +1,12 @@
 -- Going through a trace, record after record. Assumes nothing.
 use Prim.Native.Nat.{ℕ, _+_, _-_, _≤_, _<_}
 use mathlib.Core.Path.{_≡_, refl, sym, ap, _∙_}
-use mathlib.Core.List.{List, _++_, append-assoc}
+use mathlib.Core.List.{List, append-assoc}
 use native.Mathlib.Omega.{arith}
 use borrow.Author.Tests.{lt-ltb, le-ltb}
 use native.Mathlib.Decide.{decLt}
 use lib.ListN.{length, replicate, getD-replicate, length-replicate, List·getD-eq-default}
-use Rattle.facts.specs.Findings.{firstFound, FirstFound, NoneFound}
+use Rattle.facts.specs.Findings.{_then_, firstFound, FirstFound, NoneFound}
 use Rattle.facts.proofs.Findings.{first-is-said, none-says-otherwise, after-none, first-in-front}
 use Rattle.facts.proofs.Counting.{none-counted}
 use Rattle.facts.proofs.Filling.{one-left-more}
@@ -35,7 +35,7 @@ module _ (table : Table) (s : List ℕ) where
     pub within : t ≤ slots
     pub slot-count : slots ≡ slotsIn s
     pub few : slots ≤ slotLimit
-    pub rest : traceSaid table s ≡ firstFound (bare 0) (recordsFindings table s t (slots - t) ++ lastFindings s)
+    pub rest : traceSaid table s ≡ firstFound (bare 0) (recordsFindings table s t (slots - t) then lastFindings s)
 
   -- A trace without its count is cut,
   pub slot-count-is-cut : length s < 4 → bare 40 ≡ traceSaid table s
@@ -69,15 +69,15 @@ module _ (table : Table) (s : List ℕ) where
           slot-count = e;
           few = few;
           rest =
-              after-none (bare 0) (recordsFindings table s 0 (slotsIn s) ++ lastFindings s)
+              after-none (bare 0) (recordsFindings table s 0 (slotsIn s) then lastFindings s)
               (NoneFound.later (le-ltb (length s) 4 there) (NoneFound.later (le-ltb slotLimit (slotsIn s) (omega arith)) NoneFound.end))
-              ∙ ap (λ m. firstFound (bare 0) (recordsFindings table s 0 m ++ lastFindings s)) {x = slotsIn s} {y = slots - 0} (omega arith);
+              ∙ ap (λ m. firstFound (bare 0) (recordsFindings table s 0 m then lastFindings s)) {x = slotsIn s} {y = slots - 0} (omega arith);
         }
 
   module _ {slots t : ℕ} {at : ℕ} {counts dues : List ℕ} (so : Come slots t at counts dues) (more : t < slots) where
-    left : traceSaid table s ≡ firstFound (bare 0) ((recordFindings table s t ++ recordsFindings table s (t + 1) (slots - (t + 1))) ++ lastFindings s)
+    left : traceSaid table s ≡ firstFound (bare 0) ((recordFindings table s t then recordsFindings table s (t + 1) (slots - (t + 1))) then lastFindings s)
     unfolding recordsFindings
-    left = so .rest ∙ ap (λ m. firstFound (bare 0) (recordsFindings table s t m ++ lastFindings s)) (one-left-more more)
+    left = so .rest ∙ ap (λ m. firstFound (bare 0) (recordsFindings table s t m then lastFindings s)) (one-left-more more)
 
     -- What is found in a record is said,
     pub record-says : {x : Said} → FirstFound (recordFindings table s t) x → x ≡ traceSaid table s
@@ -94,13 +94,13 @@ module _ (table : Table) (s : List ℕ) where
           rest =
               left
               ∙ (ap (firstFound (bare 0)) (append-assoc (recordFindings table s t) (recordsFindings table s (t + 1) (slots - (t + 1))) (lastFindings s))
-              ∙ after-none (bare 0) (recordsFindings table s (t + 1) (slots - (t + 1)) ++ lastFindings s) (walked .none));
+              ∙ after-none (bare 0) (recordsFindings table s (t + 1) (slots - (t + 1)) then lastFindings s) (walked .none));
         }
 
   module _ {slots t : ℕ} {at : ℕ} {counts dues : List ℕ} (so : Come slots t at counts dues) (end : slots ≤ t) where
     last : traceSaid table s ≡ firstFound (bare 0) (lastFindings s)
     unfolding recordsFindings
-    last = so .rest ∙ ap (λ m. firstFound (bare 0) (recordsFindings table s t m ++ lastFindings s)) {x = slots - t} {y = 0} (omega arith)
+    last = so .rest ∙ ap (λ m. firstFound (bare 0) (recordsFindings table s t m then lastFindings s)) {x = slots - t} {y = 0} (omega arith)
 
     place-is : at ≡ placeOf s firstPlace (slotsIn s)
     place-is = so .reached .place ∙ ap (placeOf s firstPlace) (omega (arith, so .within, so .slot-count))

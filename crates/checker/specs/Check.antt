@@ -1,10 +1,10 @@
 -- The trace check (01, "What comes back"): "The checker judges the table first and answers its refusal without reading the trace. Then the
 -- trace from the front".
 use Prim.Native.Nat.{ℕ, zero, suc, _+_}
-use mathlib.Core.List.{List, [], _∷_, _++_}
+use mathlib.Core.List.{List, [], _∷_}
 use lib.ListN.{length}
 use Rattle.facts.specs.Zero.{if0}
-use Rattle.facts.specs.Findings.{Finding, _says_, firstFound}
+use Rattle.facts.specs.Findings.{Finding, _says_, _then_, firstFound}
 use Rattle.table.specs.declared.Table.{Table}
 use Rattle.table.specs.Value.{rowsOf}
 use Rattle.table.specs.Bytes.{tableNumber, tableIn}
@@ -32,14 +32,14 @@ timeFindings table s t =
 
 -- both, for the record of slot t
 abbrev pub recordFindings : Table → List ℕ → ℕ → List (Finding Said)
-recordFindings table s t = shapeAt (table .cores) (length (rowsOf table)) s (placeIn s t) ++ timeFindings table s t
+recordFindings table s t = shapeAt (table .cores) (length (rowsOf table)) s (placeIn s t) then timeFindings table s t
 
 -- in the records of m slots from slot t on
 unfoldable pub recordsFindings : Table → List ℕ → ℕ → ℕ → List (Finding Said)
 recordsFindings table s t zero = []
 recordsFindings table s t (suc m) =
     let later = recordsFindings table s (t + 1) m in
-    recordFindings table s t ++ later
+    recordFindings table s t then later
 
 -- "40 for the count, 47 ..": before the records
 abbrev pub slotCountFindings : List ℕ → List (Finding Said)
@@ -51,7 +51,7 @@ lastFindings s = (extra s says bare 46) ∷ []
 
 -- all that is looked for in a trace, in order
 abbrev pub traceFindings : Table → List ℕ → List (Finding Said)
-traceFindings table s = slotCountFindings s ++ (recordsFindings table s 0 (slotsIn s) ++ lastFindings s)
+traceFindings table s = slotCountFindings s then recordsFindings table s 0 (slotsIn s) then lastFindings s
 
 unfoldable pub traceSaid : Table → List ℕ → Said
 traceSaid table s = firstFound (bare 0) (traceFindings table s)

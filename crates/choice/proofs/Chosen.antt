@@ -20,7 +20,7 @@ use Rattle.pd2.specs.Choice.{readyIn, goesBeforeBy}
 use Rattle.pd2.proofs.Verdicts.{yes-when-answered}
 use Rattle.trace.specs.Record.{marked}
 use Rattle.trace.specs.Records.{names}
-use Rattle.trace.proofs.Records.{listed-are-named}
+use Rattle.trace.proofs.Names.{listed-are-named}
 use Rattle.choice.specs.Arrays.{InPlace}
 use Rattle.choice.specs.Choice.{saysReadyIn, chosen, ChosenAsPd2}
 

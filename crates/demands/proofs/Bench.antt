@@ -3,8 +3,8 @@ use mathlib.Core.Path.{refl}
 use Rattle.facts.specs.Rounding.{ceilDiv}
 use Rattle.facts.specs.First.{atFirst}
 use Rattle.facts.specs.Counting.{howMany, those}
-use Rattle.facts.specs.Faults.{firstMet, rising}
 use Rattle.facts.specs.Findings.{firstFound}
+use Rattle.facts.specs.Rising.{rising}
 use Rattle.facts.specs.Places.{places, padded}
 use Rattle.windows.specs.Windows.{start, deadline, bit, windowLength, jobStart}
 use Rattle.windows.specs.Group.{heavy, stops, stopTime, groupDeadline}
@@ -28,5 +28,5 @@ use Rattle.demands.specs.RunPasses.{wordBytes}
 use Rattle.demands.specs.Bench.{same, allHold, BenchHolds}
 
 pub bench-holds : BenchHolds
-unfolding ceilDiv atFirst howMany those firstMet rising firstFound places padded start deadline bit windowLength jobStart heavy stops stopTime groupDeadline windowReply load faultOf tableNumber ready late lower upper before picked given withFront withRecord placeOf names broken refusal slotOf run badRows recordsFindings traceSaid checkOf wordBytes same allHold
+unfolding ceilDiv atFirst howMany those firstFound rising places padded start deadline bit windowLength jobStart heavy stops stopTime groupDeadline windowReply load faultOf tableNumber ready late lower upper before picked given withFront withRecord placeOf names broken refusal slotOf run badRows recordsFindings traceSaid checkOf wordBytes same allHold
 bench-holds = refl

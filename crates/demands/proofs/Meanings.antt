@@ -23,7 +23,7 @@ use Rattle.fields.specs.Fields.{byte}
 use Rattle.pd2.specs.Ready.{ready, late}
 use Rattle.trace.specs.Record.{recordOf, marked, withFront}
 use Rattle.trace.specs.Records.{placeOf, slotsIn, placeIn}
-use Rattle.trace.proofs.Records.{marked-are-named}
+use Rattle.trace.proofs.Names.{marked-are-named}
 use Rattle.trace.proofs.Found.{next-begins}
 use Rattle.dispatcher.specs.declared.State.{State}
 use Rattle.checker.specs.WellFormed.{WellFormed}

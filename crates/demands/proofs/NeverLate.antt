@@ -11,7 +11,8 @@ use lib.ListN.{length, replicate}
 use Rattle.facts.specs.Rounding.{ceilDiv}
 use Rattle.facts.specs.First.{atFirst}
 use Rattle.facts.specs.Counting.{howMany, those}
-use Rattle.facts.specs.Faults.{firstMet, rising}
+use Rattle.facts.specs.Findings.{firstFound}
+use Rattle.facts.specs.Rising.{rising}
 use Rattle.facts.specs.Places.{places, padded}
 use Rattle.counts.specs.Limits.{timeLimit}
 use Rattle.windows.specs.Windows.{start, deadline, bit, windowLength, jobStart}
@@ -31,7 +32,7 @@ use Rattle.pd2.specs.Choice.{rowAt, quantaAt, readyIn, goesBeforeBy, given}
 use Rattle.trace.specs.Record.{withFront, withRecord}
 use Rattle.trace.specs.Records.{names}
 use Rattle.trace.specs.Said.{bare, named}
-use Rattle.trace.proofs.Records.{listed-are-named}
+use Rattle.trace.proofs.Names.{listed-are-named}
 use Rattle.optimal.specs.Box.{Box}
 use Rattle.optimal.proofs.Box.{sum-is-load, table-is-box}
 use Rattle.optimal.proofs.NeverLate.{pd2-never-late}
@@ -177,11 +178,11 @@ module _ (table : Table) (c : ℕ) (sound : faultOf table ≡ 0) (few : load (ta
 
 -- The second slot of 01's example with one core free answers 1.
 late-with-one : run (tableIn example) (λ s. 1) (replicate 100 0) 0 2 .said ≡ named 1 2 2
-unfolding ceilDiv howMany those firstMet rising places padded start deadline bit windowLength jobStart heavy stops stopTime atFirst groupDeadline load faultOf tableNumber ready late lower upper before picked given withFront withRecord names broken refusal slotOf run
+unfolding ceilDiv howMany those firstFound rising places padded start deadline bit windowLength jobStart heavy stops stopTime atFirst groupDeadline load faultOf tableNumber ready late lower upper before picked given withFront withRecord names broken refusal slotOf run
 late-with-one = refl
 
 pub never-late : NeverLate
-unfolding tableNumber firstMet rising places padded load
+unfolding tableNumber firstFound rising places padded load
 never-late =
     record {
       all-cores = λ bytes e. let sound = taken-value-has-no-fault bytes e in never-late-with (tableIn bytes) (tableIn bytes .cores) sound (sum-is-within (tableIn bytes) sound);

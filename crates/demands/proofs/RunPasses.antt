@@ -9,7 +9,6 @@ use native.Mathlib.Numerals.{add-one}
 use native.Mathlib.Omega.{arith}
 use lib.ListN.{length, take, drop}
 use Rattle.facts.specs.First.{Lowest}
-use Rattle.facts.specs.Findings.{firstFound}
 use Rattle.facts.proofs.First.{same-lowest}
 use Rattle.table.specs.declared.Table.{Table}
 use Rattle.table.specs.Value.{faultOf, rowsOf}
@@ -28,9 +27,9 @@ use Rattle.dispatcher.proofs.Kept.{done-is-not-refused, goes, fault-answers-30}
 use Rattle.dispatcher.proofs.RunKept.{going, one-on, first-late, first-late-is-lowest, quanta-are-records}
 use Rattle.dispatcher.proofs.Written.{Written, written-going, written-last, shares-written, shares-before, ends-late}
 use Rattle.checker.specs.Causes.{slotLimit, tooLate}
-use Rattle.checker.specs.Check.{recordsFindings, traceSaid}
+use Rattle.checker.specs.Check.{traceSaid}
 use Rattle.checker.specs.WellFormed.{WellFormed}
-use Rattle.checker.proofs.Sound.{InTime}
+use Rattle.checker.proofs.Sound.{InTime, passes-exactly}
 use Rattle.checker.proofs.Rows.{within-was-ready, within-not-late}
 use Rattle.checker.proofs.Passes.{passes-in-shares, checked-as-table}
 use Rattle.checker.proofs.Late.{late-is-said}
@@ -179,13 +178,12 @@ module _ (table : Table) where
   unfolding wordBytes
   no-slots b = ap (λ rest. 0 ∷ 0 ∷ 0 ∷ 0 ∷ rest) (nothing-behind firstPlace b)
 
-  nothing-is-found : traceSaid table no-records ≡ bare 0
-  unfolding traceSaid firstFound recordsFindings placeOf
-  nothing-is-found = refl
-
   empty-is-well-formed : WellFormed table no-records
   unfolding placeOf
   empty-is-well-formed = record { slot-count = refl; limit = refl; records = λ t l. absurd (omega arith); end = refl }
+
+  nothing-is-found : traceSaid table no-records ≡ bare 0
+  nothing-is-found = passes-exactly table no-records .1 (empty-is-well-formed, λ t l. absurd (omega arith))
 
   empty-is-trace : (free : ℕ → ℕ) (buffer : List ℕ) → IsTrace table (run table free buffer firstPlace 0)
   unfolding run

@@ -8,8 +8,8 @@ use lib.ListN.{getD, replicate}
 use Rattle.facts.specs.Rounding.{ceilDiv}
 use Rattle.facts.specs.First.{atFirst}
 use Rattle.facts.specs.Counting.{howMany, those}
-use Rattle.facts.specs.Faults.{firstMet, rising}
 use Rattle.facts.specs.Findings.{firstFound}
+use Rattle.facts.specs.Rising.{rising}
 use Rattle.facts.specs.Places.{places, padded}
 use Rattle.windows.specs.Windows.{start, deadline, bit, windowLength, jobStart}
 use Rattle.windows.specs.Group.{heavy, stops, stopTime, groupDeadline}
@@ -25,6 +25,7 @@ use Rattle.pd2.specs.Choice.{given}
 use Rattle.trace.specs.Record.{withFront, withRecord}
 use Rattle.trace.specs.Records.{placeOf, rowsAt, names}
 use Rattle.trace.specs.Said.{bare, named}
+use Rattle.trace.proofs.Names.{named-at}
 use Rattle.dispatcher.specs.declared.State.{State}
 use Rattle.dispatcher.specs.State.{timeOf, freshOf}
 use Rattle.dispatcher.specs.Broken.{broken}
@@ -69,7 +70,7 @@ record Computed : Type 0 where
   can-again : Possible (freshOf (slot0 .state .table)) 2 blank 0
 
 computed : Computed
-unfolding allBelow rowsFit ceilDiv atFirst howMany those firstMet rising firstFound places padded start deadline bit windowLength jobStart heavy stops stopTime groupDeadline load faultOf tableNumber reading ready late lower upper before picked given withFront withRecord placeOf names broken refusal slotOf badRows recordsFindings traceSaid checkOf
+unfolding allBelow rowsFit ceilDiv atFirst howMany those firstFound rising places padded start deadline bit windowLength jobStart heavy stops stopTime groupDeadline load faultOf tableNumber reading ready late lower upper before picked given withFront withRecord placeOf names broken refusal slotOf badRows recordsFindings traceSaid checkOf
 computed =
     record {
       taken = refl;
@@ -112,8 +113,7 @@ module _ (slot : Dispatcher) (is : IsDispatcher slot) where
   rows-again = ap (λ b. rowsAt b 0) (is (freshOf (slot0 .state .table)) 2 blank 0 (computed .can-again) .2 ∙ computed .again) ∙ computed .rows0
 
   names1 : names (0 ∷ 1 ∷ []) 1 ≡ true
-  unfolding names
-  names1 = refl
+  names1 = named-at (0 ∷ 1 ∷ []) 1 (omega arith)
 
   -- Lists of rows are told apart by their second row, or 7 where there is none.
   second : List ℕ → ℕ

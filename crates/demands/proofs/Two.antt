@@ -17,7 +17,7 @@ use Rattle.pd2.proofs.Choice.{pd2-is-strict}
 use Rattle.choice.proofs.Chosen.{chosen-as-pd2}
 use Rattle.trace.specs.Records.{freeAt, rowsAt, names}
 use Rattle.trace.specs.Said.{bare}
-use Rattle.trace.proofs.Records.{listed-are-named}
+use Rattle.trace.proofs.Names.{listed-are-named}
 use Rattle.trace.proofs.Agree.{still-as-long, agrees-before, agrees-behind, free-written, rows-written}
 use Rattle.dispatcher.specs.State.{rowsIn, quantaIn, timeOf}
 use Rattle.dispatcher.specs.Slot.{picksIn}

@@ -6,15 +6,15 @@ use mathlib.Core.Bool.{Bool, true, false, cond}
 use mathlib.Core.Logic.{_↔_, _⊎_, inl, inr, ⊎-elim}
 use native.Mathlib.Decide.{decLt}
 use native.Mathlib.Omega.{arith}
-use lib.Dec.{ltb, eqb}
+use lib.Dec.{ltb}
 use lib.ListN.{length, length-map, List·getD-eq-default}
-use borrow.Author.Tests.{le-ltb, ltb-true, ltb-false, ne-eqb, eqb-false, not-false}
+use borrow.Author.Tests.{ltb-true, ltb-false, eqb-false, not-false}
 use Rattle.facts.specs.First.{Lowest}
-use Rattle.facts.specs.Faults.{_⇒_, firstMet, numbered}
+use Rattle.facts.specs.Findings.{NoneFound}
 use Rattle.facts.proofs.Tests.{both, hold-both, neither-holds}
 use Rattle.facts.proofs.First.{a-lowest}
 use Rattle.facts.proofs.Counting.{some-if, none-if, some-listed, each-fails, none-is-listed, lowest-is-first}
-use Rattle.facts.proofs.Faults.{neither, passed, answered-exactly}
+use Rattle.facts.proofs.Findings.{said-exactly, none-exactly, otherwise-or-such, in-range}
 use Rattle.counts.specs.Limits.{timeLimit}
 use Rattle.table.specs.declared.Row.{Row}
 use Rattle.table.specs.Limits.{rowLimit}
@@ -27,15 +27,16 @@ use Rattle.pd2.proofs.Share.{row-can-be, nothing-is-within, upper-kept-when-idl
 use Rattle.pd2.proofs.Picks.{picked-is-ready}
 use Rattle.pd2.proofs.Choice.{how-many-given, given-at}
 use Rattle.trace.specs.Records.{names}
-use Rattle.trace.proofs.Records.{listed-are-named}
+use Rattle.trace.proofs.Names.{listed-are-named}
 use Rattle.dispatcher.specs.declared.State.{State}
 use Rattle.dispatcher.specs.State.{rowsIn, quantaIn, timeOf, freshOf}
 use Rattle.dispatcher.specs.Broken.{ofRow, broken}
 use Rattle.trace.specs.Said.{bare}
 use Rattle.dispatcher.specs.Answer.{doneSaid}
-use Rattle.dispatcher.specs.Slot.{picksIn, recordIn, lateAt, lateIn, stepped, stoppedBy, lacksRoom, slotTests, refusal, doneReply, slotBy, slotOf}
+use Rattle.dispatcher.specs.Slot.{picksIn, recordIn, lateAt, lateIn, stepped, stoppedBy, slotTests, refusal, doneReply, slotBy, slotOf}
 use Rattle.dispatcher.specs.Kept.{RefusalsAreFirstCauses, RefusalChangesNothing, DoneMakesTheStep, UppersHold, After, DoneKeepsWhole, NextIsStopped, FreshIsWhole, FaultAnswers30}
 use Rattle.counts.proofs.Numbers.{as-many-numbers, as-counted}
+use Rattle.dispatcher.proofs.Refused.{has-room-for, first-30, first-31, by-room}
 use Rattle.dispatcher.proofs.Whole.{Whole, is-whole, is-not-broken, rows-have-places, nothing-given}
 
 -- A slot is done with 0 or 1.
@@ -44,33 +45,22 @@ done-number [] time = omega arith
 done-number (lowest ∷ others) time = omega arith
 
 module _ (s : State) (k : ℕ) (buffer : List ℕ) (place : ℕ) where
-  -- no refusal has the number 1
-  refusal-number : (refusal s k buffer place ≡ 0) ⊎ (1 < refusal s k buffer place)
-  unfolding refusal firstMet
-  refusal-number =
-      go (broken s) (s .stopped) (eqb (timeOf s) timeLimit) (ltb (s .table .cores) k) (lacksRoom buffer place (length (picksIn s k)))
-    where
-      go : (a b c d e : Bool) →
-          let first = firstMet ((a ⇒ 30) ∷ (b ⇒ 31) ∷ (c ⇒ 32) ∷ (d ⇒ 33) ∷ (e ⇒ 34) ∷ []) in
-          (first ≡ 0) ⊎ (1 < first)
-      go true b c d e = inr (omega arith)
-      go false true c d e = inr (omega arith)
-      go false false true d e = inr (omega arith)
-      go false false false true e = inr (omega arith)
-      go false false false false true = inr (omega arith)
-      go false false false false false = inl refl
-
   -- for callers
+
+  -- A refusal has one of the numbers 30 to 34.
+  pub refusal-numbers : (refusal s k buffer place ≡ 0) ⊎ ((30 ≤ refusal s k buffer place) × (refusal s k buffer place ≤ 34))
+  unfolding refusal
+  refusal-numbers = otherwise-or-such 0 (in-range 30 34 (slotTests s k buffer place) refl)
 
   -- A slot whose number is 0 or 1 was not refused,
   pub done-is-not-refused : slotOf s k buffer place .said .number < 2 → refusal s k buffer place ≡ 0
   unfolding slotOf
-  done-is-not-refused = go (refusal s k buffer place) refusal-number
+  done-is-not-refused = go (refusal s k buffer place) refusal-numbers
     where
-      go : (r : ℕ) → (r ≡ 0) ⊎ (1 < r) → slotBy r s k buffer place .said .number < 2 → r ≡ 0
+      go : (r : ℕ) → (r ≡ 0) ⊎ ((30 ≤ r) × (r ≤ 34)) → slotBy r s k buffer place .said .number < 2 → r ≡ 0
       go zero n h = refl
       go (suc r) (inl n) h = n
-      go (suc r) (inr n) h = absurd (omega arith)
+      go (suc r) (inr n) h = absurd (omega (arith, n .0))
 
   -- and one that was not refused makes the step.
   pub slot-done : refusal s k buffer place ≡ 0 → slotOf s k buffer place ≡ doneReply s k buffer place
@@ -90,30 +80,24 @@ module _ (s : State) (k : ℕ) (buffer : List ℕ) (place : ℕ) where
 
   -- Such a slot meets none of the causes.
   pub goes : refusal s k buffer place ≡ 0 → Goes
-  unfolding refusal firstMet
-  goes h =
-      let x₁ = neither (cond (broken s) 30 0) _ h in
-      let x₂ = neither (cond (s .stopped) 31 0) _ (x₁ .1) in
-      let x₃ = neither (cond (eqb (timeOf s) timeLimit) 32 0) _ (x₂ .1) in
-      let x₄ = neither (cond (ltb (s .table .cores) k) 33 0) _ (x₃ .1) in
-      let x₅ = neither (cond (lacksRoom buffer place (length (picksIn s k))) 34 0) _ (x₄ .1) in
-      let whole : broken s ≡ false = passed _ 29 (x₁ .0) in
-      let early : timeOf s ≡ timeLimit → ⊥ = eqb-false (timeOf s) timeLimit (passed _ 31 (x₃ .0)) in
-      let room = neither-holds (ltb (length buffer) place) _ (passed _ 33 (x₅ .0)) in
-      record {
-        whole = whole;
-        runs = passed _ 30 (x₂ .0);
-        time = omega (arith, is-whole s whole .time);
-        cores = ltb-false (s .table .cores) k (passed _ 32 (x₄ .0));
-        room = omega (arith, ltb-false (length buffer) place (room .0), ltb-false (length buffer - place) (2 + length (picksIn s k)) (room .1));
-      }
+  unfolding refusal
+  goes h = go (none-exactly 0 (in-range 30 34 (slotTests s k buffer place) refl) (λ number. omega (arith, number .0)) .0 h)
+    where
+      go : NoneFound (slotTests s k buffer place) → Goes
+      go (NoneFound.later whole (NoneFound.later runs (NoneFound.later limit (NoneFound.later cores (NoneFound.later lacks NoneFound.end))))) =
+          let early : timeOf s ≡ timeLimit → ⊥ = eqb-false (timeOf s) timeLimit limit in
+          let room = neither-holds (ltb (length buffer) place) _ lacks in
+          record {
+            whole = whole;
+            runs = runs;
+            time = omega (arith, is-whole s whole .time);
+            cores = ltb-false (s .table .cores) k cores;
+            room = omega (arith, ltb-false (length buffer) place (room .0), ltb-false (length buffer - place) (2 + length (picksIn s k)) (room .1));
+          }
 
   -- And one that meets none is not refused.
   pub goes-back : Goes → refusal s k buffer place ≡ 0
-  unfolding refusal firstMet
-  goes-back g =
-      let room = le-ltb (length buffer - place) (2 + length (picksIn s k)) (omega (arith, g .room)) in
-      rw (g .whole, g .runs, ne-eqb (timeOf s) timeLimit (λ e. omega (arith, g .time)), le-ltb (s .table .cores) k (g .cores), le-ltb (length buffer) place (omega (arith, g .room)), room)
+  goes-back g = by-room s k buffer place (g .whole) (g .runs) (g .time) (g .cores) {lacks = false} (has-room-for buffer place (length (picksIn s k)) (omega (arith, g .room)))
 
   -- A number above 1 is the refusal's.
   pub refused-number : (number : ℕ) → 1 < number → (slotOf s k buffer place .said .number ≡ number) ↔ (refusal s k buffer place ≡ number)
@@ -129,10 +113,10 @@ module _ (s : State) (k : ℕ) (buffer : List ℕ) (place : ℕ) where
 
 -- A slot answers a number above 1 exactly if its cause is the first met,
 pub refusals-are-first-causes : RefusalsAreFirstCauses
-unfolding refusal numbered
+unfolding refusal
 refusals-are-first-causes s k buffer place number h =
     let same = refused-number s k buffer place number h in
-    let first = answered-exactly (slotTests s k buffer place) refl number (λ z. omega arith) in
+    let first = said-exactly 0 (slotTests s k buffer place) {x = number} (λ z. omega arith) in
     (λ e. first .0 (same .0 e), λ m. same .1 (first .1 m))
 
 -- and then state and buffer are as they were.
@@ -283,8 +267,8 @@ done-keeps-whole s k buffer place h =
 
 -- a state that is stopped and not broken answers 31
 stopped-answers : (s : State) (k : ℕ) (buffer : List ℕ) (place : ℕ) → broken s ≡ false → s .stopped ≡ true → slotOf s k buffer place .said .number ≡ 31
-unfolding slotOf refusal firstMet
-stopped-answers s k buffer place whole stopped = rw (whole, stopped)
+unfolding slotOf
+stopped-answers s k buffer place whole stopped = rw (first-31 s k buffer place whole stopped)
 
 -- The slot after a 1 answers 31.
 pub next-is-stopped : NextIsStopped
@@ -307,8 +291,8 @@ fresh-is-whole t = (λ h. is-whole (freshOf t) h .table, λ h. is-not-broken (fr
 
 -- a broken state answers 30
 broken-answers : (s : State) (k : ℕ) (buffer : List ℕ) (place : ℕ) → broken s ≡ true → slotOf s k buffer place .said ≡ bare 30
-unfolding slotOf refusal firstMet
-broken-answers s k buffer place h = rw h
+unfolding slotOf
+broken-answers s k buffer place h = rw (first-30 s k buffer place h)
 
 -- A fresh state whose table has a fault answers 30.
 pub fault-answers-30 : FaultAnswers30

@@ -9,9 +9,7 @@ use lib.Dec.{ltb}
 use lib.ListN.{length, take}
 use lib.Seq.{getD-take}
 use Rattle.facts.specs.Counting.{those, some}
-use Rattle.facts.specs.Faults.{ranged}
 use Rattle.facts.proofs.Counting.{same-count, same-list}
-use Rattle.facts.proofs.Faults.{met-in-range}
 use Rattle.table.specs.declared.Row.{Row}
 use Rattle.table.specs.Value.{faultOf}
 use Rattle.pd2.specs.Ready.{ready}
@@ -27,10 +25,10 @@ use Rattle.dispatcher.specs.declared.State.{State}
 use Rattle.dispatcher.specs.State.{rowsIn, quantaIn, timeOf}
 use Rattle.dispatcher.specs.Broken.{ofRow, someRow, exceeds, outsideShare, broken}
 use Rattle.dispatcher.specs.Answer.{doneSaid}
-use Rattle.dispatcher.specs.Slot.{picksIn, lateAt, lateIn, stepped, slotTests, refusal, doneReply, slotBy, slotOf}
+use Rattle.dispatcher.specs.Slot.{picksIn, lateAt, lateIn, stepped, refusal, doneReply, slotBy, slotOf}
 use Rattle.dispatcher.specs.Places.{SlotNumbers, BareUnlessLate, AtMostOneQuantum, PastIsReturned, AlikeBelow, SameAnswer, PastIsIgnored}
 use Rattle.counts.proofs.Numbers.{as-counted}
-use Rattle.dispatcher.proofs.Kept.{done-number, named-is-ready, one-more-or-same}
+use Rattle.dispatcher.proofs.Kept.{done-number, refusal-numbers, named-is-ready, one-more-or-same}
 
 -- No more rows are picked than there are cores free.
 pub picks-are-few : (s : State) (k : ℕ) → length (picksIn s k) ≤ k
@@ -41,8 +39,8 @@ picks-are-few s k =
 
 -- The number of a slot is 0, 1 or that of the first of the five causes.
 pub slot-numbers : SlotNumbers
-unfolding slotOf refusal ranged
-slot-numbers s k buffer place = go (refusal s k buffer place) (met-in-range 30 34 (slotTests s k buffer place) refl)
+unfolding slotOf
+slot-numbers s k buffer place = go (refusal s k buffer place) (refusal-numbers s k buffer place)
   where
     go : (r : ℕ) → (r ≡ 0) ⊎ ((30 ≤ r) × (r ≤ 34)) →
         let number = slotBy r s k buffer place .said .number in

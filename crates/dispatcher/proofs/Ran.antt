@@ -21,7 +21,7 @@ use Rattle.pd2.specs.Choice.{rowAt, quantaAt, given}
 use Rattle.pd2.proofs.Choice.{how-many-given, given-at}
 use Rattle.trace.specs.Record.{marked}
 use Rattle.trace.specs.Records.{names}
-use Rattle.trace.proofs.Records.{listed-are-named}
+use Rattle.trace.proofs.Names.{listed-are-named}
 use Rattle.dispatcher.specs.declared.State.{State}
 use Rattle.dispatcher.specs.State.{rowsIn, quantaIn, timeOf}
 use Rattle.dispatcher.specs.Broken.{ofRow}

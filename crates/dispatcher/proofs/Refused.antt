@@ -1,14 +1,16 @@
 -- A slot's tests, one after the other: what each refusal gives back, and what a slot that is done gives. Assumes nothing.
 use Prim.Native.Nat.{ℕ, zero, suc, _+_, _-_, _≤_, _<_}
 use mathlib.Core.Path.{_≡_, refl, sym, ap, _∙_}
-use mathlib.Core.List.{List, _++_}
+use mathlib.Core.List.{List, [], _∷_, _++_}
 use mathlib.Core.Bool.{Bool, true, false, cond}
 use mathlib.Core.Logic.{_⊎_, inl, inr}
 use native.Mathlib.Decide.{decLe, decLt}
 use native.Mathlib.Omega.{arith}
 use borrow.Author.Tests.{lt-ltb, le-ltb, lt-leb, le-leb, eq-eqb, ne-eqb}
+use lib.Dec.{eqb}
 use lib.ListN.{length, take, drop, length-drop, take-append-drop}
-use Rattle.facts.specs.Faults.{firstMet, _orElse_}
+use Rattle.facts.specs.Findings.{_says_, firstFound, FirstFound, NoneFound}
+use Rattle.facts.proofs.Findings.{none-says-otherwise, first-is-said, after-none}
 use Rattle.counts.specs.Limits.{timeLimit}
 use Rattle.trace.specs.declared.Stored.{Stored}
 use Rattle.trace.specs.declared.Stored.the-variants.{Written, NoRoom}
@@ -60,33 +62,38 @@ module _ (s : State) (k : ℕ) (buffer : List ℕ) (place : ℕ) where
 
   -- "Order for a slot: 30, 31, 32, 33, 34."
   pub first-30 : broken s ≡ true → refusal s k buffer place ≡ 30
-  unfolding refusal firstMet
-  first-30 h = rw h refl
+  unfolding refusal
+  first-30 h = first-is-said 0 (FirstFound.here h)
 
   module _ (whole : broken s ≡ false) where
     pub first-31 : s .stopped ≡ true → refusal s k buffer place ≡ 31
-    unfolding refusal firstMet
-    first-31 h = rw (whole, h) refl
+    unfolding refusal
+    first-31 h = first-is-said 0 (FirstFound.later whole (FirstFound.here h))
 
     module _ (runs : s .stopped ≡ false) where
       pub first-32 : timeOf s ≡ timeLimit → refusal s k buffer place ≡ 32
-      unfolding refusal firstMet
-      first-32 h = rw (whole, runs, eq-eqb (timeOf s) timeLimit h) refl
+      unfolding refusal
+      first-32 h = first-is-said 0 (FirstFound.later whole (FirstFound.later runs (FirstFound.here (eq-eqb (timeOf s) timeLimit h))))
 
       module _ (slot-left : timeOf s < timeLimit) where
+        not-at-limit : eqb (timeOf s) timeLimit ≡ false
+        not-at-limit = ne-eqb (timeOf s) timeLimit (λ e. omega arith)
+
         pub first-33 : s .table .cores < k → refusal s k buffer place ≡ 33
-        unfolding refusal firstMet
-        first-33 h = rw (whole, runs, ne-eqb (timeOf s) timeLimit (λ e. omega arith), lt-ltb (s .table .cores) k h) refl
+        unfolding refusal
+        first-33 h = first-is-said 0 (FirstFound.later whole (FirstFound.later runs (FirstFound.later not-at-limit (FirstFound.here (lt-ltb (s .table .cores) k h)))))
 
         module _ (enough : k ≤ s .table .cores) where
           pub by-room : {lacks : Bool} → lacksRoom buffer place (length (picksIn s k)) ≡ lacks → refusal s k buffer place ≡ cond lacks 34 0
-          unfolding refusal firstMet
+          unfolding refusal
           by-room {lacks} h =
-              rw (whole, runs, ne-eqb (timeOf s) timeLimit (λ e. omega arith), le-ltb (s .table .cores) k enough, h) (go lacks)
+              after-none 0 _ (NoneFound.later whole (NoneFound.later runs (NoneFound.later not-at-limit (NoneFound.later (le-ltb (s .table .cores) k enough) NoneFound.end))))
+              ∙ go lacks h
             where
-              go : (b : Bool) → cond b 34 0 orElse 0 ≡ cond b 34 0
-              go true = refl
-              go false = refl
+              go : (b : Bool) → lacksRoom buffer place (length (picksIn s k)) ≡ b →
+                  firstFound {A = ℕ} 0 ((lacksRoom buffer place (length (picksIn s k)) says 34) ∷ []) ≡ cond b 34 0
+              go true e = first-is-said 0 (FirstFound.here e)
+              go false e = none-says-otherwise 0 (NoneFound.later e NoneFound.end)
 
           -- the place is past the end,
           pub past-end : length buffer < place → refusal s k buffer place ≡ 34

@@ -6,7 +6,7 @@ use mathlib.Core.Bool.{true, false}
 use mathlib.Core.Logic.{_↔_}
 use lib.ListN.{length}
 use Rattle.facts.specs.First.{Lowest}
-use Rattle.facts.specs.Faults.{FirstMet}
+use Rattle.facts.specs.Findings.{FirstFound}
 use Rattle.table.specs.declared.Table.{Table}
 use Rattle.table.specs.Value.{faultOf}
 use Rattle.pd2.specs.Share.{upper}
@@ -20,7 +20,7 @@ use Rattle.dispatcher.specs.Slot.{lateAt, slotTests, doneReply, slotOf}
 abbrev pub RefusalsAreFirstCauses : Type 0
 RefusalsAreFirstCauses =
     (s : State) (k : ℕ) (buffer : List ℕ) (place number : ℕ) → 1 < number →
-    (slotOf s k buffer place .said .number ≡ number) ↔ FirstMet (slotTests s k buffer place) number
+    (slotOf s k buffer place .said .number ≡ number) ↔ FirstFound (slotTests s k buffer place) number
 
 -- "With 30 to 34 the state returns equal and the buffer is untouched."
 abbrev pub RefusalChangesNothing : Type 0

@@ -6,7 +6,7 @@ use lib.Dec.{ltb, eqb}
 use lib.ListN.{length}
 use Rattle.facts.specs.Zero.{if0}
 use Rattle.facts.specs.Counting.{those}
-use Rattle.facts.specs.Faults.{Test, _⇒_, firstMet}
+use Rattle.facts.specs.Findings.{Test, _says_, firstFound}
 use Rattle.counts.specs.Limits.{timeLimit}
 use Rattle.counts.specs.Numbers.{counted}
 use Rattle.table.specs.declared.Row.{Row}
@@ -57,15 +57,15 @@ lacksRoom buffer place c = ltb (length buffer) place || ltb (length buffer - pla
 -- "Order for a slot: 30, 31, 32, 33, 34."
 abbrev pub slotTests : State → ℕ → List ℕ → ℕ → List Test
 slotTests s k buffer place =
-    (broken s ⇒ 30)
-    ∷ (s .stopped ⇒ 31)
-    ∷ (eqb (timeOf s) timeLimit ⇒ 32)
-    ∷ (ltb (s .table .cores) k ⇒ 33)
-    ∷ (lacksRoom buffer place (length (picksIn s k)) ⇒ 34)
+    (broken s says 30)
+    ∷ (s .stopped says 31)
+    ∷ (eqb (timeOf s) timeLimit says 32)
+    ∷ (ltb (s .table .cores) k says 33)
+    ∷ (lacksRoom buffer place (length (picksIn s k)) says 34)
     ∷ []
 
 unfoldable pub refusal : State → ℕ → List ℕ → ℕ → ℕ
-refusal s k buffer place = firstMet (slotTests s k buffer place)
+refusal s k buffer place = firstFound 0 (slotTests s k buffer place)
 
 -- What a slot gives back: the answer, the state and the buffer.
 pub record SlotReply : Type 0 where

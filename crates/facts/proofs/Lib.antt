@@ -3,9 +3,10 @@ pub mod Zero
 pub mod First
 pub mod Counting
 pub mod Tests
-pub mod Faults
+pub mod Findings
+pub mod Rising
 pub mod Filling
 pub mod Places
+pub mod Loops
 pub mod Determined
 pub mod Lent
-pub mod Findings

@@ -1,16 +1,14 @@
 -- The laws of places. Assumes nothing.
 use mathlib.Core.Path.{_≡_, refl, sym, ap, _∙_}
-use mathlib.Core.List.{List, [], _∷_, _++_, map}
+use mathlib.Core.List.{[], _∷_, _++_, map}
 use Prim.Native.Nat.{ℕ, zero, suc, _+_, _-_, _*_, _≤_, _<_}
 use native.Mathlib.Nat.{le-of-suc-le-suc, not-suc-le-zero}
 use native.Mathlib.Numerals.{add-one}
 use native.Mathlib.Omega.{arith}
 use lib.ListN.{length, getD, set, take, replicate, length-append, length-replicate, length-map, getD-replicate, List·getD-map}
 use lib.Seq.{take-at, getD-take, getD-append-add}
-use Rattle.facts.specs.Places.{places, padded, ReadAnswer, ReadSoFar}
-use Rattle.facts.specs.Faults.{Test, firstMet}
+use Rattle.facts.specs.Places.{places, padded}
 use Rattle.facts.proofs.Filling.{filled-one-more, getD-any}
-use Rattle.facts.proofs.Faults.{none-passed, all-passed, stops-at-fault, one-more-passed}
 
 -- for callers
 
@@ -77,45 +75,3 @@ module _ {A : Type 0} (read : ℕ → A) (nothing : A) (size from step : ℕ) wh
   unfolding padded
   how-many-padded {n} h =
       length-append (map read (places from step n)) _ ∙ omega (arith, how-many-read n, length-replicate (size - n) nothing)
-
--- for a loop that reads from place to place, whatever is read
-
-module _ {A : Type 0} (tests : ℕ → ℕ → List Test) (above : ℕ → ℕ) (read : ℕ → A) (nothing : A) (size from step n : ℕ) where
-  -- It begins with an array of nothing,
-  pub reading-begins : {array : List A} → array ≡ replicate size nothing → ReadSoFar tests above read nothing size from step n array 0 0
-  reading-begins e = record { passed = none-passed tests above _; content = e ∙ nothing-read read nothing size from step }
-
-  -- ends without a fault,
-  pub reading-ends : {array : List A} {least i : ℕ} → ReadSoFar tests above read nothing size from step n array least i → n ≤ i →
-      ReadAnswer tests above read nothing size from step n 0 array
-  reading-ends {i = i} so h =
-      let many = how-many-places from step n in
-      let same : i ≡ n = omega (arith, so .passed .within) in
-      record {
-        first = sym (all-passed tests above _ (so .passed) (omega arith));
-        content = λ _. so .content ∙ ap (λ k. padded read nothing size from step k) same;
-      }
-
-  module _ {array : List A} {least i place : ℕ} (so : ReadSoFar tests above read nothing size from step n array least i) (h : i < n) (here : place ≡ from + step * i) where
-    in-list : i < length (places from step n)
-    in-list = omega (arith, how-many-places from step n)
-
-    in-place : place ≡ getD (places from step n) i 0
-    in-place = here ∙ sym (place-at from step n i 0 h)
-
-    -- ends at a fault,
-    pub reading-stops : {number : ℕ} → number ≡ firstMet (tests least place) → (number ≡ 0 → ⊥) → ReadAnswer tests above read nothing size from step n number array
-    reading-stops e f =
-        record {
-          first = e ∙ sym (stops-at-fault tests above _ (so .passed) in-list 0 in-place (λ z. f (e ∙ z)));
-          content = λ z. absurd (f z);
-        }
-
-    -- or goes on with one more read.
-    pub reading-goes-on : i < size → firstMet (tests least place) ≡ 0 → {v : A} → v ≡ read place → {above-it : ℕ} → above-it ≡ above place →
-        ReadSoFar tests above read nothing size from step n (set array i v) above-it (i + 1)
-    reading-goes-on l f e a =
-        record {
-          passed = rw a (one-more-passed tests above _ (so .passed) in-list 0 in-place f);
-          content = rw (so .content, e, here) (one-more-read read nothing size from step l);
-        }

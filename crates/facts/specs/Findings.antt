@@ -1,9 +1,12 @@
--- Causes that are looked for one after the other, each with what is then said: the first that is there decides.
+-- Causes that are looked for one after the other, each with what is then said: "the first fault met is answered".
+use Prim.Native.Nat.{ℕ}
 use mathlib.Core.Path.{_≡_}
-use mathlib.Core.List.{List, [], _∷_}
-use mathlib.Core.Bool.{Bool, true, false, cond}
+use mathlib.Core.List.{List, [], _∷_, _++_}
+use mathlib.Core.Bool.{Bool, true, false, cond, _&&_}
+use lib.Dec.{leb}
 
 infix 70 _says_
+infixr 60 _then_
 -- A cause, and what is said where it is there.
 pub record Finding (A : Type 0) : Type 0 where
   pub cause : Bool
@@ -11,6 +14,14 @@ pub record Finding (A : Type 0) : Type 0 where
 
 abbrev pub _says_ : {A : Type 0} → Bool → A → Finding A
 cause says answer = record { cause = cause; answer = answer }
+
+-- A test: a cause with the number of a fault. 0 is none.
+abbrev pub Test : Type 0
+Test = Finding ℕ
+
+-- Those that are looked for first, and those after them.
+abbrev pub _then_ : {A : Type 0} → List (Finding A) → List (Finding A) → List (Finding A)
+first then after = first ++ after
 
 -- What the first cause that is there says; `otherwise` where none is.
 unfoldable pub firstFound : {A : Type 0} → A → List (Finding A) → A
@@ -28,3 +39,13 @@ pub data FirstFound {A : Type 0} : List (Finding A) → A → Type 0 where
 pub data NoneFound {A : Type 0} : List (Finding A) → Type 0 where
   end : NoneFound []
   later : {f : Finding A} {fs : List (Finding A)} → f .cause ≡ false → NoneFound fs → NoneFound (f ∷ fs)
+
+-- Whatever is found, what is said is such.
+pub data AllSay {A : Type 0} (such : A → Type 0) : List (Finding A) → Type 0 where
+  end : AllSay such []
+  next : {f : Finding A} {fs : List (Finding A)} → such (f .answer) → AllSay such fs → AllSay such (f ∷ fs)
+
+-- Every test has a number from lo to hi.
+abbrev pub ranged : ℕ → ℕ → List Test → Bool
+ranged lo hi [] = true
+ranged lo hi (t ∷ ts) = (leb lo (t .answer) && leb (t .answer) hi) && ranged lo hi ts

@@ -1,5 +1,5 @@
 -- Going through places one after the other and stopping at the first that fits.
-use Prim.Native.Nat.{ℕ, zero, suc, _+_, _-_, _≤_, _<_}
+use Prim.Native.Nat.{ℕ, zero, suc, _+_, _≤_, _<_}
 use mathlib.Core.Path.{_≡_}
 use mathlib.Core.Bool.{Bool, true, false, cond}
 
@@ -15,19 +15,6 @@ pub record IsFirst (fits : ℕ → Bool) (i at : ℕ) : Type 0 where
   pub from : i ≤ at
   pub fit : fits at ≡ true
   pub none-before : (k : ℕ) → i ≤ k → k < at → fits k ≡ false
-
--- A search of the n places from i on has come to j: nothing before j fits, and what is left gives the answer of the whole.
-pub record Reached (fits : ℕ → Bool) (gives : ℕ → ℕ) (i n j : ℕ) : Type 0 where
-  pub from : i ≤ j
-  pub none-before : (k : ℕ) → i ≤ k → k < j → fits k ≡ false
-  pub rest : atFirst fits gives i n ≡ atFirst fits gives j (i + n - j)
-
--- A search of the n places from i on, of which m fits, gives the value of the first that fits.
-pub record Found (fits : ℕ → Bool) (gives : ℕ → ℕ) (i n m : ℕ) : Type 0 where
-  pub at : ℕ
-  pub first : IsFirst fits i at
-  pub within : at ≤ m
-  pub value : atFirst fits gives i n ≡ gives at
 
 -- The lowest number below n that passes a test; n where none does.
 pub record Lowest (test : ℕ → Bool) (n i : ℕ) : Type 0 where

@@ -2,7 +2,8 @@ pub mod Rounding
 pub mod Zero
 pub mod First
 pub mod Counting
-pub mod Faults
+pub mod Findings
+pub mod Rising
 pub mod Places
 pub mod Determined
-pub mod Findings
+pub mod Loops

@@ -3,7 +3,8 @@ use mathlib.Core.Path.{refl}
 use Rattle.facts.specs.Rounding.{ceilDiv}
 use Rattle.facts.specs.First.{atFirst}
 use Rattle.facts.specs.Counting.{howMany, those}
-use Rattle.facts.specs.Faults.{firstMet, rising}
+use Rattle.facts.specs.Findings.{firstFound}
+use Rattle.facts.specs.Rising.{rising}
 use Rattle.facts.specs.Places.{places, padded}
 use Rattle.windows.specs.Windows.{start, deadline, bit, windowLength, jobStart}
 use Rattle.windows.specs.Group.{heavy, stops, stopTime, groupDeadline}
@@ -25,5 +26,5 @@ use Rattle.printer.specs.Text.{slotsText, textOf}
 use Rattle.printer.specs.Example.{ExampleIsPrinted}
 
 pub example-is-printed : ExampleIsPrinted
-unfolding start deadline bit windowLength jobStart ceilDiv heavy stops stopTime atFirst groupDeadline howMany those firstMet rising places padded load faultOf tableNumber reading ready late lower upper before picked given withFront withRecord names broken refusal slotOf freeIn unfit digitsBy decimal spaced slotsText textOf
+unfolding start deadline bit windowLength jobStart ceilDiv heavy stops stopTime atFirst groupDeadline howMany those firstFound rising places padded load faultOf tableNumber reading ready late lower upper before picked given withFront withRecord names broken refusal slotOf freeIn unfit digitsBy decimal spaced slotsText textOf
 example-is-printed = refl

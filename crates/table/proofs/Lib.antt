@@ -1,4 +1,5 @@
 pub mod Sum
+pub mod Numbers
 pub mod Value
 pub mod Bytes
 pub mod Answers

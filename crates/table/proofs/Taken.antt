@@ -1,29 +1,31 @@
 -- What is known of a table that is taken. Assumes nothing.
 use mathlib.Core.Path.{_≡_, refl, sym, ap, _∙_}
 use mathlib.Core.List.{List, [], _∷_, map}
-use mathlib.Core.Bool.{true, false, cond, not}
+use mathlib.Core.Bool.{false}
 use Prim.Native.Nat.{ℕ, zero, suc, _+_, _*_, _/_, _%_, _≤_, _<_}
 use native.Mathlib.Nat.{pos-of-ne-zero, le-of-suc-le-suc, not-suc-le-zero, div-add-mod'}
 use native.Mathlib.Numerals.{add-one}
 use native.Mathlib.Omega.{arith}
 use lib.Seq.{length-take-le, getD-take}
 use borrow.Author.Tests.{ltb-true, ltb-false, eqb-true, eqb-false, not-false}
-use lib.Dec.{ltb, eqb}
+use lib.Dec.{ltb}
 use lib.ListN.{length, getD, take}
-use Rattle.facts.specs.Faults.{_then_, firstMet, numbered, ranged}
+use Rattle.facts.specs.Findings.{NoneFound}
 use Rattle.facts.specs.Determined.{Determined}
 use Rattle.facts.proofs.Determined.{by-value}
-use Rattle.facts.proofs.Faults.{neither, passed, none-at-all, both-numbered, rising-numbered, answered-exactly, none-exactly, passes-as-read, each-passed, passed-rise, both-ranged, rising-ranged, met-in-range}
+use Rattle.facts.proofs.Findings.{said-exactly, none-exactly, otherwise-or-such}
+use Rattle.facts.proofs.Rising.{rising-as-read, each-passed, pass-too, passed-rise}
 use Rattle.facts.proofs.Places.{first-are-read, others-are-nothing, how-many-padded}
-use Rattle.fields.specs.Fields.{byte, shorter}
+use Rattle.fields.specs.Fields.{byte}
 use Rattle.table.specs.declared.Row.{Row}
 use Rattle.table.specs.declared.Table.{Table}
 use Rattle.table.specs.declared.Reading.{Reading}
 use Rattle.table.specs.Limits.{cycleLimit, coreLimit, rowLimit}
-use Rattle.table.specs.Causes.{rowTests, tankAbove, load, zeroRow, outside, boardTests, boardAbove}
-use Rattle.table.specs.Value.{boardsOf, rowsOf, sizeTests, boardsTests, rowCountTests, rowsTests, sumTests, faultOf}
-use Rattle.table.specs.Bytes.{cycleIn, coresIn, rowCountIn, rowsPlace, boardPlaces, rowPlaces, rowInBytes, boardTestsIn, rowTestsIn, headTests, boardsTestsIn, rowCountTestsIn, rowsTestsIn, lastTests, tableTests, tableNumber, tableIn, noTable, readingOf, reading}
+use Rattle.table.specs.Causes.{rowTests, tankAbove, load, zeroRow, boardTests, boardAbove}
+use Rattle.table.specs.Value.{boardsOf, rowsOf, sizeTests, rowCountTests, sumTests, faultOf}
+use Rattle.table.specs.Bytes.{cycleIn, coresIn, rowCountIn, rowsPlace, boardPlaces, rowPlaces, rowInBytes, boardTestsIn, rowTestsIn, rowCountTestsIn, lastTests, tableTests, tableNumber, tableIn, noTable, readingOf, reading}
 use Rattle.table.specs.Taken.{NumbersAreFirstCauses, NumbersAre10To22, TakenWhereNoCause, TakenHasNoFault, PastIsZero, Sound, RowsAreSound, SumIsWithin, SizesAreWithin, BoardsRise, TanksRise}
+use Rattle.table.proofs.Numbers.{table-says, none-in-value, none-in-bytes}
 use Rattle.table.proofs.Value.{not-outside, no-fault}
 use Rattle.table.proofs.Answers.{head-passed}
 
@@ -43,35 +45,20 @@ pub table-read : (s : List ℕ) → tableNumber s ≡ 0 → reading s .table ≡
 unfolding reading
 table-read s e = rw e
 
--- no test has the number 0
-all-numbered : (s : List ℕ) → numbered (tableTests s) ≡ true
-unfolding numbered
-all-numbered s =
-    let boards = rising-numbered (boardTestsIn s) (λ i. boardAbove (byte s i)) (λ least i. refl) 0 (boardPlaces s) in
-    let rows = rising-numbered (rowTestsIn s (cycleIn s)) (λ i. tankAbove (rowInBytes s i)) (λ least i. refl) 0 (rowPlaces s) in
-    let after-rows = both-numbered (rowsTestsIn s) (lastTests s) rows refl in
-    let after-boards = both-numbered (boardsTestsIn s) (rowCountTestsIn s then rowsTestsIn s then lastTests s) boards in
-    both-numbered (headTests s) (boardsTestsIn s then rowCountTestsIn s then rowsTestsIn s then lastTests s) refl
-    (after-boards (both-numbered (rowCountTestsIn s) (rowsTestsIn s then lastTests s) refl after-rows))
-
+-- A number other than 0 is answered exactly if its cause is the first met,
 pub numbers-are-first-causes : NumbersAreFirstCauses
 unfolding tableNumber
-numbers-are-first-causes s k h = answered-exactly (tableTests s) (all-numbered s) k h
+numbers-are-first-causes s k h = said-exactly 0 (tableTests s) h
 
+-- and 0 exactly if no test has its cause.
 pub taken-where-no-cause : TakenWhereNoCause
 unfolding tableNumber
-taken-where-no-cause s = none-exactly (tableTests s) (all-numbered s)
+taken-where-no-cause s = none-exactly 0 (table-says s) (λ number. omega (arith, number .0))
 
 -- A number that is answered is 0, or one of 10 to 22.
 pub numbers-are-10-to-22 : NumbersAre10To22
-unfolding tableNumber ranged
-numbers-are-10-to-22 s =
-    let boards = rising-ranged 10 22 (boardTestsIn s) (λ i. boardAbove (byte s i)) (λ least i. refl) 0 (boardPlaces s) in
-    let rows = rising-ranged 10 22 (rowTestsIn s (cycleIn s)) (λ i. tankAbove (rowInBytes s i)) (λ least i. refl) 0 (rowPlaces s) in
-    let after-rows = both-ranged 10 22 (rowsTestsIn s) (lastTests s) rows refl in
-    let after-count = both-ranged 10 22 (rowCountTestsIn s) (rowsTestsIn s then lastTests s) refl after-rows in
-    let after-boards = both-ranged 10 22 (boardsTestsIn s) (rowCountTestsIn s then rowsTestsIn s then lastTests s) boards after-count in
-    met-in-range 10 22 (tableTests s) (both-ranged 10 22 (headTests s) (boardsTestsIn s then rowCountTestsIn s then rowsTestsIn s then lastTests s) refl after-boards)
+unfolding tableNumber
+numbers-are-10-to-22 s = otherwise-or-such 0 (table-says s)
 
 -- Where there is a fault, it has no table.
 pub no-table-read : (s : List ℕ) → (tableNumber s ≡ 0 → ⊥) → reading s .table ≡ noTable
@@ -83,40 +70,30 @@ no-table-read s f = go (tableNumber s) f
     go (suc k) h = refl
 
 -- a board number or row that passed in bytes passes as a value
-board-as-read : (s : List ℕ) (least i : ℕ) → firstMet (boardTestsIn s least i) ≡ 0 → firstMet (boardTests least (byte s i)) ≡ 0
-unfolding firstMet
-board-as-read s least i h = neither (cond (shorter s (i + 1)) 10 0) _ h .1
+board-as-read : (s : List ℕ) (least i : ℕ) → NoneFound (boardTestsIn s least i) → NoneFound (boardTests least (byte s i))
+board-as-read s least i (NoneFound.later there none) = none
 
-row-as-read : (s : List ℕ) (cycle least i : ℕ) → firstMet (rowTestsIn s cycle least i) ≡ 0 → firstMet (rowTests cycle least (rowInBytes s i)) ≡ 0
-unfolding firstMet
-row-as-read s cycle least i h = neither (cond (shorter s (i + 9)) 10 0) _ h .1
+row-as-read : (s : List ℕ) (cycle least i : ℕ) → NoneFound (rowTestsIn s cycle least i) → NoneFound (rowTests cycle least (rowInBytes s i))
+row-as-read s cycle least i (NoneFound.later there none) = none
 
-few : (s : List ℕ) → firstMet (rowCountTestsIn s) ≡ 0 → rowCountIn s ≤ rowLimit
-unfolding firstMet
-few s z =
-    let x = neither (cond (shorter s (rowsPlace s)) 10 0) _ z in
-    ltb-false rowLimit (rowCountIn s) (passed _ 14 (neither (cond (ltb rowLimit (rowCountIn s)) 15 0) _ (x .1) .0))
+few : (s : List ℕ) → NoneFound (rowCountTestsIn s) → rowCountIn s ≤ rowLimit
+few s (NoneFound.later there (NoneFound.later count NoneFound.end)) = ltb-false rowLimit (rowCountIn s) count
 
-within : (s : List ℕ) → firstMet (lastTests s) ≡ 0 → ltb (coresIn s * cycleIn s) (load (cycleIn s) (map (rowInBytes s) (rowPlaces s))) ≡ false
-unfolding firstMet
-within s z =
-    let above = ltb (coresIn s * cycleIn s) (load (cycleIn s) (map (rowInBytes s) (rowPlaces s))) in
-    let x = neither (cond (ltb (rowsPlace s + 9 * rowCountIn s) (length s)) 21 0) _ z in
-    passed above 21 (neither (cond above 22 0) _ (x .1) .0)
+within : (s : List ℕ) → NoneFound (lastTests s) → ltb (coresIn s * cycleIn s) (load (cycleIn s) (map (rowInBytes s) (rowPlaces s))) ≡ false
+within s (NoneFound.later ended (NoneFound.later sum NoneFound.end)) = sum
 
 -- For callers: the table in bytes that are taken has no fault.
 pub taken-value-has-no-fault : (s : List ℕ) → tableNumber s ≡ 0 → faultOf (tableIn s) ≡ 0
-unfolding tableNumber
 taken-value-has-no-fault s h =
-    let each = none-at-all (headTests s) (boardsTestsIn s) (rowCountTestsIn s) (rowsTestsIn s) (lastTests s) h in
+    let each = none-in-bytes s h in
     let head = head-passed s (each .0) in
     sym
     (no-fault (tableIn s) (head .0) (head .1)
-    (rw (first-are-read (byte s) 0 coreLimit 6 1 (coresIn s))
-    (passes-as-read (boardTestsIn s) boardTests boardAbove (byte s) (board-as-read s) 0 (boardPlaces s) (each .1)))
+    (rw (first-are-read (byte s) 0 coreLimit 6 1 (coresIn s), rising-as-read boardTests boardAbove (byte s) 0 (boardPlaces s))
+    (pass-too (boardTestsIn s) (λ i. boardAbove (byte s i)) _ 0 0 (boardPlaces s) (λ j k from. board-as-read s from _) (each .1)))
     (few s (each .2))
-    (rw (first-are-read (rowInBytes s) zeroRow rowLimit (rowsPlace s) 9 (rowCountIn s))
-    (passes-as-read (rowTestsIn s (cycleIn s)) (rowTests (cycleIn s)) tankAbove (rowInBytes s) (row-as-read s (cycleIn s)) 0 (rowPlaces s) (each .3)))
+    (rw (first-are-read (rowInBytes s) zeroRow rowLimit (rowsPlace s) 9 (rowCountIn s), rising-as-read (rowTests (cycleIn s)) tankAbove (rowInBytes s) 0 (rowPlaces s))
+    (pass-too (rowTestsIn s (cycleIn s)) (λ i. tankAbove (rowInBytes s i)) _ 0 0 (rowPlaces s) (λ j k from. row-as-read s (cycleIn s) from _) (each .3)))
     (sym (ap (load (cycleIn s)) (first-are-read (rowInBytes s) zeroRow rowLimit (rowsPlace s) 9 (rowCountIn s))))
     (within s (each .4)))
 
@@ -132,52 +109,39 @@ past-is-zero s i d b = (
 )
 
 -- a row that passes its tests can be
-sound-row : (cycle least : ℕ) (row : Row) → firstMet (rowTests cycle least row) ≡ 0 → Sound cycle row
-unfolding firstMet
-sound-row cycle least row h =
-    let x₁ = neither (cond (ltb (row .tank) least) 16 0) _ h in
-    let x₂ = neither (cond (eqb (row .cost) 0) 17 0) _ (x₁ .1) in
-    let x₃ = neither (cond (not (ltb (row .cost) (row .period))) 18 0) _ (x₂ .1) in
-    let x₄ = neither (cond (not (eqb (cycle % row .period) 0)) 19 0) _ (x₃ .1) in
-    let x₅ = neither (cond (ltb 1 (row .kind)) 20 0) _ (x₄ .1) in
+sound-row : (cycle least : ℕ) (row : Row) → NoneFound (rowTests cycle least row) → Sound cycle row
+sound-row cycle least row (NoneFound.later tank (NoneFound.later cost (NoneFound.later weight (NoneFound.later divides (NoneFound.later kind NoneFound.end))))) =
     record {
-      cost = pos-of-ne-zero (eqb-false (row .cost) 0 (passed _ 16 (x₂ .0)));
-      weight = ltb-true (row .cost) (row .period) (not-false _ (passed _ 17 (x₃ .0)));
-      divides = eqb-true (cycle % row .period) 0 (not-false _ (passed _ 18 (x₄ .0)));
-      kind = ltb-false 1 (row .kind) (passed _ 19 (x₅ .0));
+      cost = pos-of-ne-zero (eqb-false (row .cost) 0 cost);
+      weight = ltb-true (row .cost) (row .period) (not-false _ weight);
+      divides = eqb-true (cycle % row .period) 0 (not-false _ divides);
+      kind = ltb-false 1 (row .kind) kind;
     }
 
 pub rows-are-sound : RowsAreSound
-unfolding faultOf
 rows-are-sound t h i k =
-    let each = none-at-all (sizeTests t) (boardsTests t) (rowCountTests t) (rowsTests t) (sumTests t) h in
-    let row = each-passed (rowTests (t .cycle)) tankAbove 0 (rowsOf t) (each .3) i zeroRow k in
+    let row = each-passed (rowTests (t .cycle)) tankAbove 0 (rowsOf t) (none-in-value t h .3) i zeroRow k in
     sound-row (t .cycle) (row .0) _ (row .1)
 
 pub sum-is-within : SumIsWithin
-unfolding faultOf firstMet
-sum-is-within t h =
-    let each = none-at-all (sizeTests t) (boardsTests t) (rowCountTests t) (rowsTests t) (sumTests t) h in
-    let above = ltb (t .cores * t .cycle) (load (t .cycle) (rowsOf t)) in
-    ltb-false _ _ (passed above 21 (neither (cond above 22 0) _ (each .4) .0))
+sum-is-within t h = go (none-in-value t h .4)
+  where
+    go : NoneFound (sumTests t) → load (t .cycle) (rowsOf t) ≤ t .cores * t .cycle
+    go (NoneFound.later sum NoneFound.end) = ltb-false (t .cores * t .cycle) (load (t .cycle) (rowsOf t)) sum
 
 pub sizes-are-within : SizesAreWithin
-unfolding faultOf firstMet
-sizes-are-within t h =
-    let each = none-at-all (sizeTests t) (boardsTests t) (rowCountTests t) (rowsTests t) (sumTests t) h in
-    let size = neither (cond (outside 1 cycleLimit (t .cycle)) 12 0) _ (each .0) in
-    let cores = neither (cond (outside 1 coreLimit (t .cores)) 13 0) _ (size .1) in
-    let count = neither (cond (ltb rowLimit (t .n)) 15 0) _ (each .2) in
-    (not-outside (passed _ 11 (size .0)), not-outside (passed _ 12 (cores .0)), ltb-false rowLimit (t .n) (passed _ 14 (count .0)))
+sizes-are-within t h = let each = none-in-value t h in go (each .0) (each .2)
+  where
+    go : NoneFound (sizeTests t) → NoneFound (rowCountTests t) → ((1 ≤ t .cycle) × (t .cycle ≤ cycleLimit)) × ((1 ≤ t .cores) × (t .cores ≤ coreLimit)) × (t .n ≤ rowLimit)
+    go (NoneFound.later cycle (NoneFound.later cores NoneFound.end)) (NoneFound.later count NoneFound.end) =
+        (not-outside cycle, not-outside cores, ltb-false rowLimit (t .n) count)
 
 -- A table value has its 32 places; then each row below n is sound, whatever is read past the end.
 pub row-is-sound : (t : Table) → faultOf t ≡ 0 → length (t .rows) ≡ rowLimit → (i : ℕ) (d : Row) → i < t .n → Sound (t .cycle) (getD (t .rows) i d)
-unfolding faultOf
 row-is-sound t h l i d k =
-    let each = none-at-all (sizeTests t) (boardsTests t) (rowCountTests t) (rowsTests t) (sumTests t) h in
     let n = sizes-are-within t h .2 in
     let many : length (rowsOf t) ≡ t .n = length-take-le (t .n) (t .rows) (omega (arith, n, l)) in
-    let row = each-passed (rowTests (t .cycle)) tankAbove 0 (rowsOf t) (each .3) i d (omega (arith, many, k)) in
+    let row = each-passed (rowTests (t .cycle)) tankAbove 0 (rowsOf t) (none-in-value t h .3) i d (omega (arith, many, k)) in
     rw (getD-take (t .n) (t .rows) i d k) at (sound-row (t .cycle) (row .0) (getD (rowsOf t) i d) (row .1))
 
 -- A table that is taken has all its places,
@@ -202,25 +166,17 @@ pub jobs-fill-cycle : {cycle : ℕ} {row : Row} → Sound cycle row → cycle / 
 jobs-fill-cycle {cycle} {row} s = omega (arith, div-add-mod' cycle (row .period), s .divides)
 
 -- a board number or tank that passes is at least the least that may stand there
-board-enough : (least board : ℕ) → firstMet (boardTests least board) ≡ 0 → least ≤ board
-unfolding firstMet
-board-enough least board h = ltb-false board least (passed _ 13 (neither (cond (ltb board least) 14 0) _ h .0))
+board-enough : (least board : ℕ) → NoneFound (boardTests least board) → least ≤ board
+board-enough least board (NoneFound.later rises NoneFound.end) = ltb-false board least rises
 
-tank-enough : (cycle least : ℕ) (row : Row) → firstMet (rowTests cycle least row) ≡ 0 → least ≤ row .tank
-unfolding firstMet
-tank-enough cycle least row h = ltb-false (row .tank) least (passed _ 15 (neither (cond (ltb (row .tank) least) 16 0) _ h .0))
+tank-enough : (cycle least : ℕ) (row : Row) → NoneFound (rowTests cycle least row) → least ≤ row .tank
+tank-enough cycle least row (NoneFound.later rises others) = ltb-false (row .tank) least rises
 
 pub boards-rise : BoardsRise
-unfolding faultOf
-boards-rise t h i j b k =
-    let each = none-at-all (sizeTests t) (boardsTests t) (rowCountTests t) (rowsTests t) (sumTests t) h in
-    passed-rise boardTests boardAbove (λ board. board) board-enough (λ board. refl) 0 0 (boardsOf t) (each .1) i j b k
+boards-rise t h = passed-rise boardTests boardAbove (λ board. board) (λ board. refl) 0 board-enough 0 (boardsOf t) (none-in-value t h .1)
 
 pub tanks-rise : TanksRise
-unfolding faultOf
-tanks-rise t h i j b k =
-    let each = none-at-all (sizeTests t) (boardsTests t) (rowCountTests t) (rowsTests t) (sumTests t) h in
-    passed-rise (rowTests (t .cycle)) tankAbove (λ row. row .tank) (tank-enough (t .cycle)) (λ row. refl) zeroRow 0 (rowsOf t) (each .3) i j b k
+tanks-rise t h = passed-rise (rowTests (t .cycle)) tankAbove (λ row. row .tank) (λ row. refl) zeroRow (tank-enough (t .cycle)) 0 (rowsOf t) (none-in-value t h .3)
 
 -- The promises of `read` and `fault` give the answer itself, so they determine it.
 pub read-is-determined : (s : List ℕ) → Determined {R = Reading} (λ r. r ≡ reading s)

@@ -3,7 +3,8 @@ use Prim.Native.Nat.{ℕ, _+_, _*_}
 use mathlib.Core.List.{List, [], _∷_, map}
 use lib.ListN.{replicate}
 use Rattle.facts.specs.Zero.{if0}
-use Rattle.facts.specs.Faults.{Test, _then_, firstMet, rising}
+use Rattle.facts.specs.Findings.{Test, _then_, firstFound}
+use Rattle.facts.specs.Rising.{rising}
 use Rattle.facts.specs.Places.{places, padded}
 use Rattle.fields.specs.Fields.{byte, half, word}
 use Rattle.table.specs.declared.Row.{Row}
@@ -96,7 +97,7 @@ tableTests s =
 
 -- the number that is answered
 unfoldable pub tableNumber : List ℕ → ℕ
-tableNumber s = firstMet (tableTests s)
+tableNumber s = firstFound 0 (tableTests s)
 
 -- "a table that is taken has 0 in every place past n and past M"
 abbrev pub tableIn : List ℕ → Table

@@ -2,7 +2,7 @@
 use Prim.Native.Nat.{ℕ, _+_}
 use mathlib.Core.List.{List}
 use Rattle.facts.specs.Zero.{if0}
-use Rattle.facts.specs.Faults.{firstMet}
+use Rattle.facts.specs.Findings.{firstFound}
 use Rattle.table.specs.declared.Row.{Row}
 use Rattle.table.specs.declared.RowRead as read
 use Rattle.table.specs.Causes.{zeroRow}
@@ -25,4 +25,4 @@ rowReplyBy number row past = record { number = number; row = if0 number row zero
 
 -- the answer for the row in the nine bytes from place i on
 unfoldable pub rowReply : List ℕ → ℕ → ℕ → ℕ → RowReply
-rowReply s cycle least i = rowReplyBy (firstMet (rowTestsIn s cycle least i)) (rowInBytes s i) (i + 9)
+rowReply s cycle least i = rowReplyBy (firstFound 0 (rowTestsIn s cycle least i)) (rowInBytes s i) (i + 9)

@@ -2,7 +2,8 @@
 use Prim.Native.Nat.{ℕ}
 use mathlib.Core.List.{List, [], _∷_}
 use lib.ListN.{take}
-use Rattle.facts.specs.Faults.{Test, _then_, firstMet, rising}
+use Rattle.facts.specs.Findings.{Test, _then_, firstFound}
+use Rattle.facts.specs.Rising.{rising}
 use Rattle.table.specs.declared.Row.{Row}
 use Rattle.table.specs.declared.Table.{Table}
 use Rattle.table.specs.Causes.{cycleTest, coresTest, boardTests, boardAbove, rowCountTest, rowTests, tankAbove, sumTest}
@@ -31,4 +32,4 @@ abbrev pub sumTests : Table → List Test
 sumTests t = sumTest (t .cores) (t .cycle) (rowsOf t) ∷ []
 
 unfoldable pub faultOf : Table → ℕ
-faultOf t = firstMet (sizeTests t then boardsTests t then rowCountTests t then rowsTests t then sumTests t)
+faultOf t = firstFound 0 (sizeTests t then boardsTests t then rowCountTests t then rowsTests t then sumTests t)

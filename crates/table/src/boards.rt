@@ -3,7 +3,8 @@ use crate::BoardsRead;
 ghost use mathlib.Core.Path.{_≡_};
 ghost use Prim.Native.Nat.{_≤_, _<_};
 ghost use lib.ListN.{take};
-ghost use Rattle.facts.specs.Faults.{firstMet, rising};
+ghost use Rattle.facts.specs.Findings.{firstFound};
+ghost use Rattle.facts.specs.Rising.{rising};
 ghost use Rattle.table.specs.Causes.{boardTests, boardAbove};
 ghost use Rattle.table.specs.Parts.{BoardsAnswer};
 
@@ -35,7 +36,7 @@ pub(crate) fn read(bytes: &[u8], m: usize) -> BoardsRead
 // 14 if the first m board numbers do not rise, or 0.
 pub(crate) fn fault(boards: [u8; 8], m: usize) -> u8
     requires { ⌜ m ≤ 8 ⌝ }
-    ensures { λ r. ⌜ r ≡ firstMet (rising boardTests boardAbove 0 (take m boards)) ⌝ }
+    ensures { λ r. ⌜ r ≡ firstFound 0 (rising boardTests boardAbove 0 (take m boards)) ⌝ }
 {
     let mut least: u16 = 0;
     let mut i: usize = 0;

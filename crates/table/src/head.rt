@@ -1,6 +1,6 @@
 // The first fields of a table: format, cycle and core count.
 ghost use mathlib.Core.Path.{_≡_};
-ghost use Rattle.facts.specs.Faults.{firstMet};
+ghost use Rattle.facts.specs.Findings.{firstFound};
 ghost use Rattle.table.specs.Limits.{cycleLimit, coreLimit};
 ghost use Rattle.table.specs.Causes.{outside};
 ghost use Rattle.table.specs.Bytes.{headTests};
@@ -11,7 +11,7 @@ const CORE_LIMIT: u8 = 8;
 
 // The first fault 10 to 13 met, or 0.
 pub(crate) fn fault(bytes: &[u8]) -> u8
-    ensures { λ r. ⌜ r ≡ firstMet (headTests (now (bytes .entry))) ⌝ }
+    ensures { λ r. ⌜ r ≡ firstFound 0 (headTests (now (bytes .entry))) ⌝ }
 {
     if bytes.len() < 1 {
         return 10;

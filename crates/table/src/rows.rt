@@ -7,7 +7,8 @@ use crate::RowsRead;
 ghost use mathlib.Core.Path.{_≡_};
 ghost use Prim.Native.Nat.{_+_, _*_, _/_, _≤_, _<_};
 ghost use lib.ListN.{length, take};
-ghost use Rattle.facts.specs.Faults.{firstMet, rising};
+ghost use Rattle.facts.specs.Findings.{firstFound};
+ghost use Rattle.facts.specs.Rising.{rising};
 ghost use Rattle.table.specs.Limits.{loadLimit};
 ghost use Rattle.table.specs.Causes.{rowTests, tankAbove, load, zeroRow};
 ghost use Rattle.table.specs.Bytes.{rowInBytes};
@@ -96,7 +97,7 @@ fn row_at(bytes: &[u8], at: usize) -> Row
 // The first fault 16 to 20 of the first n rows, or 0 and their sum. Each row is gone over once: it is tested and added.
 pub(crate) fn judge(rows: [Row; 32], n: usize, cycle: u32) -> RowsJudged
     requires { ⌜ n ≤ 32 ⌝ }
-    ensures { λ r. ⌜ (r .number ≡ firstMet (rising (rowTests cycle) tankAbove 0 (take n rows))) × (r .number ≡ 0 → r .sum ≡ load cycle (take n rows)) ⌝ }
+    ensures { λ r. ⌜ (r .number ≡ firstFound 0 (rising (rowTests cycle) tankAbove 0 (take n rows))) × (r .number ≡ 0 → r .sum ≡ load cycle (take n rows)) ⌝ }
 {
     let mut sum: u64 = 0;
     let mut least: u32 = 0;
@@ -123,7 +124,7 @@ fn above(row: Row) -> u32
 
 // The first fault 16 to 20 of a row whose tank may be `least` or more, or 0.
 fn fault_of(cycle: u32, least: u32, row: Row) -> u8
-    ensures { λ r. ⌜ r ≡ firstMet (rowTests cycle least row) ⌝ }
+    ensures { λ r. ⌜ r ≡ firstFound 0 (rowTests cycle least row) ⌝ }
 {
     if (row.tank as u32) < least {
         return 16;

@@ -1,4 +1,5 @@
 pub mod Writing
+pub mod Names
 pub mod Records
 pub mod Found
 pub mod Search

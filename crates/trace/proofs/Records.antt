@@ -1,78 +1,17 @@
 -- What records in bytes mean: the rows they name, and what one record more does. Assumes nothing.
 use Prim.Native.Nat.{ℕ, zero, suc, _+_, _≤_, _<_}
 use mathlib.Core.Path.{_≡_, refl, sym, ap, _∙_}
-use mathlib.Core.List.{List, [], _∷_, _++_}
-use mathlib.Core.Bool.{Bool, true, false, cond, _&&_, _||_}
+use mathlib.Core.List.{List, _++_}
+use mathlib.Core.Bool.{true, false, cond}
 use native.Mathlib.Decide.{decLt}
-use native.Mathlib.Numerals.{add-one}
 use native.Mathlib.Omega.{arith}
-use borrow.Author.Tests.{lt-ltb, le-ltb, eq-eqb, ne-eqb}
-use lib.Dec.{ltb, eqb}
-use lib.ListN.{length, getD, take, drop, length-drop, take-append-drop, List·getD-append, List·getD-eq-default}
+use lib.ListN.{length, take, drop, length-drop, take-append-drop, List·getD-append}
 use lib.Seq.{length-take-le, take-append-seam, take-append-le, drop-append-le, drop-append-add, getD-append-add}
-use Rattle.facts.specs.Counting.{howMany, those}
-use Rattle.facts.proofs.Counting.{same-count, counted-if-passed, uncounted-if-failed, none-listed, listed-if-passed, unlisted-if-failed}
+use Rattle.facts.specs.Counting.{howMany}
+use Rattle.facts.proofs.Counting.{same-count, counted-if-passed, uncounted-if-failed}
 use Rattle.fields.specs.Fields.{byte}
-use Rattle.trace.specs.Record.{recordOf, marked, withFront, withRecord}
+use Rattle.trace.specs.Record.{recordOf, withFront, withRecord}
 use Rattle.trace.specs.Records.{pickedAt, rowsAt, pastRecord, placeOf, names, namedIn, timesNamedFrom}
-
--- A longer list names what its parts name.
-pub names-either : (a b : List ℕ) (row : ℕ) → names (a ++ b) row ≡ names a row || names b row
-unfolding names
-names-either [] b row = refl
-names-either (x ∷ a) b row = rw (names-either a b row) (or-assoc (eqb x row) (names a row) (names b row))
-  where
-    or-assoc : (x y z : Bool) → x || (y || z) ≡ (x || y) || z
-    or-assoc true y z = refl
-    or-assoc false y z = refl
-
-or-false : (b : Bool) → b || false ≡ b
-or-false true = refl
-or-false false = refl
-
--- one number more is listed if it passes
-one-more-named : (a : ℕ → Bool) (n row : ℕ) (x : Bool) → a n ≡ x → names (those a (n + 1)) row ≡ names (those a n) row || (x && eqb n row)
-unfolding names
-one-more-named a n row true e = rw (listed-if-passed a n e) (names-either (those a n) (n ∷ []) row ∙ rw (or-false (eqb n row)))
-one-more-named a n row false e = rw (unlisted-if-failed a n e) (sym (or-false (names (those a n) row)))
-
--- The list of those that pass names a row exactly if it is below the bound and passes.
-pub listed-are-named : (a : ℕ → Bool) (n row : ℕ) → names (those a n) row ≡ ltb row n && a row
-unfolding names
-listed-are-named a zero row = rw (none-listed a, le-ltb row 0 (omega arith))
-listed-are-named a (suc n) row =
-    rw (← add-one n) (one-more-named a n row (a n) refl ∙ rw (listed-are-named a n row) (go (decLt row n) (decLt n row)))
-  where
-    or-none : (x y : Bool) → x || (y && false) ≡ x
-    or-none true y = refl
-    or-none false true = refl
-    or-none false false = refl
-
-    and-true : (x : Bool) → x && true ≡ x
-    and-true true = refl
-    and-true false = refl
-
-    go : Dec (row < n) → Dec (n < row) → (ltb row n && a row) || (a n && eqb n row) ≡ ltb row (n + 1) && a row
-    go (yes l) d =
-        let k : row < n + 1 = omega arith in
-        simp (lt-ltb _ _ l, lt-ltb _ _ k, ne-eqb n row (λ e. omega arith), or-none (a row) (a n))
-    go (no l) (yes m) =
-        let h : n ≤ row = omega arith in
-        let k : n + 1 ≤ row = omega arith in
-        simp (le-ltb _ _ h, le-ltb _ _ k, ne-eqb n row (λ e. omega arith), or-none false (a n))
-    go (no l) (no m) =
-        let same : n ≡ row = omega arith in
-        let h : row ≤ row = omega arith in
-        let k : row < row + 1 = omega arith in
-        rw same (simp (le-ltb _ _ h, lt-ltb _ _ k, eq-eqb row row refl, and-true (a row)))
-
--- The marked rows are named, and no others.
-pub marked-are-named : (marks : List Bool) (i : ℕ) → names (marked marks) i ≡ getD marks i false
-marked-are-named marks i = listed-are-named (λ j. getD marks j false) (length marks) i ∙ go (decLt i (length marks))
-  where
-    go : Dec (i < length marks) → ltb i (length marks) && getD marks i false ≡ getD marks i false
-    go (yes l) = rw (lt-ltb i (length marks) l) refl
-    go (no l) = rw (le-ltb i (length marks) (omega arith)) (sym (List·getD-eq-default marks false {n = i} (omega arith)))
 
 -- Records stand one behind the other: a later one begins at a later place.
 pub places-rise : (s : List ℕ) (from j t : ℕ) → j ≤ t → placeOf s from j ≤ placeOf s from t

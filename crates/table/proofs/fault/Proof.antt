@@ -1,10 +1,11 @@
 use native.Mathlib.Omega.{arith}
 use mathlib.Core.Path.{_≡_, sym, _∙_}
 use mathlib.Core.Bool.{false}
-use Rattle.facts.specs.Faults.{firstMet}
+use Rattle.facts.specs.Findings.{NoneFound}
 use Rattle.table.specs.Limits.{cycleLimit, coreLimit}
 use Rattle.table.specs.Causes.{outside}
 use Rattle.table.specs.Value.{boardsTests, rowsTests}
+use Rattle.table.proofs.Numbers.{none-met, boards-say, rows-say}
 use Rattle.table.proofs.Value.{not-outside, cycle-is-fault, cores-are-fault, boards-are-fault, count-is-fault, rows-are-fault, sum-is-fault, no-fault}
 use borrow.Author.Needs.{needs}
 use Rattle.table.proofs.fault.Statement.{statement}
@@ -17,11 +18,11 @@ cycle-passed c = sym (c .before .cycle-is-outside .ensures) ∙ c .if1 .left
 cores-passed : (c : tie.Else2) → outside 1 coreLimit (c .before .before .before .before .args .table .cores) ≡ false
 cores-passed c = sym (c .before .cores-are-outside .ensures) ∙ c .if2 .left
 
-boards-passed : (c : tie.Else3) → firstMet (boardsTests (c .before .before .before .before .before .before .before .args .table)) ≡ 0
-boards-passed c = sym (c .before .fault .ensures) ∙ c .if3 .left
+boards-passed : (c : tie.Else3) → NoneFound (boardsTests (c .before .before .before .before .before .before .before .args .table))
+boards-passed c = none-met (boards-say (c .before .before .before .before .before .before .before .args .table)) (sym (c .before .fault .ensures) ∙ c .if3 .left)
 
-rows-passed : (c : tie.Else5) → firstMet (rowsTests (c .before .before .before .before .before .before .before .before .before .before .before .before .args .table)) ≡ 0
-rows-passed c = sym (c .before .before .judge .ensures .0) ∙ c .if5 .left
+rows-passed : (c : tie.Else5) → NoneFound (rowsTests (c .before .before .before .before .before .before .before .before .before .before .before .before .args .table))
+rows-passed c = none-met (rows-say (c .before .before .before .before .before .before .before .before .before .before .before .before .args .table)) (sym (c .before .before .judge .ensures .0) ∙ c .if5 .left)
 
 cycle-is-outside-requires : tie.Need-cycle-is-outside-requires
 cycle-is-outside-requires c κs = search needs

@@ -1,8 +1,9 @@
-use mathlib.Core.Path.{_≡_, sym, _∙_}
+use mathlib.Core.Path.{sym, _∙_}
 use native.Mathlib.Omega.{arith}
-use Rattle.facts.specs.Faults.{firstMet}
+use Rattle.facts.specs.Findings.{NoneFound}
 use Rattle.table.specs.Limits.{coreLimit}
 use Rattle.table.specs.Bytes.{coresIn, headTests}
+use Rattle.table.proofs.Numbers.{none-met, head-says}
 use Rattle.table.proofs.Value.{not-outside}
 use Rattle.table.proofs.Answers.{head-passed, head-refused, boards-refused, count-cut, count-refused, rows-refused, after-refused, sum-refused, is-read}
 use borrow.Author.Needs.{needs}
@@ -10,8 +11,8 @@ use Rattle.table.proofs.read.Statement.{statement}
 use Rattle.table.proofs.read.Tie as tie
 
 -- past the first test the head has no fault
-head : (c : tie.Else1) → firstMet (headTests (c .before .before .before .args .bytes .now)) ≡ 0
-head c = sym (c .before .fault .ensures) ∙ c .if1 .left
+head : (c : tie.Else1) → NoneFound (headTests (c .before .before .before .args .bytes .now))
+head c = none-met (head-says (c .before .before .before .args .bytes .now)) (sym (c .before .fault .ensures) ∙ c .if1 .left)
 
 fault-requires : tie.Need-fault-requires
 fault-requires c κs = search needs

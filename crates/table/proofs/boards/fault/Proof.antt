@@ -3,8 +3,8 @@ use Prim.Native.Nat.{_-_}
 use native.Mathlib.Omega.{arith}
 use lib.ListN.{length, take}
 use lib.Seq.{length-take-le, getD-take}
-use Rattle.facts.specs.Faults.{Passed}
-use Rattle.facts.proofs.Faults.{none-passed, all-passed, stops-at-fault, one-more-passed}
+use Rattle.facts.specs.Loops.{Passed}
+use Rattle.facts.proofs.Loops.{none-passed, all-passed, stops-at-fault, one-more-passed}
 use Rattle.table.specs.Causes.{boardTests, boardAbove}
 use Rattle.table.proofs.Bytes.{board-too-low, board-rises}
 use borrow.Author.Needs.{needs}

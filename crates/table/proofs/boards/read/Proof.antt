@@ -2,13 +2,13 @@ use mathlib.Core.Path.{refl, sym, ap, _∙_}
 use Prim.Native.Nat.{_+_, _-_, _≤_, _<_}
 use native.Mathlib.Omega.{arith}
 use borrow.Author.Needs.{needs}
-use Rattle.facts.specs.Places.{ReadSoFar}
-use Rattle.facts.proofs.Places.{reading-begins, reading-ends, reading-stops, reading-goes-on}
+use Rattle.facts.specs.Loops.{ReadSoFar}
+use Rattle.facts.proofs.Loops.{reading-begins, reading-ends, reading-stops, reading-goes-on}
 use Rattle.fields.specs.Fields.{byte}
 use Rattle.table.specs.Limits.{coreLimit}
 use Rattle.table.specs.Causes.{boardAbove}
 use Rattle.table.specs.Bytes.{boardTestsIn}
-use Rattle.table.proofs.Bytes.{board-too-low, board-rises, board-cut, board-there}
+use Rattle.table.proofs.Bytes.{board-rises, board-cut, board-low-there, board-passes-there}
 use Rattle.table.proofs.boards.read.Statement.{statement}
 use Rattle.table.proofs.boards.read.Tie as tie
 
@@ -44,7 +44,7 @@ returns-2 c =
     let number = c .before .wide .ensures .0 ∙ c .before .before .byte .ensures in
     let low : byte (at .before .before .args .bytes .now) (6 + at .loop .i) < at .loop .least = omega (arith, number, c .if2 .taken) in
     reading-stops _ _ _ _ _ _ _ _ {place = 6 + at .loop .i} (at .loop .inv) (there .before .loop-test .taken) (omega arith)
-    (sym (board-there (at .before .before .args .bytes .now) (at .loop .least) (6 + at .loop .i) (there .if1 .left) ∙ board-too-low _ _ low)) (λ z. omega arith)
+    (sym (board-low-there (at .before .before .args .bytes .now) (at .loop .least) (6 + at .loop .i) (there .if1 .left) low)) (λ z. omega arith)
 
 array-write-boards : tie.Need-array-write-boards Inv-loop μ-loop
 array-write-boards c = omega arith
@@ -66,7 +66,7 @@ loop-again c =
     let number = c .before .wide .ensures .0 ∙ board in
     let high : at .loop .least ≤ byte (at .before .before .args .bytes .now) (6 + at .loop .i) = omega (arith, number, c .if2 .left) in
     reading-goes-on _ _ _ _ _ _ _ _ {place = 6 + at .loop .i} (at .loop .inv) (there .before .loop-test .taken) (omega arith) (omega (arith, there .before .loop-test .taken, at .before .before .pre))
-    (board-there (at .before .before .args .bytes .now) (at .loop .least) (6 + at .loop .i) (there .if1 .left) ∙ board-rises _ _ high) board (ap boardAbove number)
+    (board-passes-there (at .before .before .args .bytes .now) (at .loop .least) (6 + at .loop .i) (there .if1 .left) (board-rises _ _ high)) board (ap boardAbove number)
 
 returns-3 : tie.Need-returns-3 Inv-loop μ-loop
 returns-3 c = reading-ends _ _ _ _ _ _ _ _ (c .before .loop .inv) (c .loop-test .left)

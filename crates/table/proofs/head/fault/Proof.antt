@@ -1,13 +1,14 @@
 use mathlib.Core.Path.{_≡_, sym, ap, _∙_}
-use mathlib.Core.Bool.{Bool, true, false}
+use mathlib.Core.Bool.{Bool, true, false, not}
 use mathlib.Core.List.{List, [], _∷_}
 use Prim.Native.Nat.{ℕ, _≤_, _<_}
 use borrow.Author.Tests.{eq-eqb, ne-eqb, lt-ltb, le-ltb}
 use lib.ListN.{length}
-use Rattle.facts.specs.Faults.{firstMet}
-use Rattle.fields.specs.Fields.{byte}
+use Rattle.facts.specs.Findings.{firstFound, FirstFound, NoneFound}
+use Rattle.facts.proofs.Findings.{none-says-otherwise, first-is-said, after-none}
+use Rattle.fields.specs.Fields.{byte, shorter}
 use Rattle.table.specs.Limits.{cycleLimit, coreLimit}
-use Rattle.table.specs.Causes.{outside, cut, coresTest}
+use Rattle.table.specs.Causes.{outside, cut, cycleTest, coresTest}
 use Rattle.table.specs.Bytes.{cycleIn, coresIn, headTests}
 use borrow.Author.Needs.{needs}
 use Rattle.table.proofs.head.fault.Statement.{statement}
@@ -19,42 +20,42 @@ told low high e f g = sym (e ∙ ap (outside low high) f) ∙ g
 
 -- each answer is the first fault of the head
 module _ (s : List ℕ) where
-  is-empty : length s < 1 → 10 ≡ firstMet (headTests s)
-  unfolding firstMet
-  is-empty h = simp (lt-ltb _ _ h)
+  is-empty : length s < 1 → 10 ≡ firstFound 0 (headTests s)
+  is-empty h = sym (first-is-said 0 (FirstFound.here (lt-ltb (length s) 1 h)))
 
   module _ (some : 1 ≤ length s) where
-    is-other-format : (byte s 0 ≡ 1 → ⊥) → 11 ≡ firstMet (headTests s)
-    unfolding firstMet
-    is-other-format h = simp (le-ltb _ _ some, ne-eqb _ _ h)
+    one : shorter s 1 ≡ false
+    one = le-ltb (length s) 1 some
+
+    is-other-format : (byte s 0 ≡ 1 → ⊥) → 11 ≡ firstFound 0 (headTests s)
+    is-other-format h = sym (first-is-said 0 (FirstFound.later one (FirstFound.here (ap not (ne-eqb (byte s 0) 1 h)))))
 
     module _ (format : byte s 0 ≡ 1) where
-      ends-in-cycle : length s < 5 → 10 ≡ firstMet (headTests s)
-      unfolding firstMet
-      ends-in-cycle h = simp (le-ltb _ _ some, eq-eqb _ _ format, lt-ltb _ _ h)
+      -- what is found past the format decides
+      past-format : {n : ℕ} → n ≡ firstFound 0 (cut s 5 ∷ cycleTest (cycleIn s) ∷ cut s 6 ∷ coresTest (coresIn s) ∷ []) → n ≡ firstFound 0 (headTests s)
+      past-format e = e ∙ sym (after-none 0 _ (NoneFound.later one (NoneFound.later (ap not (eq-eqb (byte s 0) 1 format)) NoneFound.end)))
+
+      ends-in-cycle : length s < 5 → 10 ≡ firstFound 0 (headTests s)
+      ends-in-cycle h = past-format (sym (first-is-said 0 (FirstFound.here (lt-ltb (length s) 5 h))))
 
       module _ (long : 5 ≤ length s) where
-        cycle-decides : outside 1 cycleLimit (cycleIn s) ≡ true → 12 ≡ firstMet (headTests s)
-        unfolding firstMet
-        cycle-decides e = simp (le-ltb _ _ some, eq-eqb _ _ format, le-ltb _ _ long, e)
+        cycle-decides : outside 1 cycleLimit (cycleIn s) ≡ true → 12 ≡ firstFound 0 (headTests s)
+        cycle-decides e = past-format (sym (first-is-said 0 (FirstFound.later (le-ltb (length s) 5 long) (FirstFound.here e))))
 
         module _ (cycle : outside 1 cycleLimit (cycleIn s) ≡ false) where
-          past-cycle : firstMet (headTests s) ≡ firstMet (cut s 6 ∷ coresTest (coresIn s) ∷ [])
-          unfolding firstMet
-          past-cycle = simp (le-ltb _ _ some, eq-eqb _ _ format, le-ltb _ _ long, cycle)
+          -- what is found past the cycle decides
+          past-cycle : {n : ℕ} → n ≡ firstFound 0 (cut s 6 ∷ coresTest (coresIn s) ∷ []) → n ≡ firstFound 0 (headTests s)
+          past-cycle e = past-format (e ∙ sym (after-none 0 _ (NoneFound.later (le-ltb (length s) 5 long) (NoneFound.later cycle NoneFound.end))))
 
-          ends-in-cores : length s < 6 → 10 ≡ firstMet (headTests s)
-          unfolding firstMet
-          ends-in-cores h = sym (past-cycle ∙ simp (lt-ltb _ _ h))
+          ends-in-cores : length s < 6 → 10 ≡ firstFound 0 (headTests s)
+          ends-in-cores h = past-cycle (sym (first-is-said 0 (FirstFound.here (lt-ltb (length s) 6 h))))
 
           module _ (longer : 6 ≤ length s) where
-            cores-decide : outside 1 coreLimit (coresIn s) ≡ true → 13 ≡ firstMet (headTests s)
-            unfolding firstMet
-            cores-decide e = sym (past-cycle ∙ simp (le-ltb _ _ longer, e))
+            cores-decide : outside 1 coreLimit (coresIn s) ≡ true → 13 ≡ firstFound 0 (headTests s)
+            cores-decide e = past-cycle (sym (first-is-said 0 (FirstFound.later (le-ltb (length s) 6 longer) (FirstFound.here e))))
 
-            none-decides : outside 1 coreLimit (coresIn s) ≡ false → 0 ≡ firstMet (headTests s)
-            unfolding firstMet
-            none-decides e = sym (past-cycle ∙ simp (le-ltb _ _ longer, e))
+            none-decides : outside 1 coreLimit (coresIn s) ≡ false → 0 ≡ firstFound 0 (headTests s)
+            none-decides e = past-cycle (sym (none-says-otherwise 0 (NoneFound.later (le-ltb (length s) 6 longer) (NoneFound.later e NoneFound.end))))
 
 returns : tie.Need-returns
 returns c = is-empty (c .before .before .args .bytes .now) (c .if1 .taken)

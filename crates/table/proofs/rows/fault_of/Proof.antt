@@ -1,42 +1,58 @@
 use native.Mathlib.Omega.{arith}
-use mathlib.Core.Path.{_≡_}
+use mathlib.Core.Path.{_≡_, sym, ap}
+use mathlib.Core.Bool.{false, not}
 use Prim.Native.Nat.{ℕ, _%_, _≤_, _<_}
 use borrow.Author.Tests.{eq-eqb, ne-eqb, lt-ltb, le-ltb}
-use Rattle.facts.specs.Faults.{firstMet}
+use lib.Dec.{ltb, eqb}
+use Rattle.facts.specs.Findings.{firstFound, FirstFound, NoneFound}
+use Rattle.facts.proofs.Findings.{none-says-otherwise, first-is-said}
 use Rattle.table.specs.declared.Row.{Row}
 use Rattle.table.specs.Causes.{rowTests}
 use Rattle.table.proofs.rows.fault_of.Statement.{statement}
 use Rattle.table.proofs.rows.fault_of.Tie as tie
 
--- each answer is the first fault of the row
+-- each answer is the first fault of the row; between them stands what is known of a test that was passed
 module _ (cycle least : ℕ) (row : Row) where
-  is-low : row .tank < least → 16 ≡ firstMet (rowTests cycle least row)
-  unfolding firstMet
-  is-low h = simp (lt-ltb _ _ h)
+  is-low : row .tank < least → 16 ≡ firstFound 0 (rowTests cycle least row)
+  is-low h = sym (first-is-said 0 (FirstFound.here (lt-ltb (row .tank) least h)))
 
   module _ (rises : least ≤ row .tank) where
-    costs-nothing : row .cost ≡ 0 → 17 ≡ firstMet (rowTests cycle least row)
-    unfolding firstMet
-    costs-nothing h = simp (le-ltb _ _ rises, eq-eqb _ _ h)
+    tank : ltb (row .tank) least ≡ false
+    tank = le-ltb (row .tank) least rises
+
+    costs-nothing : row .cost ≡ 0 → 17 ≡ firstFound 0 (rowTests cycle least row)
+    costs-nothing h = sym (first-is-said 0 (FirstFound.later tank (FirstFound.here (eq-eqb (row .cost) 0 h))))
 
     module _ (costs : row .cost ≡ 0 → ⊥) where
-      costs-all : row .period ≤ row .cost → 18 ≡ firstMet (rowTests cycle least row)
-      unfolding firstMet
-      costs-all h = simp (le-ltb _ _ rises, ne-eqb _ _ costs, le-ltb _ _ h)
+      cost : eqb (row .cost) 0 ≡ false
+      cost = ne-eqb (row .cost) 0 costs
+
+      costs-all : row .period ≤ row .cost → 18 ≡ firstFound 0 (rowTests cycle least row)
+      costs-all h = sym (first-is-said 0 (FirstFound.later tank (FirstFound.later cost (FirstFound.here (ap not (le-ltb (row .cost) (row .period) h))))))
 
       module _ (below : row .cost < row .period) where
-        does-not-divide : (cycle % row .period ≡ 0 → ⊥) → 19 ≡ firstMet (rowTests cycle least row)
-        unfolding firstMet
-        does-not-divide h = simp (le-ltb _ _ rises, ne-eqb _ _ costs, lt-ltb _ _ below, ne-eqb _ _ h)
+        period : not (ltb (row .cost) (row .period)) ≡ false
+        period = ap not (lt-ltb (row .cost) (row .period) below)
+
+        does-not-divide : (cycle % row .period ≡ 0 → ⊥) → 19 ≡ firstFound 0 (rowTests cycle least row)
+        does-not-divide h =
+            sym (first-is-said 0 (FirstFound.later tank (FirstFound.later cost (FirstFound.later period (FirstFound.here (ap not (ne-eqb (cycle % row .period) 0 h)))))))
 
         module _ (divides : cycle % row .period ≡ 0) where
-          is-other-kind : 1 < row .kind → 20 ≡ firstMet (rowTests cycle least row)
-          unfolding firstMet
-          is-other-kind h = simp (le-ltb _ _ rises, ne-eqb _ _ costs, lt-ltb _ _ below, eq-eqb _ _ divides, lt-ltb _ _ h)
+          whole : not (eqb (cycle % row .period) 0) ≡ false
+          whole = ap not (eq-eqb (cycle % row .period) 0 divides)
 
-          has-none : row .kind ≤ 1 → 0 ≡ firstMet (rowTests cycle least row)
-          unfolding firstMet
-          has-none h = simp (le-ltb _ _ rises, ne-eqb _ _ costs, lt-ltb _ _ below, eq-eqb _ _ divides, le-ltb _ _ h)
+          is-other-kind : 1 < row .kind → 20 ≡ firstFound 0 (rowTests cycle least row)
+          is-other-kind h =
+              sym
+              (first-is-said 0
+              (FirstFound.later tank (FirstFound.later cost (FirstFound.later period (FirstFound.later whole (FirstFound.here (lt-ltb 1 (row .kind) h)))))))
+
+          has-none : row .kind ≤ 1 → 0 ≡ firstFound 0 (rowTests cycle least row)
+          has-none h =
+              sym
+              (none-says-otherwise 0
+              (NoneFound.later tank (NoneFound.later cost (NoneFound.later period (NoneFound.later whole (NoneFound.later (le-ltb 1 (row .kind) h) NoneFound.end))))))
 
 cast-if1 : tie.Need-cast-if1
 cast-if1 c = omega arith

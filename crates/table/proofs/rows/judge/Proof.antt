@@ -1,11 +1,12 @@
 use mathlib.Core.Path.{_≡_, sym, _∙_}
 use Prim.Native.Nat.{_-_}
 use native.Mathlib.Omega.{arith}
-use lib.ListN.{length, take}
+use lib.ListN.{length, take, getD}
 use lib.Seq.{length-take-le, getD-take}
-use Rattle.facts.specs.Faults.{Passed}
-use Rattle.facts.proofs.Faults.{none-passed, all-passed, stops-at-fault, one-more-passed}
-use Rattle.table.specs.Causes.{rowTests, tankAbove}
+use Rattle.facts.specs.Loops.{Passed}
+use Rattle.facts.proofs.Loops.{none-passed, all-passed, stops-at-fault, one-more-passed}
+use Rattle.table.specs.Causes.{rowTests, tankAbove, zeroRow}
+use Rattle.table.proofs.Numbers.{none-met, row-says}
 use Rattle.table.proofs.Sum.{Added, added-none, added-next, added-all}
 use borrow.Author.Needs.{needs}
 use Rattle.table.proofs.rows.judge.Statement.{statement}
@@ -71,7 +72,7 @@ loop-again c =
       rw (c .above .ensures)
           (one-more-passed _ _ _ (at .loop .inv .0) (omega (arith, n-rows (at .before))) _
           (sym (getD-take (at .before .args .n) (at .before .args .t1) (at .loop .i) _ (omega arith)))
-          (sym (found .fault-of .ensures) ∙ c .before .before .if1 .left)),
+          (none-met (row-says (at .before .args .cycle) (at .loop .least) (getD (at .before .args .t1) (at .loop .i) zeroRow)) (sym (found .fault-of .ensures) ∙ c .before .before .if1 .left))),
       added-next (at .loop .inv .1) (omega arith) (quanta .1) _ (quanta .0),
     )
 

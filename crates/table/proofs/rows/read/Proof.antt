@@ -3,8 +3,8 @@ use Prim.Native.Nat.{_+_, _-_, _*_, _≤_}
 use native.Mathlib.Omega.{arith}
 use borrow.Author.Needs.{needs}
 use lib.ListN.{length, replicate, length-replicate}
-use Rattle.facts.specs.Places.{ReadSoFar}
-use Rattle.facts.proofs.Places.{reading-begins, reading-ends, reading-stops, reading-goes-on}
+use Rattle.facts.specs.Loops.{ReadSoFar}
+use Rattle.facts.proofs.Loops.{reading-begins, reading-ends, reading-stops, reading-goes-on}
 use Rattle.table.specs.declared.Row.{Row}
 use Rattle.table.specs.Limits.{rowLimit}
 use Rattle.table.specs.Causes.{tankAbove, zeroRow}

@@ -1,6 +1,6 @@
 use mathlib.Core.Path.{sym, ap, _∙_}
 use native.Mathlib.Omega.{arith}
-use Rattle.facts.specs.Faults.{firstMet}
+use Rattle.facts.specs.Findings.{firstFound}
 use Rattle.table.specs.Causes.{rowTests}
 use Rattle.table.proofs.Bytes.{row-cut, row-faulty, row-read}
 use borrow.Author.Needs.{needs}
@@ -26,7 +26,7 @@ returns-2 c =
     let x = c .before .before .before .before .before .args in
     let row = c .before .before .row-at .ensures in
     row-faulty (x .bytes .now) (x .cycle) (x .least) (x .cursor .at) (omega arith)
-    (c .before .fault-of .ensures ∙ ap (λ r. firstMet (rowTests (x .cycle) (x .least) r)) row) (c .if2 .taken)
+    (c .before .fault-of .ensures ∙ ap (λ r. firstFound 0 (rowTests (x .cycle) (x .least) r)) row) (c .if2 .taken)
 
 add-t8 : tie.Need-add-t8
 add-t8 c = omega arith
@@ -36,7 +36,7 @@ returns-3 c =
     let x = c .before .before .before .before .before .args in
     let row = c .before .before .row-at .ensures in
     row-read (x .bytes .now) (x .cycle) (x .least) (x .cursor .at) (omega arith)
-    (ap (λ r. firstMet (rowTests (x .cycle) (x .least) r)) (sym row) ∙ sym (c .before .fault-of .ensures) ∙ c .if2 .left) row
+    (ap (λ r. firstFound 0 (rowTests (x .cycle) (x .least) r)) (sym row) ∙ sym (c .before .fault-of .ensures) ∙ c .if2 .left) row
 
 pub read-one-spec : {M : Type 1} → statement M
 read-one-spec =
