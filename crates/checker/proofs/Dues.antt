@@ -7,31 +7,19 @@ use native.Mathlib.Omega.{arith}
 use lib.ListN.{length, getD, set, length-set}
 use lib.Seq.{getD-set-same, getD-set-other}
 use Rattle.facts.proofs.Filling.{Filled}
-use Rattle.windows.specs.declared.Due.{Due}
-use Rattle.windows.specs.declared.Due.the-variants.{By}
-use Rattle.windows.specs.Windows.{bit}
-use Rattle.windows.specs.Next.{nextDue}
-use Rattle.windows.proofs.Next.{due-in-reach}
+use Rattle.windows.specs.Next.{reach}
 use Rattle.table.specs.declared.Row.{Row}
 use Rattle.table.specs.declared.Table.{Table}
 use Rattle.table.specs.Limits.{rowLimit}
 use Rattle.table.specs.Value.{rowsOf}
-use Rattle.pd2.specs.Ready.{originOf}
-use Rattle.pd2.specs.Choice.{rowAt}
+use Rattle.pd2.specs.Choice.{rowAt, quantaAt}
 use Rattle.pd2.proofs.Share.{row-can-be}
 use Rattle.pd2.proofs.Choice.{row-there}
 use Rattle.checker.specs.Passes.{due}
-use Rattle.checker.specs.Walking.{quantaAt, CanCheck, CanBeDue, DueAre}
-
--- A row that can be asked is answered.
-pub due-is-said : (row : Row) (q : ℕ) → CanBeDue row q → row .phase < 65_536 → {o : ℕ} → o ≡ originOf row → {r : Due} → r ≡ nextDue (row .cost) (row .period) o q →
-    r ≡ By (record { 0 = due row (q + 1) }) (bit (row .cost) (row .period) (q + 1))
-due-is-said row q can small same e =
-    rw (e, same)
-    (due-in-reach (record { cost = can .can .cost; weight = can .can .weight; origin = omega arith; quanta = can .few }))
+use Rattle.checker.specs.Walking.{CanCheck, CanBeDue, DueAre}
 
 -- A row of the table can be asked.
-pub can-be-due : (table : Table) → CanCheck table → (i : ℕ) → i < length (rowsOf table) → (d : Row) {q : ℕ} → q ≤ 70_368_744_177_664 → CanBeDue (getD (table .rows) i d) q
+pub can-be-due : (table : Table) → CanCheck table → (i : ℕ) → i < length (rowsOf table) → (d : Row) {q : ℕ} → q ≤ reach → CanBeDue (getD (table .rows) i d) q
 can-be-due table can i l d few = record { can = rw (row-there (table .rows) (table .n) i d l) (row-can-be table (can .sound) i l); few = few }
 
 -- An array that is filled with what is due, row after row,

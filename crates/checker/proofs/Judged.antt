@@ -11,20 +11,20 @@ use Rattle.facts.specs.First.{Lowest}
 use Rattle.facts.specs.Findings.{_says_, FirstFound, NoneFound}
 use Rattle.facts.proofs.First.{same-lowest}
 use Rattle.facts.proofs.Findings.{none-joined, first-in-front, first-behind}
-use Rattle.facts.proofs.Counting.{some-if, none-if, lowest-is-first}
+use Rattle.facts.proofs.Counting.{some-if, none-if, lowest-is-first, no-more-than-all}
 use Rattle.counts.specs.Limits.{kept}
 use Rattle.table.specs.declared.Table.{Table}
 use Rattle.table.specs.Value.{rowsOf}
-use Rattle.pd2.specs.Ready.{late}
-use Rattle.pd2.specs.Choice.{rowAt}
+use Rattle.pd2.specs.Choice.{rowAt, quantaAt}
+use Rattle.pd2.proofs.Readiness.{late-from-deadline}
 use Rattle.trace.specs.Said.{Said, named}
-use Rattle.trace.specs.Records.{pastRecord, placeOf, names, firstPlace, placeIn, rowsOfSlot, timesNamed}
-use Rattle.trace.proofs.Records.{counted-if-named, uncounted-if-not-named}
+use Rattle.trace.specs.Records.{pastRecord, names, namedIn, firstPlace, placeIn, rowsOfSlot, timesNamed}
+use Rattle.trace.proofs.Records.{ends-at-next, counted-if-named, uncounted-if-not-named}
 use Rattle.checker.specs.declared.Answer.{Answer}
 use Rattle.checker.specs.Answer.{saidOf}
 use Rattle.checker.specs.Causes.{tooEarly, tooLate, lowest, anyRow}
 use Rattle.checker.specs.Check.{shapeAt, timeFindings, recordFindings}
-use Rattle.checker.specs.Walking.{quantaAt, Askable, DueAre, CanJudge, Walked, Leads, Read, CanGive, Gave, isEarly}
+use Rattle.checker.specs.Walking.{Askable, DueAre, CanJudge, Walked, Leads, Read, CanGive, Gave, isEarly}
 use Rattle.checker.specs.Passes.{due}
 
 -- The lowest row that is so is the one that is named.
@@ -115,11 +115,7 @@ module _ (table : Table) (s : List ℕ) (t at : ℕ) (counts dues : List ℕ) (c
             go false e = rw (rows-are, e, can .reached .quanta j l) (sym (uncounted-if-not-named s firstPlace j t e))
 
         few-after : (j : ℕ) → timesNamed s j (t + 1) ≤ t + 1
-        few-after j = go (names (rowsOfSlot s t) j) refl
-          where
-            go : (b : Bool) → names (rowsOfSlot s t) j ≡ b → timesNamed s j (t + 1) ≤ t + 1
-            go true e = omega (arith, counted-if-named s firstPlace j t e, can .reached .few j)
-            go false e = omega (arith, uncounted-if-not-named s firstPlace j t e, can .reached .few j)
+        few-after j = no-more-than-all (namedIn s firstPlace j) (t + 1)
 
         -- and when the next are due
         due-after : DueAre table (λ i. timesNamed s i (t + 1)) dues′
@@ -131,9 +127,8 @@ module _ (table : Table) (s : List ℕ) (t at : ℕ) (counts dues : List ℕ) (c
 
         -- the lowest late row, as it was found in the array
         late-is : {time k : ℕ} → time ≡ t + 1 → Lowest (λ i. leb (getD dues′ i 0) time) (table .n) k → Lowest (tooLate table s (t + 1)) (length (rowsOf table)) k
-        unfolding late
         late-is {time} {k} e low =
-            same-lowest (λ i. leb (getD dues′ i 0) (t + 1)) (tooLate table s (t + 1)) (length (rowsOf table)) k (λ j l. rw (due-after .each j l) refl)
+            same-lowest (λ i. leb (getD dues′ i 0) (t + 1)) (tooLate table s (t + 1)) (length (rowsOf table)) k (λ j l. rw (due-after .each j l) (sym (late-from-deadline (rowAt (rowsOf table) j) (timesNamed s j (t + 1)) (t + 1))))
             (subst (λ n. Lowest (λ i. leb (getD dues′ i 0) (t + 1)) n k) (sym (can .can .all)) (subst (λ time. Lowest (λ i. leb (getD dues′ i 0) time) (table .n) k) e low))
 
         -- a late row ends it,
@@ -147,7 +142,6 @@ module _ (table : Table) (s : List ℕ) (t at : ℕ) (counts dues : List ℕ) (c
         -- and else the walk goes on.
         pub goes-on : {time k : ℕ} → time ≡ t + 1 → Lowest (λ i. leb (getD dues′ i 0) time) (table .n) k → length (rowsOf table) ≤ k →
             Walked table s t (first + picked) after dues′
-        unfolding placeOf
         goes-on {k = k} e low h =
             record {
               none =
@@ -155,7 +149,7 @@ module _ (table : Table) (s : List ℕ) (t at : ℕ) (counts dues : List ℕ) (c
                   (NoneFound.later no-early (NoneFound.later (none-is table (tooLate table s (t + 1)) k (late-is e low) h) NoneFound.end));
               reached =
                   record {
-                    place = rw (read .begins, read .all) (ap (pastRecord s) (can .reached .place) ∙ ap (placeIn s) (sym (add-one t)));
+                    place = rw (read .begins, read .all) (ap (pastRecord s) (can .reached .place) ∙ (ends-at-next s firstPlace t ∙ ap (placeIn s) (sym (add-one t))));
                     inside = rows-inside;
                     long = gave .gave none .places ∙ can .reached .long;
                     quanta = quanta-after;

@@ -15,8 +15,9 @@ use Rattle.fields.specs.Fields.{byte}
 use Rattle.counts.specs.Limits.{kept}
 use Rattle.trace.specs.Records.{names}
 use Rattle.trace.proofs.Names.{names-nothing, names-either, named-at, not-named, named-one-more}
+use Rattle.pd2.specs.Choice.{quantaAt}
 use Rattle.checker.specs.Causes.{badRows}
-use Rattle.checker.specs.Walking.{quantaAt, GaveNamed}
+use Rattle.checker.specs.Walking.{GaveNamed}
 use Rattle.checker.proofs.Sound.{rising-exactly}
 
 -- the c numbers from a place on, and the j-th of them

@@ -2,7 +2,7 @@
 use Prim.Native.Nat.{ℕ, zero, suc, _+_, _≤_, _<_}
 use mathlib.Core.Path.{_≡_, refl, sym, ap, _∙_}
 use mathlib.Core.List.{List}
-use mathlib.Core.Bool.{Bool, true, false, cond, not}
+use mathlib.Core.Bool.{Bool, true, false, not}
 use native.Mathlib.Decide.{decLt}
 use native.Mathlib.Numerals.{add-one}
 use native.Mathlib.Omega.{arith}
@@ -11,35 +11,19 @@ use lib.Dec.{leb}
 use lib.ListN.{length}
 use Rattle.facts.proofs.Tests.{both, hold-both}
 use Rattle.facts.proofs.Counting.{none-counted, counts-grow}
-use Rattle.windows.specs.Windows.{start, jobStart}
 use Rattle.windows.proofs.Windows.{window-has-a-slot, due-in-order}
 use Rattle.table.specs.declared.Row.{Row}
 use Rattle.table.specs.declared.Table.{Table}
 use Rattle.table.specs.Value.{faultOf, rowsOf}
-use Rattle.pd2.specs.Ready.{originOf, isEarlyRelease, readyPlain, readyEarlyRelease, ready, late}
+use Rattle.pd2.specs.Ready.{originOf, ready, late}
 use Rattle.pd2.specs.Share.{lower, upper, within, CanBe}
 use Rattle.pd2.specs.Choice.{rowAt}
+use Rattle.pd2.proofs.Readiness.{ready-from-start, late-from-deadline}
 use Rattle.pd2.proofs.Share.{row-can-be, nothing-is-within, upper-kept-when-idle, upper-after-quantum-means-ready, late-means-below}
 use Rattle.trace.specs.Records.{namedIn, firstPlace, names, slotsIn, rowsOfSlot, timesNamed}
 use Rattle.trace.proofs.Records.{counted-if-named, uncounted-if-not-named}
 use Rattle.checker.specs.Passes.{firstAllowed, due, Holds, InWindows}
 use Rattle.checker.proofs.Sound.{InTime}
-
--- A row is ready from the first allowed slot of its next subtask on,
-ready-from-first-allowed : (row : Row) (q t : ℕ) → ready row q t ≡ leb (firstAllowed row (q + 1)) t
-unfolding ready
-ready-from-first-allowed row q t = go (isEarlyRelease row)
-  where
-    go : (kind : Bool) →
-        cond kind (readyEarlyRelease row q t) (readyPlain row q t)
-        ≡ leb (cond kind (jobStart (row .cost) (row .period) (originOf row) (q + 1)) (start (row .cost) (row .period) (originOf row) (q + 1))) t
-    go true = refl
-    go false = refl
-
--- and late from its deadline on.
-late-from-due : (row : Row) (q t : ℕ) → late row q t ≡ leb (due row (q + 1)) t
-unfolding late
-late-from-due row q t = refl
 
 -- A row of a table without fault, in a trace.
 module _ (table : Table) (s : List ℕ) (sound : faultOf table ≡ 0) (i : ℕ) (l : i < length (rowsOf table)) where
@@ -93,12 +77,12 @@ module _ (table : Table) (s : List ℕ) (sound : faultOf table ≡ 0) (i : ℕ) 
       omega (arith, window-has-a-slot (row .cost) (row .period) (originOf row) (can .cost) period {i = quanta 0 + 1} (omega arith))
   due-ahead (suc t) each =
       rw (← add-one t)
-      (leb-false _ (t + 1) (sym (late-from-due row (quanta (t + 1)) (t + 1)) ∙ each t (omega arith) .none-late i l))
+      (leb-false _ (t + 1) (sym (late-from-deadline row (quanta (t + 1)) (t + 1)) ∙ each t (omega arith) .none-late i l))
 
   -- So a quantum in a slot of them falls inside its allowed slots,
   pub in-time-is-allowed : (t j : ℕ) → ((u : ℕ) → u ≤ t → InTime table s u) → Holds s i t j → (firstAllowed row j ≤ t) × (t < due row j)
   in-time-is-allowed t j each holds =
-      let was-ready = sym (ready-from-first-allowed row (quanta t) t) ∙ each t (omega arith) .readied i l (holds .0) in
+      let was-ready = sym (ready-from-start row (quanta t) t) ∙ each t (omega arith) .readied i l (holds .0) in
       rw (← holds .1) (leb-true (firstAllowed row (quanta t + 1)) t was-ready, due-ahead t (λ u k. each u (omega arith)))
 
   -- and what is due after them has been held,
@@ -109,12 +93,12 @@ module _ (table : Table) (s : List ℕ) (sound : faultOf table ≡ 0) (i : ℕ) 
   -- and the other way round: with each quantum inside its allowed slots it was ready where it is named,
   pub allowed-was-ready : InWindows table s → (t : ℕ) → t < slotsIn s → names (rowsOfSlot s t) i ≡ true → ready row (quanta t) t ≡ true
   allowed-was-ready windows t k e =
-      ready-from-first-allowed row (quanta t) t
+      ready-from-start row (quanta t) t
       ∙ le-leb (firstAllowed row (quanta t + 1)) t (windows .allowed i t (quanta t + 1) l k (e, refl) .0)
 
   -- and with none overdue it is not late: what is due by time t has been held by then, so it is not the next.
   pub held-not-late : InWindows table s → (t : ℕ) → t ≤ slotsIn s → late row (quanta t) t ≡ false
-  held-not-late windows t k = late-from-due row (quanta t) t ∙ go (decLt t (due row (quanta t + 1)))
+  held-not-late windows t k = late-from-deadline row (quanta t) t ∙ go (decLt t (due row (quanta t + 1)))
     where
       next : ℕ
       next = due row (quanta t + 1)

@@ -1,6 +1,6 @@
 -- Going through a trace, record after record. Assumes nothing.
 use Prim.Native.Nat.{ℕ, _+_, _-_, _≤_, _<_}
-use mathlib.Core.Path.{_≡_, refl, sym, ap, _∙_}
+use mathlib.Core.Path.{_≡_, sym, ap, _∙_}
 use mathlib.Core.List.{List, append-assoc}
 use native.Mathlib.Omega.{arith}
 use borrow.Author.Tests.{lt-ltb, le-ltb}
@@ -12,12 +12,13 @@ use Rattle.facts.proofs.Counting.{none-counted}
 use Rattle.facts.proofs.Filling.{one-left-more}
 use Rattle.table.specs.declared.Table.{Table}
 use Rattle.table.specs.Value.{rowsOf}
-use Rattle.pd2.specs.Choice.{rowAt}
+use Rattle.pd2.specs.Choice.{rowAt, quantaAt}
 use Rattle.trace.specs.Said.{Said, bare}
 use Rattle.trace.specs.Records.{placeOf, namedIn, firstPlace, slotsIn}
+use Rattle.trace.proofs.Records.{begins-at-first}
 use Rattle.checker.specs.Causes.{slotLimit}
 use Rattle.checker.specs.Check.{recordFindings, recordsFindings, lastFindings, traceSaid}
-use Rattle.checker.specs.Walking.{quantaAt, DueAre, Reached, Walked}
+use Rattle.checker.specs.Walking.{DueAre, Reached, Walked}
 use Rattle.checker.specs.Passes.{due}
 
 -- nothing has been given at the start
@@ -50,12 +51,12 @@ module _ (table : Table) (s : List ℕ) where
 
     -- else the check begins.
     pub check-begins : {slots : ℕ} → slots ≡ slotsIn s → slots ≤ slotLimit → {dues : List ℕ} → DueAre table (λ _. 0) dues → Come slots 0 4 (replicate 32 0) dues
-    unfolding traceSaid placeOf
+    unfolding traceSaid
     check-begins {slots} e few dues =
         record {
           reached =
               record {
-                place = refl;
+                place = sym (begins-at-first s firstPlace);
                 inside = there;
                 long = length-replicate {A = ℕ} 32 0;
                 quanta = λ i l. nothing i ∙ sym (none-counted (namedIn s firstPlace i));

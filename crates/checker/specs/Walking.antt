@@ -7,14 +7,14 @@ use lib.ListN.{length, getD, take, drop}
 use Rattle.facts.specs.First.{Lowest}
 use Rattle.facts.specs.Findings.{FirstFound, NoneFound}
 use Rattle.counts.specs.Limits.{kept}
-use Rattle.windows.specs.Fits.{reach}
+use Rattle.windows.specs.Next.{reach}
 use Rattle.table.specs.declared.Row.{Row}
 use Rattle.table.specs.declared.Table.{Table}
 use Rattle.table.specs.Limits.{rowLimit}
 use Rattle.table.specs.Value.{faultOf, rowsOf}
 use Rattle.pd2.specs.Ready.{ready}
 use Rattle.pd2.specs.Share.{CanBe}
-use Rattle.pd2.specs.Choice.{rowAt}
+use Rattle.pd2.specs.Choice.{rowAt, quantaAt}
 use Rattle.trace.specs.Said.{bare}
 use Rattle.trace.specs.Records.{pickedAt, pastRecord, names, placeIn, timesNamed}
 use Rattle.checker.specs.declared.Answer.{Answer}
@@ -28,10 +28,6 @@ pub record CanCheck (table : Table) : Type 0 where
   pub sound : faultOf table ≡ 0
   pub few : table .n ≤ rowLimit
   pub all : length (rowsOf table) ≡ table .n
-
--- how many quanta a row has been given, by the array of counts
-abbrev pub quantaAt : List ℕ → ℕ → ℕ
-quantaAt counts i = getD counts i 0
 
 -- The rows can be asked: their quanta and the time are within their limits.
 pub record Askable (table : Table) (counts : List ℕ) (t : ℕ) : Type 0 where

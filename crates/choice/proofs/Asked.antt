@@ -3,21 +3,16 @@ use Prim.Native.Nat.{ℕ, _+_, _-_, _*_, _%_, _<_}
 use mathlib.Core.Path.{_≡_, refl, _∙_}
 use mathlib.Core.List.{List}
 use mathlib.Core.Bool.{Bool, true, false, false≢true}
-use native.Mathlib.Nat.{mul-le-mul}
 use native.Mathlib.Omega.{arith}
 use borrow.Author.Tests.{eq-eqb, ne-eqb}
 use Rattle.counts.specs.Limits.{most}
-use Rattle.windows.specs.declared.Due.{Due}
-use Rattle.windows.specs.declared.Due.the-variants.{By}
-use Rattle.windows.specs.declared.Moment.{Moment}
-use Rattle.windows.specs.declared.Moment.the-variants.{At}
-use Rattle.windows.specs.Next.{InReach, nextDue, next}
 use Rattle.windows.specs.Group.{groupDeadline}
-use Rattle.windows.proofs.Next.{due-in-reach, next-in-reach}
 use Rattle.windows.specs.Windows.{deadline, bit}
 use Rattle.windows.proofs.Windows.{deadline-is-near}
+use Rattle.windows.proofs.Fits.{product-fits}
 use Rattle.table.specs.declared.Row.{Row}
 use Rattle.pd2.specs.Ready.{originOf, ready}
+use Rattle.pd2.specs.Share.{CanBe}
 use Rattle.pd2.specs.Verdict.{answered}
 use Rattle.pd2.specs.Choice.{rowAt, quantaAt}
 use Rattle.pd2.proofs.Verdicts.{in-reach, yes-is-answered}
@@ -48,25 +43,15 @@ unfolding keyOf
 unready-key row q t h = rw h (refl, λ e. absurd (false≢true e))
 
 module _ (row : Row) (q : ℕ) (u : HasWindow row q) where
-  -- Its windows are within reach, since a phase is.
-  pub row-in-reach : row .phase < 65_536 → InReach (row .cost) (row .period) (originOf row) q
-  row-in-reach small = record { cost = u .cost; weight = u .weight; origin = omega arith; quanta = u .quanta }
-
-  -- When its next quantum is due is answered,
-  pub due-is-said : row .phase < 65_536 → {o : ℕ} → o ≡ originOf row → {r : Due} → r ≡ nextDue (row .cost) (row .period) o q →
-      r ≡ By (record { 0 = deadline (row .cost) (row .period) (originOf row) (q + 1) }) (bit (row .cost) (row .period) (q + 1))
-  due-is-said small same e = rw (e, same) (due-in-reach (row-in-reach small))
-
-  -- and its group deadline.
-  pub group-is-said : row .phase < 65_536 → {o : ℕ} → o ≡ originOf row → {r : Moment} → r ≡ next groupDeadline (row .cost) (row .period) o q →
-      r ≡ At (record { 0 = groupDeadline (row .cost) (row .period) (originOf row) (q + 1) })
-  group-is-said small same e = rw (e, same) (next-in-reach groupDeadline (row-in-reach small))
+  -- It can be.
+  pub row-can : CanBe row
+  row-can = record { cost = u .cost; weight = u .weight }
 
   -- Its deadline is far from the largest number.
   pub deadline-is-small : row .phase < 65_536 → row .period < 65_536 → deadline (row .cost) (row .period) (originOf row) (q + 1) < 5_000_000_000_000_000_000
   deadline-is-small phase period =
       let near = deadline-is-near (row .cost) (row .period) (originOf row) (q + 1) (u .cost) in
-      let product = mul-le-mul {n₁ = q + 1} {m₁ = row .period} {n₂ = 70_368_744_177_665} {m₂ = 65_535} (omega (arith, u .quanta)) (omega arith) in
+      let product = product-fits {n = q + 1} (omega (arith, u .quanta)) period in
       omega arith
 
   -- The key of a row that is ready.

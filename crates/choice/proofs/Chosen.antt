@@ -1,22 +1,21 @@
 -- That rows are chosen as PD2 picks, and that the promise of `picks` determines the marks. Assumes nothing.
 use Prim.Native.Nat.{ℕ, _<_, min}
-use mathlib.Core.Path.{_≡_, sym, ap, _∙_}
+use mathlib.Core.Path.{_≡_, refl, sym, ap, _∙_}
 use mathlib.Core.List.{List}
 use mathlib.Core.Bool.{Bool, false, _&&_}
 use native.Mathlib.Decide.{decLt}
 use native.Mathlib.Omega.{arith}
 use borrow.Author.Tests.{lt-ltb}
-use lib.Dec.{ltb}
 use lib.ListN.{length, getD, take, length-take}
 use lib.Seq.{take-all, ext-getD}
 use Rattle.facts.specs.Determined.{Determined}
-use Rattle.facts.proofs.Counting.{same-list, same-count}
+use Rattle.facts.proofs.Counting.{same-list}
 use Rattle.counts.specs.declared.Quanta.{Quanta}
 use Rattle.table.specs.declared.Row.{Row}
-use Rattle.pd2.specs.Verdict.{answered}
 use Rattle.pd2.specs.Order.{before}
-use Rattle.pd2.specs.Picks.{ahead, picked}
+use Rattle.pd2.specs.Picks.{picked}
 use Rattle.pd2.specs.Choice.{readyIn, goesBeforeBy}
+use Rattle.pd2.proofs.Picks.{same-picked}
 use Rattle.pd2.proofs.Verdicts.{yes-when-answered}
 use Rattle.trace.specs.Record.{marked}
 use Rattle.trace.specs.Records.{names}
@@ -28,26 +27,15 @@ use Rattle.choice.specs.Choice.{saysReadyIn, chosen, ChosenAsPd2}
 
 -- Where every row is answered, the rows that are chosen are those that PD2 picks.
 pub chosen-as-pd2 : ChosenAsPd2
-unfolding picked
-chosen-as-pd2 rows quanta t k all = same-list (picked asked goesBefore n k) (picked (readyIn rows quanta t) goesBefore n k) n each
+chosen-as-pd2 rows quanta t k all =
+    same-list (picked (saysReadyIn rows quanta t) goesBefore n k) (picked (readyIn rows quanta t) goesBefore n k) n
+    (same-picked (saysReadyIn rows quanta t) (readyIn rows quanta t) goesBefore goesBefore n k (λ i l. yes-when-answered (readyIn rows quanta t i) (all i l)) (λ i j l m. refl))
   where
     n : ℕ
     n = length rows
 
-    asked : ℕ → Bool
-    asked = saysReadyIn rows quanta t
-
     goesBefore : ℕ → ℕ → Bool
     goesBefore = goesBeforeBy before rows quanta
-
-    same : (i : ℕ) → i < n → asked i ≡ readyIn rows quanta t i
-    same i l = yes-when-answered (readyIn rows quanta t i) (all i l)
-
-    each : (i : ℕ) → i < n → asked i && ltb (ahead asked goesBefore n i) k ≡ readyIn rows quanta t i && ltb (ahead (readyIn rows quanta t) goesBefore n i) k
-    each i l =
-        rw (same i l)
-        (ap (λ c. readyIn rows quanta t i && ltb c k)
-        (same-count (λ j. asked j && goesBefore j i) (λ j. readyIn rows quanta t j && goesBefore j i) n (λ j m. ap (λ b. b && goesBefore j i) (same j m))))
 
 -- Marks that name the same rows are the same,
 same-marks : (a b : List Bool) → length a ≡ length b → marked a ≡ marked b → a ≡ b

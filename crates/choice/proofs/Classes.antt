@@ -12,6 +12,7 @@ use Rattle.facts.proofs.Counting.{same-count, counts-apart, counts-no-more, cou
 use Rattle.facts.proofs.Tests.{both, one-of-two}
 use Rattle.counts.specs.Limits.{most}
 use Rattle.pd2.specs.Picks.{ahead, picked}
+use Rattle.pd2.proofs.Picks.{picked-if-few-ahead, unready-is-not-picked}
 use Rattle.choice.specs.Classes.{IsCut, tied, inCut}
 
 -- Each row has a key, the largest number if it is not ready. Row j goes before row i by its key, or by `sub` where the keys are equal.
@@ -105,7 +106,7 @@ module _
     module _ (group : ℕ → ℕ) (ties : (j i : ℕ) → j < n → i < n → 0 < left → key j ≡ class → key i ≡ class → class < most → tied key group j i ≡ eqb (key j) (key i) && sub j i) where
       -- PD2's rule picks exactly the rows that the cut takes.
       pub cut-takes-picked : (i : ℕ) → i < n → inCut key group n class left i ≡ picked ready goesBefore n k i
-      unfolding inCut picked
+      unfolding inCut
       cut-takes-picked i l = go (ready i) refl
         where
           tie-is : 0 < left → key i ≡ class → class < most → howMany (λ j. tied key group j i) n ≡ howMany (λ j. eqb (key j) (key i) && sub j i) n
@@ -142,6 +143,6 @@ module _
               (le-ltb (howMany (λ j. tied key group j i) n) left (omega arith))
 
           go : (x : Bool) → ready i ≡ x →
-              ltb (key i) class || (not (ltb class (key i)) && ltb (howMany (λ j. tied key group j i) n) left) ≡ ready i && ltb (ahead ready goesBefore n i) k
-          go true h = place h (decLt (key i) class) (decLt class (key i)) ∙ sym (ap (λ x. x && ltb (ahead ready goesBefore n i) k) h)
-          go false h = far (unready i l h) (decLt class (key i)) ∙ sym (ap (λ x. x && ltb (ahead ready goesBefore n i) k) h)
+              ltb (key i) class || (not (ltb class (key i)) && ltb (howMany (λ j. tied key group j i) n) left) ≡ picked ready goesBefore n k i
+          go true h = place h (decLt (key i) class) (decLt class (key i)) ∙ sym (picked-if-few-ahead ready goesBefore n k i h)
+          go false h = far (unready i l h) (decLt class (key i)) ∙ sym (unready-is-not-picked ready goesBefore n k i h)

@@ -1,5 +1,5 @@
 -- The arrays of the choice: keys, group deadlines and marks. Assumes nothing.
-use Prim.Native.Nat.{ℕ, zero, suc, _+_, _-_, _≤_, _<_}
+use Prim.Native.Nat.{ℕ, _+_, _-_, _≤_, _<_}
 use mathlib.Core.Path.{_≡_, refl, ap, _∙_}
 use mathlib.Core.List.{List}
 use mathlib.Core.Bool.{Bool, true, false}
@@ -10,7 +10,7 @@ use lib.Dec.{ltb}
 use lib.ListN.{length, getD, take, replicate, set}
 use lib.Seq.{getD-set-same, getD-set-other}
 use Rattle.facts.specs.Counting.{howMany, those}
-use Rattle.facts.proofs.Counting.{unlisted-if-failed, same-list}
+use Rattle.facts.proofs.Counting.{list-ends}
 use Rattle.facts.proofs.Filling.{Filled, filling-begins, fills-one-more}
 use Rattle.counts.specs.declared.Quanta.{Quanta}
 use Rattle.counts.specs.Limits.{most}
@@ -39,13 +39,6 @@ module _ (key group : ℕ → ℕ) (n class left i : ℕ) where
   pub by-class : class ≤ key i → key i ≤ class → {ahead : ℕ} → ahead ≡ howMany (λ j. tied key group j i) n → ltb ahead left ≡ inCut key group n class left i
   unfolding inCut
   by-class h h′ e = rw (le-ltb (key i) class h, le-ltb class (key i) h′, e) refl
-
--- what fails from n on is not listed
-list-ends : (a b : ℕ → Bool) (n more : ℕ) → ((i : ℕ) → i < n → a i ≡ b i) → ((i : ℕ) → n ≤ i → i < n + more → a i ≡ false) → those a (n + more) ≡ those b n
-list-ends a b n zero same fails = ap (those a) {x = n + 0} {y = n} (omega arith) ∙ same-list a b n same
-list-ends a b n (suc more) same fails =
-    ap (those a) {x = n + suc more} {y = n + more + 1} (omega arith)
-    ∙ (unlisted-if-failed a (n + more) (fails (n + more) (omega arith) (omega arith)) ∙ list-ends a b n more same (λ i l h. fails i l (omega arith)))
 
 -- Marks that were filled for the first n rows name the rows that pass.
 pub marks-are : (a : ℕ → Bool) (n : ℕ) (marks : List Bool) {i : ℕ} → Filled a false false 32 i marks → i ≡ n → n ≤ 32 →

@@ -1,6 +1,6 @@
 -- The key of a rank orders as PD2 does, up to ties. Assumes nothing.
 use Prim.Native.Nat.{ℕ, _-_, _≤_, _<_}
-use mathlib.Core.Path.{_≡_}
+use mathlib.Core.Path.{_≡_, _∙_}
 use mathlib.Core.Bool.{Bool, cond, _&&_, _||_}
 use mathlib.Core.Logic.{_⊎_, inl, inr}
 use native.Mathlib.Decide.{decLt}
@@ -8,6 +8,7 @@ use native.Mathlib.Omega.{arith}
 use borrow.Author.Tests.{lt-ltb, le-ltb, eq-eqb, ne-eqb}
 use lib.Dec.{ltb, eqb}
 use Rattle.pd2.specs.Order.{Rank, before, bitDecides, groupDecides, rowDecides}
+use Rattle.pd2.proofs.Order.{sooner-goes-first, later-does-not, other-rules-decide}
 use Rattle.choice.specs.Classes.{keyFor, larger}
 
 -- Which of two ranks of one key goes first: "if both have b = 1, larger D; then the lower row number".
@@ -32,33 +33,30 @@ group-is-larger D D′ row row′ = go (decLt D D′) (decLt D′ D)
 -- PD2's order is the order of the keys and, among equal keys, the tie.
 pub before-is-by-key : (x y : Rank) → (x .b ≡ 0) ⊎ (x .b ≡ 1) → (y .b ≡ 0) ⊎ (y .b ≡ 1) →
     before x y ≡ ltb (keyFor x) (keyFor y) || (eqb (keyFor x) (keyFor y) && tie x y)
-unfolding before
 before-is-by-key x y bx by = go (decLt (x .d) (y .d)) (decLt (y .d) (x .d)) bx by
   where
-    go : Dec (x .d < y .d) → Dec (y .d < x .d) → (x .b ≡ 0) ⊎ (x .b ≡ 1) → (y .b ≡ 0) ⊎ (y .b ≡ 1) →
-        ltb (x .d) (y .d) || (eqb (x .d) (y .d) && (bitDecides x y || groupDecides x y || rowDecides x y)) ≡ byKey x y
+    go : Dec (x .d < y .d) → Dec (y .d < x .d) → (x .b ≡ 0) ⊎ (x .b ≡ 1) → (y .b ≡ 0) ⊎ (y .b ≡ 1) → before x y ≡ byKey x y
     go (yes l) m p q =
         let k : keyFor x < keyFor y = omega arith in
-        simp (lt-ltb _ _ l, lt-ltb _ _ k)
+        sooner-goes-first x y l ∙ simp (lt-ltb _ _ k)
     go (no l) (yes m) p q =
-        let h : y .d ≤ x .d = omega arith in
         let k : keyFor y ≤ keyFor x = omega arith in
-        simp (le-ltb _ _ h, ne-eqb (x .d) (y .d) (λ e. omega arith), le-ltb _ _ k, ne-eqb (keyFor x) (keyFor y) (λ e. omega arith))
-    go (no l) (no m) (inl p) (inl q) =
-        let h : y .d ≤ x .d = omega arith in
-        let k : keyFor y ≤ keyFor x = omega arith in
-        let same : keyFor x ≡ keyFor y = omega arith in
-        simp (le-ltb _ _ h, eq-eqb (x .d) (y .d) (omega arith), le-ltb _ _ k, eq-eqb (keyFor x) (keyFor y) same) (rw (p, q))
-    go (no l) (no m) (inl p) (inr q) =
-        let h : y .d ≤ x .d = omega arith in
-        let k : keyFor y ≤ keyFor x = omega arith in
-        simp (le-ltb _ _ h, eq-eqb (x .d) (y .d) (omega arith), le-ltb _ _ k, ne-eqb (keyFor x) (keyFor y) (λ e. omega arith)) (rw (p, q))
-    go (no l) (no m) (inr p) (inl q) =
-        let h : y .d ≤ x .d = omega arith in
-        let k : keyFor x < keyFor y = omega arith in
-        simp (le-ltb _ _ h, eq-eqb (x .d) (y .d) (omega arith), lt-ltb _ _ k) (rw (p, q))
-    go (no l) (no m) (inr p) (inr q) =
-        let h : y .d ≤ x .d = omega arith in
-        let k : keyFor y ≤ keyFor x = omega arith in
-        let same : keyFor x ≡ keyFor y = omega arith in
-        simp (le-ltb _ _ h, eq-eqb (x .d) (y .d) (omega arith), le-ltb _ _ k, eq-eqb (keyFor x) (keyFor y) same) (rw (p, q) (group-is-larger (x .D) (y .D) (x .row) (y .row)))
+        later-does-not x y m ∙ simp (le-ltb _ _ k, ne-eqb (keyFor x) (keyFor y) (λ e. omega arith))
+    go (no l) (no m) p q = other-rules-decide x y (omega arith) ∙ by-bits p q
+      where
+        -- at the same deadline the keys go by the bits
+        by-bits : (x .b ≡ 0) ⊎ (x .b ≡ 1) → (y .b ≡ 0) ⊎ (y .b ≡ 1) → bitDecides x y || groupDecides x y || rowDecides x y ≡ byKey x y
+        by-bits (inl p) (inl q) =
+            let k : keyFor y ≤ keyFor x = omega arith in
+            let same : keyFor x ≡ keyFor y = omega arith in
+            simp (le-ltb _ _ k, eq-eqb (keyFor x) (keyFor y) same) (rw (p, q))
+        by-bits (inl p) (inr q) =
+            let k : keyFor y ≤ keyFor x = omega arith in
+            simp (le-ltb _ _ k, ne-eqb (keyFor x) (keyFor y) (λ e. omega arith)) (rw (p, q))
+        by-bits (inr p) (inl q) =
+            let k : keyFor x < keyFor y = omega arith in
+            simp (lt-ltb _ _ k) (rw (p, q))
+        by-bits (inr p) (inr q) =
+            let k : keyFor y ≤ keyFor x = omega arith in
+            let same : keyFor x ≡ keyFor y = omega arith in
+            simp (le-ltb _ _ k, eq-eqb (keyFor x) (keyFor y) same) (rw (p, q) (group-is-larger (x .D) (y .D) (x .row) (y .row)))

@@ -10,7 +10,7 @@ use borrow.Author.Tests.{le-ltb, eq-eqb, ne-eqb}
 use lib.Dec.{ltb, eqb}
 use lib.ListN.{length}
 use Rattle.facts.specs.Counting.{howMany, those}
-use Rattle.facts.proofs.Tests.{or-false}
+use Rattle.facts.proofs.Tests.{or-false, and-false}
 use Rattle.facts.proofs.Counting.{same-list}
 use Rattle.counts.specs.Limits.{most}
 use Rattle.windows.proofs.Windows.{bit-is-0-or-1}
@@ -129,10 +129,6 @@ module _ (rows : List Row) (quanta : List ℕ) (t k : ℕ) {n class left : ℕ} 
       ∙ (same-list (λ i. ltb (keyIn keys i) class) (inCut (keyIn keys) (groupIn []) n class left) n (λ i l. sym (only-before i))
       ∙ rw (← all) (cut-picks rows quanta t k keys [] class left keyed (rw all cut) (λ some. absurd (omega (arith, none)))))
     where
-      and-false : (b : Bool) → b && false ≡ false
-      and-false true = refl
-      and-false false = refl
-
       only-before : (i : ℕ) → inCut (keyIn keys) (groupIn []) n class left i ≡ ltb (keyIn keys i) class
       only-before i =
           rw (le-ltb (howMany (λ j. tied (keyIn keys) (groupIn []) j i) n) left (omega (arith, none)))

@@ -8,7 +8,7 @@ use lib.Dec.{ltb, eqb}
 use lib.ListN.{length, getD}
 use Rattle.facts.specs.Counting.{howMany}
 use Rattle.counts.specs.Limits.{most}
-use Rattle.windows.specs.Fits.{reach}
+use Rattle.windows.specs.Next.{reach}
 use Rattle.table.specs.declared.Row.{Row}
 use Rattle.pd2.specs.Order.{Rank, rankOf}
 use Rattle.pd2.specs.Choice.{rowAt, quantaAt}

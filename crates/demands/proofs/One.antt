@@ -9,13 +9,12 @@ use Rattle.windows.proofs.Question.{windows-are-answered}
 use Rattle.windows.proofs.Windows.{next-start-is-d-less-b}
 use Rattle.windows.proofs.LeastTime.{walk-gives-least-time}
 use Rattle.windows.proofs.Group.{light-has-none}
-use borrow.Author.Tests.{lt-ltb, le-leb}
-use Rattle.windows.specs.Fits.{reach}
 use Rattle.windows.specs.Next.{InReach}
 use Rattle.windows.proofs.Next.{next-in-reach, due-in-reach}
 use Rattle.table.specs.Bytes.{tableNumber, tableIn}
 use Rattle.table.proofs.Taken.{number-read, table-read, numbers-are-first-causes, numbers-are-10-to-22, taken-where-no-cause, no-table-read, past-is-zero}
 use Rattle.table.proofs.Faultless.{taken-exactly, faultless-exactly}
+use Rattle.pd2.proofs.Verdicts.{answered-in-reach}
 use Rattle.trace.specs.Said.{bare}
 use Rattle.trace.proofs.Found.{found-if-all-inside, part-is-record}
 use Rattle.dispatcher.proofs.Kept.{refusals-are-first-causes, refusal-changes-nothing, fault-answers-30}
@@ -30,7 +29,7 @@ use Rattle.demands.proofs.Refusals.{broken-exactly, slot-exactly}
 questions : Questions
 questions =
     record {
-      row = λ row q t cost weight few soon. rw (lt-ltb 0 (row .cost) cost, le-leb (row .cost) (row .period) weight, le-leb q reach (omega arith), le-leb t reach (omega arith)) refl;
+      row = λ row q t cost weight few soon. answered-in-reach row q t (record { cost = cost; weight = weight }) (omega arith) (omega arith);
       next-is = λ e p f q cost weight near few.
           let reached : InReach e p f q = record { cost = cost; weight = weight; origin = omega arith; quanta = omega arith } in
           record { time = λ of. next-in-reach of reached; due = due-in-reach reached };

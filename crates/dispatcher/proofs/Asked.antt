@@ -4,14 +4,13 @@ use mathlib.Core.Path.{_≡_, refl, ap, _∙_}
 use mathlib.Core.List.{List}
 use mathlib.Core.Bool.{Bool, true}
 use native.Mathlib.Omega.{arith}
-use borrow.Author.Tests.{lt-ltb, le-leb}
 use lib.ListN.{length, getD, take}
 use Rattle.counts.specs.declared.Quanta.{Quanta}
 use Rattle.table.specs.declared.Row.{Row}
 use Rattle.pd2.specs.Share.{CanBe}
 use Rattle.pd2.specs.declared.Verdict.{Verdict}
 use Rattle.pd2.specs.Verdict.{isYes, answered, verdict}
-use Rattle.pd2.proofs.Verdicts.{yes-when-answered}
+use Rattle.pd2.proofs.Verdicts.{answered-in-reach, yes-when-answered}
 use Rattle.choice.specs.Arrays.{InPlace}
 use Rattle.counts.specs.Numbers.{numbersOf}
 use Rattle.choice.specs.Choice.{chosen}
@@ -27,8 +26,7 @@ use Rattle.dispatcher.specs.Usable.{UsableRow, Testable, Usable, UsableS
 -- A question about a usable row is answered.
 pub can-be-asked : {row : Row} {q t : ℕ} → UsableRow row q t → answered row q t ≡ true
 can-be-asked {row} {q} {t} u =
-    rw (lt-ltb _ _ (u .cost), le-leb (row .cost) (row .period) (omega (arith, u .weight)))
-    (rw (le-leb q 70_368_744_177_664 (omega (arith, u .quanta, u .time)), le-leb t 70_368_744_177_664 (omega (arith, u .time))) refl)
+    answered-in-reach row q t (record { cost = u .cost; weight = omega (arith, u .weight) }) (omega (arith, u .quanta, u .time)) (omega (arith, u .time))
 
 module _ {rows : List Row} {quanta : List Quanta} {n : ℕ} where
   -- Row i, as the code reads it, can be if all rows can,

@@ -2,8 +2,8 @@
 use Prim.Native.Nat.{ℕ, zero, suc, _+_, _≤_, _<_}
 use mathlib.Core.Path.{_≡_, refl, sym, ap, _∙_}
 use mathlib.Core.List.{List, [], _∷_, _++_, append-nil}
-use mathlib.Core.Bool.{Bool, true, false, cond, _&&_, _||_, true≢false}
-use mathlib.Core.Logic.{_⊎_, inl, inr}
+use mathlib.Core.Bool.{Bool, true, false, cond, _&&_, _||_, true≢false, Bool-discrete}
+use mathlib.Core.Logic.{_⊎_, inl, inr, ⊎-elim}
 use lib.ListN.{length, getD, length-append, List·getD-append}
 use lib.Seq.{getD-append-seam}
 use native.Mathlib.Decide.{decLt}
@@ -14,6 +14,7 @@ use lib.Dec.{ltb}
 use Rattle.facts.specs.Counting.{howMany, those, some}
 use Rattle.facts.specs.First.{Lowest}
 use Rattle.facts.proofs.Tests.{or-true}
+use Rattle.facts.proofs.Search.{some-below}
 
 -- What passes is counted and listed,
 pub counted-if-passed : (a : ℕ → Bool) (n : ℕ) → a n ≡ true → howMany a (n + 1) ≡ howMany a n + 1
@@ -91,18 +92,11 @@ as-many-listed a (suc n) =
 
 -- Some number below n passes, or none does.
 pub some-or-none : (a : ℕ → Bool) (n : ℕ) → ((i : ℕ) × (i < n) × (a i ≡ true)) ⊎ ((i : ℕ) → i < n → a i ≡ false)
-some-or-none a zero = inr (λ i l. absurd (omega arith))
-some-or-none a (suc n) = go (a n) refl (some-or-none a n)
+some-or-none a n = ⊎-elim inl (λ none. inr (λ i l. fails (a i) refl (none i l))) (some-below (λ i. a i ≡ true) (λ i. Bool-discrete (a i) true) n)
   where
-    go : (t : Bool) → a n ≡ t → ((i : ℕ) × (i < n) × (a i ≡ true)) ⊎ ((i : ℕ) → i < n → a i ≡ false) →
-        ((i : ℕ) × (i < suc n) × (a i ≡ true)) ⊎ ((i : ℕ) → i < suc n → a i ≡ false)
-    go true e rest = inl (n, omega arith, e)
-    go false e (inl found) = inl (found .0, omega (arith, found .1), found .2)
-    go false e (inr none) = inr (λ i l. here i l (decLt i n))
-      where
-        here : (i : ℕ) → i < suc n → Dec (i < n) → a i ≡ false
-        here i l (yes h) = none i h
-        here i l (no h) = ap a {x = i} {y = n} (omega arith) ∙ e
+    fails : {i : ℕ} (t : Bool) → a i ≡ t → (a i ≡ true → ⊥) → a i ≡ false
+    fails true e never = absurd (never e)
+    fails false e never = e
 
 -- If what passes one test passes one of two others, there are no more of them than of those two together.
 pub counts-together : (a b c : ℕ → Bool) (n : ℕ) → ((i : ℕ) → i < n → a i ≡ true → (b i ≡ true) ⊎ (c i ≡ true)) →
@@ -251,6 +245,13 @@ pub same-list : (a b : ℕ → Bool) (n : ℕ) → ((i : ℕ) → i < n → a i 
 unfolding those
 same-list a b zero h = refl
 same-list a b (suc n) h = rw (same-list a b n (λ i l. h i (omega arith)), h n (omega arith))
+
+-- What fails from n on is not listed.
+pub list-ends : (a b : ℕ → Bool) (n more : ℕ) → ((i : ℕ) → i < n → a i ≡ b i) → ((i : ℕ) → n ≤ i → i < n + more → a i ≡ false) → those a (n + more) ≡ those b n
+list-ends a b n zero same fails = ap (those a) {x = n + 0} {y = n} (omega arith) ∙ same-list a b n same
+list-ends a b n (suc more) same fails =
+    ap (those a) {x = n + suc more} {y = n + more + 1} (omega arith)
+    ∙ (unlisted-if-failed a (n + more) (fails (n + more) (omega arith) (omega arith)) ∙ list-ends a b n more same (λ i l h. fails i l (omega arith)))
 
 never-listed : (n : ℕ) → those (λ i. false) n ≡ []
 unfolding those

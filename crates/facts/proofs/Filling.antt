@@ -1,6 +1,6 @@
 -- Filling from the front, one place a turn. Assumes nothing.
 use mathlib.Core.Path.{_≡_, refl, sym, ap, _∙_}
-use mathlib.Core.List.{List, [], _∷_, _++_}
+use mathlib.Core.List.{List, [], _∷_, _++_, map}
 use Prim.Native.Nat.{ℕ, zero, suc, _+_, _-_, _≤_, _<_}
 use native.Mathlib.Nat.{le-of-suc-le-suc, not-suc-le-zero}
 use native.Mathlib.Numerals.{add-one}
@@ -64,3 +64,9 @@ pub getD-any : {A : Type 0} (l : List A) (i : ℕ) (d d′ : A) → i < length l
 getD-any [] i d d′ h = absurd (not-suc-le-zero h)
 getD-any (x ∷ l) zero d d′ h = refl
 getD-any (x ∷ l) (suc i) d d′ h = getD-any l i d d′ (le-of-suc-le-suc h)
+
+-- What is the same at each place is the same of all.
+pub same-of-all : {A B : Type 0} (f g : A → B) (d : A) (l : List A) → ((j : ℕ) → j < length l → f (getD l j d) ≡ g (getD l j d)) → map f l ≡ map g l
+same-of-all f g d [] h = refl
+same-of-all f g d (x ∷ l) h =
+    ap (λ y. y ∷ map f l) (h 0 (omega arith)) ∙ ap (λ r. g x ∷ r) (same-of-all f g d l (λ j m. h (suc j) (omega arith)))

@@ -1,8 +1,10 @@
 pub mod Rounding
 pub mod Zero
 pub mod First
-pub mod Counting
 pub mod Tests
+pub mod Search
+pub mod Counting
+pub mod Sums
 pub mod Findings
 pub mod Rising
 pub mod Filling

@@ -1,5 +1,5 @@
 -- The laws of rounding up. Assumes nothing.
-use mathlib.Core.Path.{_≡_}
+use mathlib.Core.Path.{_≡_, refl}
 use mathlib.Core.Logic.{_↔_}
 use Prim.Native.Nat.{ℕ, _+_, _-_, _*_, _/_, _%_, _≤_, _<_}
 use native.Mathlib.Nat.{div-lt-iff-lt-mul, le-div-iff-mul-le, div-add-mod', div-eq-of-lt-le, div-mul-le-self, lt-div-mul-add, mod-lt}
@@ -44,6 +44,11 @@ pub ceil-of-part : (a : ℕ) {b : ℕ} → 0 < b → (a % b ≡ 0 → ⊥) → c
 unfolding ceilDiv
 ceil-of-part a {b} h z =
     div-eq-of-lt-le b (omega (arith, div-add-mod' a b)) (omega (arith, div-add-mod' a b, mod-lt a h))
+
+-- Rounding up is dividing after adding all but one of b.
+pub ceil-by-quotient : (a b : ℕ) → (a + (b - 1)) / b ≡ ceilDiv a b
+unfolding ceilDiv
+ceil-by-quotient a b = refl
 
 -- Rounded up, a larger number is not smaller.
 pub ceil-grows : {a c : ℕ} (b : ℕ) → 0 < b → a ≤ c → ceilDiv a b ≤ ceilDiv c b

@@ -22,6 +22,11 @@ pub neither-holds : (a b : Bool) → a || b ≡ false → (a ≡ false) × (b �
 neither-holds true b h = absurd (true≢false h)
 neither-holds false b h = (refl, h)
 
+-- If a test holds, but not without another, the other holds.
+pub not-without : (a b : Bool) → a ≡ true → a && not b ≡ false → b ≡ true
+not-without a true t f = refl
+not-without a false t f = absurd (true≢false (sym (hold-both t refl) ∙ f))
+
 -- Two tests that hold at the same times are the same test.
 pub same-test : {a b c d : ℕ} → (a ≤ b) ↔ (c ≤ d) → leb a b ≡ leb c d
 same-test {a} {b} {c} {d} h = go (decLe a b)
@@ -51,3 +56,7 @@ or-true false = refl
 pub or-false : (b : Bool) → b || false ≡ b
 or-false true = refl
 or-false false = refl
+
+pub and-false : (b : Bool) → b && false ≡ false
+and-false true = refl
+and-false false = refl

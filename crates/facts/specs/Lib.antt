@@ -2,6 +2,7 @@ pub mod Rounding
 pub mod Zero
 pub mod First
 pub mod Counting
+pub mod Sums
 pub mod Findings
 pub mod Rising
 pub mod Places

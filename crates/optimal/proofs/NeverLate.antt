@@ -1,17 +1,15 @@
 -- Nobody is ever late. Assumes nothing.
 use Prim.Native.Nat.{ℕ, _+_, _≤_, _<_}
 use mathlib.Core.Path.{_≡_}
-use mathlib.Core.Bool.{Bool, true, false, cond}
+use mathlib.Core.Bool.{Bool}
 use native.Mathlib.Decide.{decLe}
 use native.Mathlib.Omega.{arith}
-use borrow.Author.Tests.{le-leb, lt-leb}
-use Rattle.windows.specs.Windows.{start, deadline, jobStart}
-use Rattle.windows.proofs.Windows.{job-starts-first}
 use Rattle.windows.proofs.Group.{light-has-none}
 use Rattle.table.specs.declared.Row.{Row}
-use Rattle.pd2.specs.Ready.{originOf, isEarlyRelease, readyEarlyRelease, readyPlain, ready, late}
+use Rattle.pd2.specs.Ready.{originOf}
 use Rattle.pd2.specs.Order.{Rank, rankOf, Before, before}
 use Rattle.pd2.specs.Choice.{rowAt, quantaAt, readyIn, goesBeforeBy}
+use Rattle.pd2.proofs.Readiness.{started-is-ready, not-late-before-deadline}
 use Rattle.pd2.proofs.Order.{before-means-rule}
 use Rattle.pd2.proofs.Choice.{pd2-is-strict}
 use Rattle.optimal.specs.Box.{Box}
@@ -24,22 +22,6 @@ use Rattle.optimal.proofs.Descent.{greedy-is-on-time}
 use Rattle.optimal.proofs.Steady.{extension-is-ext}
 use Rattle.optimal.proofs.Rows.{due-means}
 use Rattle.optimal.proofs.Greedy.{setting, cuts-are-greedy, ext, extensions-are-greedy}
-
--- A row is not late before its next deadline.
-not-late-before-deadline : (row : Row) (q t : ℕ) → t < deadline (row .cost) (row .period) (originOf row) (q + 1) → late row q t ≡ false
-unfolding late
-not-late-before-deadline row q t l = lt-leb _ _ l
-
--- A row whose next subtask has started is ready: a job starts no later than its windows.
-started-is-ready : (row : Row) (q t : ℕ) → 0 < row .cost → start (row .cost) (row .period) (originOf row) (q + 1) ≤ t → ready row q t ≡ true
-unfolding ready
-started-is-ready row q t he l = go (isEarlyRelease row)
-  where
-    go : (isEarly : Bool) → cond isEarly (readyEarlyRelease row q t) (readyPlain row q t) ≡ true
-    go true =
-        let sooner = job-starts-first (row .cost) (row .period) (originOf row) he (q + 1) in
-        le-leb (jobStart (row .cost) (row .period) (originOf row) (q + 1)) t (omega arith)
-    go false = le-leb _ _ l
 
 -- In a course held to one rule the order is held to another, where the one implies the other.
 held-to : {n : ℕ} {row : ℕ → Row} {cores H : ℕ} {allows others : Rank → Rank → Type 0} {q : ℕ → ℕ → ℕ} {ready : ℕ → ℕ → Bool}

@@ -1,3 +1,4 @@
+pub mod Readiness
 pub mod Share
 pub mod Order
 pub mod Picks

@@ -1,7 +1,7 @@
 -- The laws of PD2's order. Assumes nothing.
 use Prim.Native.Nat.{_≤_, _<_}
-use mathlib.Core.Path.{_≡_}
-use mathlib.Core.Bool.{true, not, _&&_, _||_}
+use mathlib.Core.Path.{_≡_, refl}
+use mathlib.Core.Bool.{true, false, not, _&&_, _||_}
 use mathlib.Core.Logic.{_↔_, _⊎_, inl, inr}
 use native.Mathlib.Decide.{ℕ-discrete, decLt}
 use native.Mathlib.Omega.{arith}
@@ -132,3 +132,20 @@ rule-if-before x y h = first (one-of-two (ltb (x .d) (y .d)) _ h)
 -- For callers: the order's meaning. The test holds exactly if one of the four rules puts x before y.
 pub before-means-rule : (x y : Rank) → (before x y ≡ true) ↔ Before x y
 before-means-rule x y = (rule-if-before x y, before-if-rule x y)
+
+-- The smaller deadline goes first,
+pub sooner-goes-first : (x y : Rank) → x .d < y .d → before x y ≡ true
+unfolding before
+sooner-goes-first x y l = rw (lt-ltb _ _ l) refl
+
+-- the larger does not,
+pub later-does-not : (x y : Rank) → y .d < x .d → before x y ≡ false
+unfolding before
+later-does-not x y l =
+    let other : x .d ≡ y .d → ⊥ = λ e. omega arith in
+    rw (le-ltb (x .d) (y .d) (omega arith), ne-eqb _ _ other) refl
+
+-- and at the same deadline the other rules decide.
+pub other-rules-decide : (x y : Rank) → x .d ≡ y .d → before x y ≡ bitDecides x y || groupDecides x y || rowDecides x y
+unfolding before
+other-rules-decide x y e = rw (le-ltb (x .d) (y .d) (omega arith), eq-eqb _ _ e) refl

@@ -10,7 +10,8 @@ ghost use Rattle.windows.specs.Fits.{furthest, products};
 ghost use Rattle.counts.specs.Numbers.{numbersOf};
 ghost use Rattle.pd2.specs.Ready.{originOf, ready, late};
 ghost use Rattle.pd2.specs.Share.{lower, upper, upperPlain, upperEarlyRelease, within};
-ghost use Rattle.pd2.specs.Verdict.{isYes, answered, verdict, Near};
+ghost use Rattle.pd2.specs.Verdict.{isYes, answered, verdict};
+ghost use Rattle.pd2.specs.Near.{Near};
 ghost use Rattle.pd2.specs.Rows.{GaveMarked, saysLateIn};
 
 // The answer to a question about one row.

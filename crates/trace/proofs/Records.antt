@@ -4,14 +4,19 @@ use mathlib.Core.Path.{_≡_, refl, sym, ap, _∙_}
 use mathlib.Core.List.{List, _++_}
 use mathlib.Core.Bool.{true, false, cond}
 use native.Mathlib.Decide.{decLt}
+use native.Mathlib.Numerals.{add-one}
 use native.Mathlib.Omega.{arith}
 use lib.ListN.{length, take, drop, length-drop, take-append-drop, List·getD-append}
 use lib.Seq.{length-take-le, take-append-seam, take-append-le, drop-append-le, drop-append-add, getD-append-add}
-use Rattle.facts.specs.Counting.{howMany}
-use Rattle.facts.proofs.Counting.{same-count, counted-if-passed, uncounted-if-failed}
+use Rattle.facts.proofs.Counting.{same-count, counted-if-passed, uncounted-if-failed, counted-one-more}
 use Rattle.fields.specs.Fields.{byte}
 use Rattle.trace.specs.Record.{recordOf, withFront, withRecord}
 use Rattle.trace.specs.Records.{pickedAt, rowsAt, pastRecord, placeOf, names, namedIn, timesNamedFrom}
+
+-- The record of slot 0 begins at the first place.
+pub begins-at-first : (s : List ℕ) (from : ℕ) → placeOf s from 0 ≡ from
+unfolding placeOf
+begins-at-first s from = refl
 
 -- Records stand one behind the other: a later one begins at a later place.
 pub places-rise : (s : List ℕ) (from j t : ℕ) → j ≤ t → placeOf s from j ≤ placeOf s from t
@@ -25,8 +30,7 @@ places-rise s from j (suc t) h = go (decLt t j) (places-rise s from j t)
 
 -- The records stand from that place on,
 pub stand-from : (s : List ℕ) (from t : ℕ) → from ≤ placeOf s from t
-unfolding placeOf
-stand-from s from t = places-rise s from 0 t (omega arith)
+stand-from s from t = omega (arith, begins-at-first s from, places-rise s from 0 t (omega arith))
 
 -- that of slot t ends where the next begins,
 pub ends-at-next : (s : List ℕ) (from t : ℕ) → pastRecord s (placeOf s from t) ≡ placeOf s from (suc t)
@@ -101,9 +105,10 @@ module _ (front x rest rows : List ℕ) (k from t : ℕ) (full : placeOf (front 
 
   -- and what it names is counted
   named-too : (row : ℕ) → timesNamedFrom (front ++ (recordOf k rows ++ rest)) from row (suc t) ≡ timesNamedFrom (front ++ x) from row t + cond (names rows row) 1 0
-  unfolding howMany
   named-too row =
-      rw (count-stays front x (recordOf k rows ++ rest) from row t (omega (arith, full)), full-still, rows-found front rest rows k)
+      ap (timesNamedFrom (front ++ (recordOf k rows ++ rest)) from row) (sym (add-one t))
+      ∙ (counted-one-more (namedIn (front ++ (recordOf k rows ++ rest)) from row) t
+      ∙ rw (count-stays front x (recordOf k rows ++ rest) from row t (omega (arith, full)), full-still, rows-found front rest rows k) refl)
 
 -- For callers: t records stand in the bytes from a place on, and that of slot t is written behind them.
 module _ (b : List ℕ) (from t k : ℕ) (rows : List ℕ) (inside : placeOf b from t ≤ length b) where

@@ -8,6 +8,7 @@ use native.Mathlib.Omega.{arith}
 use borrow.Author.Tests.{le-leb, lt-leb, lt-ltb, le-ltb}
 use lib.Dec.{leb}
 use lib.ListN.{length, take, drop}
+use Rattle.trace.specs.declared.Place.{Place}
 use Rattle.trace.specs.declared.Place.the-variants.{Between, Nowhere}
 use Rattle.trace.specs.Records.{pickedAt, pastRecord, firstPlace, slotsIn, placeOf, placeIn}
 use Rattle.trace.specs.Found.{isFound, partFound, partBegins}
@@ -79,6 +80,10 @@ module _ (s : List ℕ) (t : ℕ) where
   pub below-slot-count : 4 ≤ length s → t < slotsIn s → placeInside s t ≡ placeFound s t
   unfolding isFound placeInside placeFound
   below-slot-count a h = simp (le-leb _ _ a, lt-ltb _ _ h)
+
+  -- What is found of the slot is what was found when its number was asked for.
+  pub found-as-asked : {asked : ℕ} {place : Place} → place ≡ placeFound s asked → asked ≡ t → placeFound s t ≡ place
+  found-as-asked e same = sym (e ∙ ap (placeFound s) same)
 
   -- Where nothing is found the part is empty and begins at 0,
   pub nowhere-is : placeFound s t ≡ Nowhere → ([] ≡ partFound s t) × (0 ≡ partBegins s t)

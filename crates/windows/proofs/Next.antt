@@ -14,9 +14,9 @@ use Rattle.windows.specs.declared.Due.{Due}
 use Rattle.windows.specs.declared.Due.the-variants as due
 use Rattle.windows.specs.declared.Moment.{Moment}
 use Rattle.windows.specs.declared.Moment.the-variants as moment
-use Rattle.windows.specs.Fits.{reach, Fits, CanWalk}
+use Rattle.windows.specs.Fits.{Fits, CanWalk}
 use Rattle.windows.specs.Windows.{deadline, bit}
-use Rattle.windows.specs.Next.{nextAnswered, InReach, nextDue, next}
+use Rattle.windows.specs.Next.{reach, nextAnswered, InReach, nextDue, next}
 
 -- within reach is answered, and the other way round
 in-reach-is-answered : {e p o q : ℕ} → InReach e p o q → nextAnswered e p o q ≡ true

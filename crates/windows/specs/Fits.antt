@@ -1,9 +1,6 @@
 -- Between functions: which numbers the code computes with; no part of what 01 says. Then no sum and no product on the way passes 64 bits.
 use Prim.Native.Nat.{ℕ, _+_, _<_, _≤_}
-
--- 2 to the 46: origins and quanta up to here are answered
-abbrev pub reach : ℕ
-reach = 70_368_744_177_664
+use Rattle.windows.specs.Next.{reach}
 
 -- The furthest subtask that a walk from one within reach can come to lies in the same job, and a job has fewer than 2 to the 16.
 abbrev pub furthest : ℕ

@@ -2,5 +2,5 @@ pub mod Windows
 pub mod Group
 pub mod LeastTime
 pub mod Question
-pub mod Fits
 pub mod Next
+pub mod Fits

@@ -5,7 +5,8 @@ use Rattle.windows.specs.declared.Moment.the-variants.{At}
 use Rattle.windows.specs.Group.{groupDeadline}
 use Rattle.windows.proofs.Next.{momentTime, isMoment}
 use Rattle.pd2.specs.Ready.{originOf}
-use Rattle.choice.proofs.Asked.{group-is-said, group-asked, no-group-outside, no-group-at-bit-0}
+use Rattle.pd2.proofs.Verdicts.{moment-is-said}
+use Rattle.choice.proofs.Asked.{row-can, group-asked, no-group-outside, no-group-at-bit-0}
 use borrow.Author.Needs.{needs}
 use Rattle.choice.proofs.group.Statement.{statement}
 use Rattle.choice.proofs.group.Tie as tie
@@ -18,7 +19,8 @@ said : (c : tie.After-next-group-deadline) →
 said c =
     let a = c .before .before .before .before in
     let small : a .args .row .phase < 65_536 = search needs in
-    group-is-said _ _ (a .pre (c .before .before .before .if1 .left)) small (c .before .origin .ensures) (c .next-group-deadline .ensures)
+    let has = a .pre (c .before .before .before .if1 .left) in
+    moment-is-said _ _ (row-can _ _ has) (has .quanta) small (c .before .origin .ensures) groupDeadline (c .next-group-deadline .ensures)
 
 returns : tie.Need-returns
 returns c = no-group-outside _ _ _ _ (c .if1 .taken)

@@ -1,13 +1,8 @@
-use mathlib.Core.Path.{_≡_, sym, ap, _∙_}
+use mathlib.Core.Path.{_∙_}
 use borrow.Author.Needs.{needs}
-use Rattle.trace.specs.Search.{placeFound}
-use Rattle.trace.proofs.Search.{nowhere-is, between-is}
+use Rattle.trace.proofs.Search.{found-as-asked, nowhere-is, between-is}
 use Rattle.trace.proofs.begins.Statement.{statement}
 use Rattle.trace.proofs.begins.Tie as tie
-
--- what the search has found is that of the slot
-place-is : (c : tie.After-find) → placeFound (c .before .before .before .args .trace .now) (c .before .before .before .args .slot .0) ≡ c .find .result
-place-is c = sym (c .find .ensures ∙ ap (placeFound (c .before .before .before .args .trace .now)) (c .before .time .ensures))
 
 time-requires : tie.Need-time-requires
 time-requires c κs = search needs
@@ -22,10 +17,14 @@ enum-told : tie.Need-enum-told
 enum-told c = search needs
 
 returns : tie.Need-returns
-returns c = nowhere-is _ _ (place-is (c .before .before) ∙ c .enum-told .given .1) .1
+returns c =
+    let found = c .before .before in
+    nowhere-is _ _ (found-as-asked _ _ (found .find .ensures) (found .before .time .ensures) ∙ c .enum-told .given .1) .1
 
 returns-2 : tie.Need-returns-2
-returns-2 c = between-is _ _ (place-is (c .before .before .before) ∙ c .before .place .given .1) .begins
+returns-2 c =
+    let found = c .before .before .before in
+    between-is _ _ (found-as-asked _ _ (found .find .ensures) (found .before .time .ensures) ∙ c .before .place .given .1) .begins
 
 pub begins-spec : {M : Type 1} → statement M
 begins-spec =

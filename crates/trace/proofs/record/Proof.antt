@@ -1,21 +1,18 @@
-use mathlib.Core.Path.{_≡_, refl, sym, ap, _∙_}
+use mathlib.Core.Path.{refl, _∙_}
 use native.Mathlib.Nat.{add-zero}
 use native.Mathlib.Omega.{arith}
 use borrow.Author.Needs.{needs}
-use Rattle.trace.specs.Search.{placeFound}
-use Rattle.trace.proofs.Search.{IsPart, nowhere-is, between-is}
+use Rattle.trace.proofs.Search.{IsPart, found-as-asked, nowhere-is, between-is}
 use Rattle.trace.proofs.record.Statement.{statement}
 use Rattle.trace.proofs.record.Tie as tie
 
--- what the search has found is that of the slot,
-place-is : (c : tie.After-find) → placeFound (c .before .before .before .args .trace .now) (c .before .before .before .args .slot .0) ≡ c .find .result
-place-is c = sym (c .find .ensures ∙ ap (placeFound (c .before .before .before .args .trace .now)) (c .before .time .ensures))
-
--- and lies between the two places
+-- what the search has found lies between the two places
 part-is : (c : tie.After-place) →
     let a = c .before .before .before .before .before .args in
     IsPart (a .trace .now) (a .slot .0) (c .place .given .0 .0) (c .place .given .0 .1 .0)
-part-is c = between-is _ _ (place-is (c .before .before) ∙ c .place .given .1)
+part-is c =
+    let found = c .before .before in
+    between-is _ _ (found-as-asked _ _ (found .find .ensures) (found .before .time .ensures) ∙ c .place .given .1)
 
 time-requires : tie.Need-time-requires
 time-requires c κs = search needs
@@ -34,7 +31,8 @@ slice-aggregate-result c = search needs
 
 returns : tie.Need-returns
 returns c =
-    let none = nowhere-is _ _ (place-is (c .before .before .before) ∙ c .before .enum-told .given .1) in
+    let found = c .before .before .before in
+    let none = nowhere-is _ _ (found-as-asked _ _ (found .find .ensures) (found .before .time .ensures) ∙ c .before .enum-told .given .1) in
     (none .0, (refl, rw (← none .1, add-zero)))
 
 sub-result : tie.Need-sub-result

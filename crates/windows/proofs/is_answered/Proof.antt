@@ -3,7 +3,7 @@ use lib.Dec.{leb}
 use native.Mathlib.Omega.{arith}
 use borrow.Author.Needs.{needs}
 use borrow.Author.Tests.{lt-ltb, le-ltb, le-leb, lt-leb}
-use Rattle.windows.specs.Fits.{reach}
+use Rattle.windows.specs.Next.{reach}
 use Rattle.windows.proofs.is_answered.Statement.{statement}
 use Rattle.windows.proofs.is_answered.Tie as tie
 

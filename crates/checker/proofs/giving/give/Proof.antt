@@ -8,9 +8,9 @@ use Rattle.facts.specs.First.{Lowest}
 use Rattle.counts.specs.Limits.{kept}
 use Rattle.table.specs.Value.{rowsOf}
 use Rattle.pd2.specs.Ready.{ready}
-use Rattle.pd2.specs.Choice.{rowAt}
+use Rattle.pd2.specs.Choice.{rowAt, quantaAt}
 use Rattle.checker.specs.Passes.{due}
-use Rattle.checker.specs.Walking.{quantaAt, DueAre, isEarly}
+use Rattle.checker.specs.Walking.{DueAre, isEarly}
 use Rattle.checker.proofs.Named.{PassSoFar, passing-begins, passes-on, fails-first, none-fails, GaveSoFar, giving-begins, not-given-yet, gives-one-more, all-given, named-is-below, how-many-rows, row-at}
 use Rattle.pd2.proofs.Choice.{row-there}
 use Rattle.checker.proofs.Asked.{ready-as-read}

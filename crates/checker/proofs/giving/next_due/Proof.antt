@@ -6,7 +6,7 @@ use Rattle.windows.specs.declared.Due.the-variants.{By}
 use Rattle.windows.specs.Windows.{bit}
 use Rattle.checker.specs.Passes.{due}
 use Rattle.windows.proofs.Next.{dueTime, isDue}
-use Rattle.checker.proofs.Dues.{due-is-said}
+use Rattle.pd2.proofs.Verdicts.{due-is-said}
 use Rattle.checker.proofs.giving.next_due.Statement.{statement}
 use Rattle.checker.proofs.giving.next_due.Tie as tie
 
@@ -30,7 +30,7 @@ said : (c : tie.After-next-due) → let a = c .before .before in c .next-due .re
 said c =
     let a = c .before .before in
     let small : a .args .row .phase < 65_536 = search needs in
-    due-is-said _ _ (a .pre) small (c .before .origin .ensures) (c .next-due .ensures)
+    due-is-said _ _ (a .pre .can) (a .pre .few) small (c .before .origin .ensures) (c .next-due .ensures)
 
 returns : tie.Need-returns
 returns c = c .time .ensures ∙ ap dueTime (sym (c .before .before .due .given .1) ∙ said (c .before .before .before .before))

@@ -1,0 +1,45 @@
+-- The laws of ready and late. Assumes nothing.
+use Prim.Native.Nat.{ℕ, _+_, _≤_, _<_}
+use mathlib.Core.Path.{_≡_, refl, _∙_}
+use mathlib.Core.Bool.{Bool, true, false, cond}
+use native.Mathlib.Omega.{arith}
+use borrow.Author.Tests.{le-leb, lt-leb}
+use lib.Dec.{leb}
+use Rattle.windows.specs.Windows.{start, deadline, jobStart}
+use Rattle.windows.proofs.Windows.{job-starts-first}
+use Rattle.table.specs.declared.Row.{Row}
+use Rattle.pd2.specs.Ready.{originOf, isEarlyRelease, readyEarlyRelease, readyPlain, ready, late}
+
+-- for callers
+
+module _ (row : Row) (q t : ℕ) where
+  -- A row is ready from the start of its next window on, or of the job that holds it if it is early release,
+  pub ready-from-start :
+      ready row q t
+      ≡ leb (cond (isEarlyRelease row) (jobStart (row .cost) (row .period) (originOf row) (q + 1)) (start (row .cost) (row .period) (originOf row) (q + 1))) t
+  unfolding ready
+  ready-from-start = go (isEarlyRelease row)
+    where
+      go : (isEarly : Bool) →
+          cond isEarly (readyEarlyRelease row q t) (readyPlain row q t)
+          ≡ leb (cond isEarly (jobStart (row .cost) (row .period) (originOf row) (q + 1)) (start (row .cost) (row .period) (originOf row) (q + 1))) t
+      go true = refl
+      go false = refl
+
+  -- so it is ready where the window has started, since a job starts no later than its windows.
+  pub started-is-ready : 0 < row .cost → start (row .cost) (row .period) (originOf row) (q + 1) ≤ t → ready row q t ≡ true
+  started-is-ready he l =
+      ready-from-start ∙ le-leb _ t (go (isEarlyRelease row))
+    where
+      go : (isEarly : Bool) → cond isEarly (jobStart (row .cost) (row .period) (originOf row) (q + 1)) (start (row .cost) (row .period) (originOf row) (q + 1)) ≤ t
+      go true = omega (arith, job-starts-first (row .cost) (row .period) (originOf row) he (q + 1))
+      go false = l
+
+  -- A row is late from its next deadline on,
+  pub late-from-deadline : late row q t ≡ leb (deadline (row .cost) (row .period) (originOf row) (q + 1)) t
+  unfolding late
+  late-from-deadline = refl
+
+  -- and not before it.
+  pub not-late-before-deadline : t < deadline (row .cost) (row .period) (originOf row) (q + 1) → late row q t ≡ false
+  not-late-before-deadline l = late-from-deadline ∙ lt-leb _ t l
