@@ -15,32 +15,28 @@ mod agree;
 mod boxes;
 #[path = "speed/cases.rs"]
 mod cases;
-#[path = "tables/draft.rs"]
-mod draft;
 #[path = "c/firmware.rs"]
 mod firmware;
-#[path = "tables/hex.rs"]
-#[allow(dead_code)]
-mod hex;
 #[path = "speed/hurried.rs"]
 mod hurried;
+#[path = "compare/make"]
+#[allow(dead_code)]
+mod make {
+    pub mod draft;
+    pub mod hex;
+    pub mod schedule;
+    pub mod sound;
+    pub mod written;
+}
 #[path = "speed/ours.rs"]
 mod ours;
 #[path = "speed/plain.rs"]
 mod plain;
-#[path = "tables/random.rs"]
+#[path = "compare/random.rs"]
 #[allow(dead_code)]
 mod random;
-#[path = "traces/schedule.rs"]
-#[allow(dead_code)]
-mod schedule;
-#[path = "tables/sound.rs"]
-#[allow(dead_code)]
-mod sound;
 #[path = "speed/walks.rs"]
 mod walks;
-#[path = "traces/written.rs"]
-mod written;
 
 use cases::Program;
 use std::time::Instant;

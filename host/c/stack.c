@@ -1,25 +1,12 @@
 /*
  * stack
  *
- * Measures the stack that zb_table_check and zb_trace_check use, for x86-64. The function runs on a stack of its own, every byte of
- * which has been painted; the lowest byte that has lost its paint shows how deep the call went. Each input is measured with two paints,
- * since a byte that is written in the colour of one paint is seen with the other. A place that is reserved and never written is not
- * seen.
+ * Measures the stack that zb_table_check and zb_trace_check use, for x86-64, on a painted stack (paint.h).
  *
  * Prints a line and exits with 0, or with 1 if a function uses more stack than the header says, or none, or if an answer is wrong.
  */
 #define _XOPEN_SOURCE 700
 #include "zbrojomir.h"
-
-#include <stdio.h>
-#include <stdlib.h>
-#include <string.h>
-#include <ucontext.h>
-
-#define ROOM 65536
-
-static uint8_t room[ROOM];
-static ucontext_t outside, inside;
 
 /* A call: of zb_table_check, or of zb_trace_check if `with_trace`; and the number that 01 gives to these bytes. */
 struct asked {
@@ -31,69 +18,19 @@ struct asked {
     uint8_t number;
 };
 
-/* The call that is measured, and what came of it. */
+/* The call that is measured. */
 static struct asked lent;
-static uint8_t paint, answer;
-static size_t used;
 
-static void fail(const char *words, size_t number) {
-    printf("stack: %s (%lu)\n", words, (unsigned long)number);
-    exit(1);
-}
-
-/* Inlined, so that nothing stands on the painted stack between the place that is measured and the function. */
-static inline __attribute__((always_inline)) uint8_t ask(void) {
+static inline __attribute__((always_inline)) uint64_t ask(void) {
     return lent.with_trace ? zb_trace_check(lent.table, lent.table_length, lent.trace, lent.trace_length)
                            : zb_table_check(lent.table, lent.table_length);
 }
 
-/* Runs on the painted stack. The paint is looked at before anything else is called there. */
-static void call(void) {
-    const volatile uint8_t *top, *lowest = room;
+#include "paint.h"
 
-    __asm__ volatile("mov %%rsp, %0" : "=r"(top) : : "memory");
-    answer = ask();
-    while (lowest < top && *lowest == paint) {
-        lowest++;
-    }
-    used = (size_t)(top - lowest);
-}
-
-/* The depth of the call on a stack painted in this colour. */
-static size_t depth_with(uint8_t colour) {
-    paint = colour;
-    memset(room, colour, sizeof room);
-    if (getcontext(&inside) != 0) {
-        fail("a context cannot be made", sizeof room);
-    }
-    inside.uc_stack.ss_sp = room;
-    inside.uc_stack.ss_size = sizeof room;
-    inside.uc_link = &outside;
-    makecontext(&inside, call, 0);
-    if (swapcontext(&outside, &inside) != 0) {
-        fail("the painted stack cannot be entered", sizeof room);
-    }
-    if (room[0] != colour) {
-        fail("the painted stack is too small for the call", sizeof room);
-    }
-    return used;
-}
-
-/* The depth of this call. */
-static size_t depth(struct asked asked) {
-    size_t one, other;
-
-    /* First on the ordinary stack, so that whatever the linker binds at the first call is bound before anything is measured. */
+static size_t depth_of(struct asked asked) {
     lent = asked;
-    if (ask() != asked.number) {
-        fail("a check does not answer 01's number", asked.number);
-    }
-    one = depth_with(0xA5);
-    other = depth_with(0x5A);
-    if (answer != asked.number) {
-        fail("on the painted stack a check does not answer 01's number", asked.number);
-    }
-    return one > other ? one : other;
+    return depth(asked.number);
 }
 
 /* A full box: 8 cores, and 32 rows of 1/4, plain and early release in turn. */
@@ -192,7 +129,7 @@ static void refuse_tables(struct asked asked, uint8_t *table, size_t *most) {
         table[table_refusals[i].place] = table_refusals[i].byte;
         asked.table_length = table_refusals[i].length;
         asked.number = table_refusals[i].number;
-        deepen(most, depth(asked));
+        deepen(most, depth_of(asked));
     }
     fill(table);
 }
@@ -205,7 +142,7 @@ static void refuse_traces(struct asked asked, uint8_t *trace, size_t *most) {
         trace[trace_refusals[i].place] = trace_refusals[i].byte;
         asked.trace_length = trace_refusals[i].length;
         asked.number = trace_refusals[i].number;
-        deepen(most, depth(asked));
+        deepen(most, depth_of(asked));
     }
     fill_trace(trace);
 }
@@ -214,9 +151,6 @@ static void refuse_traces(struct asked asked, uint8_t *trace, size_t *most) {
 static int within(const char *function, const char *limit, size_t said, struct depths depths, const char *end) {
     size_t most = depths.full > depths.refused ? depths.full : depths.refused, rounded = (most + 255) / 256 * 256;
 
-    if (depths.full == 0 || depths.refused == 0) {
-        fail("a call used no stack, so nothing was measured", 0);
-    }
     if (most > said) {
         printf("stack: %s uses %lu bytes; %s says %lu and has to be %lu\n", function, (unsigned long)most, limit, (unsigned long)said,
                (unsigned long)rounded);
@@ -234,10 +168,10 @@ int main(void) {
 
     fill(table);
     fill_trace(trace);
-    of_table.full = depth(asked);
+    of_table.full = depth_of(asked);
     refuse_tables(asked, table, &of_table.refused);
     asked.with_trace = 1;
-    of_trace.full = depth(asked);
+    of_trace.full = depth_of(asked);
     refuse_tables(asked, table, &of_trace.refused);
     refuse_traces(asked, trace, &of_trace.refused);
     return within("zb_table_check", "ZB_TABLE_CHECK_STACK", ZB_TABLE_CHECK_STACK, of_table, "; ") &&

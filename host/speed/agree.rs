@@ -1,9 +1,10 @@
 //! Before anything is measured: on several boxes, and some thousand slots of each, all programs do the same.
 
 use crate::cases::{program, Entry, NAMES};
+use crate::make::sound;
+use crate::make::written::{written, Record};
 use crate::random::Random;
-use crate::written::{written, Record};
-use crate::{boxes, hurried, ours, plain, sound};
+use crate::{boxes, hurried, ours, plain};
 use second::slot::{fresh, slot};
 
 const SLOTS: u32 = 2_000;

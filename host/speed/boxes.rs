@@ -1,9 +1,10 @@
 //! The boxes that are measured, and the trace of a million slots.
 
-use crate::draft::{draft, row, Row};
-use crate::hex::bytes_of;
-use crate::schedule::record;
-use crate::written::written;
+use crate::make::draft::{draft, row};
+use crate::make::hex::bytes_of;
+use crate::make::schedule::record;
+use crate::make::written::written;
+use second::table::Row;
 
 /// A full box: 8 cores, and 32 rows whose sum is exactly 8·L. 18 rows are plain and 14 early release, 6 heavy and 26 light; periods 7 to
 /// 5,040, some fractions not reduced, phases 0 to 459. First L, the boards and n, then the rows: tank, e, p, f, kind.
@@ -18,7 +19,7 @@ const FULL: &str = "01 50FF0A00 08 0001020308090A0B 20\
     | AE00 0A00 2100 F600 01 | AF00 0700 0C00 0000 01 | B000 D804 B013 9001 00 | B100 B300 F000 0000 00";
 
 pub fn full() -> Vec<u8> {
-    bytes_of(FULL).expect("these are bytes")
+    bytes_of(FULL)
 }
 
 /// Rows of these weights (e, p), plain and with phase 0, on 8 cores.

@@ -1,0 +1,122 @@
+//! The window of a row's next subtask, counted from any origin.
+
+use crate::kind::*;
+use crate::make::reach::{self, limit, widest, CAUSES, LIMITS, REACH};
+use crate::make::weight::{self, weight};
+use second::questions::{next_window, NextWindow};
+
+#[derive(Clone)]
+pub struct Case {
+    e: u16,
+    p: u16,
+    origin: u64,
+    quanta: u64,
+}
+
+impl Kind for Case {
+    const GROUPS: &'static [Group] = &[
+        group("answered", 20, "0 | 1"),
+        group("weight", 40, "e = p | heavy | one half | light"),
+        group("bit", 10, "0 | 1"),
+        CAUSES,
+        LIMITS,
+        group("all of the largest, e", 500, "1 | above half of p"),
+    ];
+
+    fn wild(random: &mut Random) -> Case {
+        if random.one_in(40) {
+            let (e, p) = widest(random);
+            return Case {
+                e,
+                p,
+                origin: REACH,
+                quanta: REACH,
+            };
+        }
+        let (e, p) = match random.below(10) {
+            0 => whole(random),
+            _ => weight(random),
+        };
+        Case {
+            e,
+            p,
+            origin: origin(random),
+            quanta: quanta(random, e),
+        }
+    }
+
+    fn asked(&mut self, to: &mut Message) {
+        to.letter(b'N')
+            .part("e", &mut self.e)
+            .part("p", &mut self.p)
+            .part("origin", &mut self.origin)
+            .part("quanta", &mut self.quanta);
+    }
+
+    fn answered(&self, to: &mut Message) {
+        let found = next_window(self.e, self.p, self.origin, self.quanta);
+        let answered = found.is_some();
+        let window = found.unwrap_or(NextWindow {
+            start: 0,
+            deadline: 0,
+            bit: 0,
+            job_start: 0,
+            group_deadline: 0,
+        });
+        to.number("d and b answered", answered)
+            .number("d", window.deadline)
+            .number("b", window.bit)
+            .number("r answered", answered)
+            .number("r", window.start)
+            .number("job's start answered", answered)
+            .number("job's start", window.job_start)
+            .number("D answered", answered)
+            .number("D", window.group_deadline);
+    }
+
+    fn count(&self, answer: &[u8], tally: &mut Tally) {
+        let (e, p, quanta, other) = (self.e, self.p, self.quanta, self.origin);
+        tally.saw("answered", answer[0]);
+        if answer[0] == 1 {
+            let name = if e == p { "e = p" } else { weight::name(e, p) };
+            tally.saw("weight", name);
+            tally.saw("bit", answer[1 + 8]);
+            let largest = p == u16::MAX && other == REACH && quanta == REACH;
+            tally.saw_each(
+                "all of the largest, e",
+                [largest && e == 1, largest && e > 1],
+            );
+        }
+        reach::count((e, p), quanta, other, tally);
+    }
+}
+
+/// e = p, which no table has.
+fn whole(random: &mut Random) -> (u16, u16) {
+    let any = random.between(1, 40) as u16;
+    let p = random.pick(&[1, 2, any, 65_535]);
+    (p, p)
+}
+
+fn origin(random: &mut Random) -> u64 {
+    let any = random.below(1 << 46) as u64;
+    match random.below(8) {
+        0 => limit(random),
+        1 => any,
+        2 => 1 << 32,
+        3 => random.below(65_536) as u64,
+        _ => random.below(40) as u64,
+    }
+}
+
+/// Within a few jobs, mostly.
+fn quanta(random: &mut Random, e: u16) -> u64 {
+    let jobs = random.below(4) as u64 * u64::from(e);
+    match random.below(10) {
+        0 => limit(random),
+        1 => random.below(1 << 46) as u64,
+        2 => u64::from(u32::MAX) + random.below(3) as u64,
+        3 => jobs,
+        _ => jobs + random.below(usize::from(e).max(1)) as u64,
+    }
+}

@@ -1,0 +1,113 @@
+//! The rows that are picked out of 32.
+
+use crate::kind::*;
+use crate::make::reach::REACH;
+use crate::make::rows::{rows, Rows};
+use crate::make::rows_seen::{self, count_name, said_but_for_quanta, said_but_for_time};
+use crate::make::slot_seen::{rule_name, RULES};
+use second::questions::{next_window, picks};
+use second::slot::{order, ready, rule_between, Next, Rule};
+
+#[derive(Clone)]
+pub struct Case {
+    rows: Rows,
+    k: u8,
+}
+
+impl Kind for Case {
+    const GROUPS: &'static [Group] = &[
+        group("picked", 100, "0..8"),
+        group("decided by", 200, RULES),
+        rows_seen::COUNTS,
+        group("some picked, n", 200, rows_seen::FAR_COUNTS),
+        group("some picked at", 300, "time 2^46 | 2^46 quanta"),
+        group(
+            "ready but for the reach, at",
+            300,
+            "time 2^46 + 1 | 2^46 + 1 quanta",
+        ),
+        group("k", 25, "0 to 8 | above 8"),
+        group("k above 8, ready rows", 100, "up to 8 | above 8"),
+        rows_seen::ROWS,
+    ];
+
+    fn wild(random: &mut Random) -> Case {
+        let rows = rows(random);
+        let k = match random.below(6) {
+            0 => random.pick(&[9, 32, 255]),
+            _ => random.below(9) as u8,
+        };
+        Case { rows, k }
+    }
+
+    fn asked(&mut self, to: &mut Message) {
+        self.rows.asked(to.letter(b'P')).part("k", &mut self.k);
+    }
+
+    fn answered(&self, to: &mut Message) {
+        let (rows, k) = (&self.rows, self.k);
+        let mut marks = picks(&rows.rows, &rows.quanta, rows.n, rows.time, k);
+        to.each("pick of row", &mut marks);
+    }
+
+    fn count(&self, answer: &[u8], tally: &mut Tally) {
+        let (rows, n) = (&self.rows, self.rows.n);
+        let picked: u8 = answer.iter().sum();
+        tally.saw("picked", picked);
+        rows_seen::count(rows, tally);
+        let past = [
+            said_but_for_time(rows, ready),
+            said_but_for_quanta(rows, ready),
+        ];
+        tally.saw_each("ready but for the reach, at", past);
+        tally.saw_if(n > 32 && picked > 0, "some picked, n", count_name(n));
+        let mut given = rows.quanta.iter().zip(answer);
+        let at_limit = given.any(|row| row == (&REACH, &1));
+        tally.saw_each(
+            "some picked at",
+            [picked > 0 && rows.time == REACH, at_limit],
+        );
+        let ready = self.ready();
+        if let Some(rule) = decided_by(&ready, answer) {
+            tally.saw("decided by", rule_name(rule));
+        }
+        let (above, many) = (self.k > 8, ready.len() > 8);
+        tally.saw_each("k", [!above, above]);
+        tally.saw_each("k above 8, ready rows", [above && !many, above && many]);
+    }
+
+    fn smaller(&self) -> Vec<Case> {
+        let rows = self.rows.smaller().into_iter();
+        rows.map(|rows| Case { rows, k: self.k }).collect()
+    }
+}
+
+impl Case {
+    /// The rows that are ready, as the order sees them.
+    fn ready(&self) -> Vec<Next> {
+        let is_ready = |row: &usize| self.rows.ask(*row).map_or(false, |told| told.ready);
+        let ready = self.rows.numbers().filter(is_ready);
+        ready.filter_map(|row| self.next(row)).collect()
+    }
+
+    fn next(&self, number: usize) -> Option<Next> {
+        let row = &self.rows.rows[number];
+        let origin = u64::from(row.phase);
+        let window = next_window(row.cost, row.period, origin, self.rows.quanta[number])?;
+        Some(Next {
+            row: number as u8,
+            deadline: u128::from(window.deadline),
+            bit: window.bit,
+            group: u128::from(window.group_deadline),
+        })
+    }
+}
+
+/// The rule between the last row that is picked and the first that is not.
+fn decided_by(ready: &[Next], marks: &[u8]) -> Option<Rule> {
+    let is_picked = |next: &&Next| marks[usize::from(next.row)] == 1;
+    let (picked, left): (Vec<&Next>, Vec<&Next>) = ready.iter().partition(is_picked);
+    let last_picked = picked.into_iter().max_by(|one, other| order(one, other))?;
+    let first_left = left.into_iter().min_by(|one, other| order(one, other))?;
+    Some(rule_between(last_picked, first_left))
+}

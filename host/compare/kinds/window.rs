@@ -1,0 +1,95 @@
+//! Windows asked for alone.
+
+use crate::kind::*;
+use crate::make::weight::{self, phase, weight};
+use second::windows::window;
+
+#[derive(Clone)]
+pub struct Case {
+    e: u16,
+    p: u16,
+    f: u16,
+    i: u64,
+}
+
+const LAST: u64 = 1_000_000_001;
+
+impl Kind for Case {
+    /// The last i is refused by all of its 8 bytes, and would not be by the lower 4 of them.
+    const GROUPS: &'static [Group] = &[
+        group("answer", 20, "0 | 50"),
+        group("weight", 30, "heavy | one half | light"),
+        group("bit", 15, "0 | 1"),
+        group(
+            "of a right row, i",
+            300,
+            "0 | 1,000,000,001 | 1,000,000,002 | right in its low 4 bytes alone",
+        ),
+    ];
+
+    fn wild(random: &mut Random) -> Case {
+        let (e, p) = weight(random);
+        Case {
+            e,
+            p,
+            f: phase(random, p),
+            i: subtask(random, e),
+        }
+    }
+
+    fn asked(&mut self, to: &mut Message) {
+        to.letter(b'W')
+            .part("e", &mut self.e)
+            .part("p", &mut self.p)
+            .part("f", &mut self.f)
+            .part("i", &mut self.i);
+    }
+
+    fn answered(&self, to: &mut Message) {
+        let answer = window(self.e, self.p, self.f, self.i);
+        to.number("number", answer.number)
+            .number("r", answer.start)
+            .number("d", answer.deadline)
+            .number("b", answer.bit)
+            .number("D", answer.group);
+    }
+
+    fn count(&self, answer: &[u8], tally: &mut Tally) {
+        let Case { e, p, i, .. } = *self;
+        tally.saw("answer", answer[0]);
+        if answer[0] == 0 {
+            tally.saw("weight", weight::name(e, p));
+            tally.saw("bit", answer[1 + 8 + 8]);
+        }
+        let low = u64::from(i as u32);
+        let low_right = i != low && (1..=LAST).contains(&low);
+        if 0 < e && e < p {
+            let met = [i == 0, i == LAST, i == LAST + 1, low_right];
+            tally.saw_each("of a right row, i", met);
+        }
+    }
+
+    /// In the first job, or of nearly the same weight.
+    fn smaller(&self) -> Vec<Case> {
+        let first = self.i.saturating_sub(1) % u64::from(self.e).max(1) + 1;
+        let i = self.i.min(first);
+        let (e, p) = (self.e.saturating_sub(1), self.p.saturating_sub(1));
+        let weights = [(self.e / 2, self.p / 2), (e, p), (e, p.saturating_sub(1))];
+        let lighter = weights.map(|(e, p)| Case { e, p, ..*self });
+        [Case { i, ..*self }].into_iter().chain(lighter).collect()
+    }
+}
+
+fn subtask(random: &mut Random, e: u16) -> u64 {
+    let job = u64::from(e);
+    let jobs = random.below(4) as u64;
+    let any = random.between(1, LAST as usize) as u64;
+    let high = random.pick(&[1, 2, 1 << 31, u64::from(u32::MAX)]) << 32;
+    match random.below(8) {
+        0 => random.pick(&[0, LAST + 1, 1 << 32, u64::MAX, high + any, high + 1]),
+        1 => random.pick(&[1, LAST - 1, LAST]),
+        2 => any,
+        3 => jobs * job + random.pick(&[0, 1]),
+        _ => jobs * job + random.between(1, usize::from(e).max(1)) as u64,
+    }
+}

@@ -1,0 +1,87 @@
+//! The record of marked rows, written at the front of a part.
+
+use crate::kind::*;
+use crate::make::marks::{self, marked, marks, Marks, MARKED};
+use second::questions::write;
+
+#[derive(Clone)]
+pub struct Case {
+    k: u8,
+    marks: Marks,
+    part: Vec<u8>,
+}
+
+impl Kind for Case {
+    const GROUPS: &'static [Group] = &[
+        group("number", 20, "0 | 34"),
+        group(
+            "room",
+            50,
+            "none | too little | one byte less | exact | more",
+        ),
+        group("k", 10, "0 to 8 | above 8"),
+        group("written, marked", 60, MARKED),
+        group("no room, marked", 100, MARKED),
+    ];
+
+    fn wild(random: &mut Random) -> Case {
+        let marks = marks(random);
+        let exact = 2 + marked(&marks);
+        let length = match random.below(8) {
+            0 => 0,
+            1 => random.below(exact),
+            2 => exact - 1,
+            3 | 4 => exact,
+            _ => exact + random.between(1, 9),
+        };
+        let (small, any) = (random.below(9) as u8, random.byte());
+        Case {
+            k: random.pick(&[small, small, 9, 255, any]),
+            marks,
+            part: random.bytes(length),
+        }
+    }
+
+    fn asked(&mut self, to: &mut Message) {
+        to.letter(b'O')
+            .part("k", &mut self.k)
+            .each("mark of row", &mut self.marks)
+            .counted("part", &mut self.part);
+    }
+
+    fn answered(&self, to: &mut Message) {
+        let mut part = self.part.clone();
+        let number = write(&mut part, self.k, &self.marks);
+        to.number("number", number).fixed("part", &part);
+    }
+
+    fn count(&self, answer: &[u8], tally: &mut Tally) {
+        tally.saw("number", answer[0]);
+        let (exact, length) = (2 + marked(&self.marks), self.part.len());
+        let room = match length {
+            0 => "none",
+            _ if length + 1 == exact => "one byte less",
+            _ if length < exact => "too little",
+            _ if length == exact => "exact",
+            _ => "more",
+        };
+        tally.saw("room", room);
+        tally.saw_each("k", [self.k <= 8, self.k > 8]);
+        let written = answer[0] == 0;
+        let title = if written {
+            "written, marked"
+        } else {
+            "no room, marked"
+        };
+        marks::count(&self.marks, title, tally);
+    }
+}
+
+/// The record of a slot in which nobody runs and no core is free.
+pub fn nobody_in(part: Vec<u8>) -> Case {
+    Case {
+        k: 0,
+        marks: [false; 32],
+        part,
+    }
+}

@@ -1,0 +1,140 @@
+//! Tables for the comparison: sound ones, full ones, and damaged ones that reach every refusal of 01.
+
+use crate::make::draft::Draft;
+use crate::make::sound;
+use crate::random::Random;
+use second::table::Row;
+
+/// Numbers of two bytes at the borders of something.
+const BORDERS: [u16; 10] = [0, 1, 2, 255, 256, 257, 32_767, 32_768, 65_534, 65_535];
+
+/// The bytes of a table, and bytes that stand after it in memory.
+pub fn table(random: &mut Random) -> (Vec<u8>, Vec<u8>) {
+    let mut draft = match random.below(12) {
+        0 => sound::full(random, 0),
+        1 => sound::full(random, 1),
+        2 => sound::full(random, -1),
+        _ => sound::any(random),
+    };
+    // one table in eight stays as it is, and one in four has more than one fault
+    let mut faults = if random.one_in(8) { 0 } else { 1 };
+    while faults > 0 && random.one_in(4) {
+        faults += 1;
+    }
+    for _ in 1..faults {
+        damage(random, &mut draft);
+    }
+    if faults > 0 && random.one_in(3) {
+        return damage_bytes(random, draft.bytes());
+    }
+    if faults > 0 {
+        damage(random, &mut draft);
+    }
+    (draft.bytes(), random.bytes(9))
+}
+
+/// One part of the table gets another value: often one that is wrong, sometimes one that is only rare.
+fn damage(random: &mut Random, draft: &mut Draft) {
+    match random.below(9) {
+        0 => draft.format = random.pick(&[0, 2, 3, 129, 255]),
+        1 => draft.cycle = other_cycle(random, draft.cycle),
+        2 => {
+            draft.cores = other_count(random, draft.cores, 8);
+            if random.one_in(2) {
+                draft.boards = (0..draft.cores).collect();
+            }
+        }
+        3 => damage_boards(random, &mut draft.boards),
+        4 => {
+            draft.count = other_count(random, draft.count, 32);
+            if random.one_in(2) && !draft.rows.is_empty() {
+                let last = draft.rows[draft.rows.len() - 1];
+                draft.rows.resize(usize::from(draft.count), last);
+            }
+        }
+        5 => {
+            let count = random.between(1, 12);
+            draft.after = random.bytes(count);
+        }
+        _ => damage_rows(random, &mut draft.rows),
+    }
+}
+
+fn other_cycle(random: &mut Random, cycle: u32) -> u32 {
+    match random.below(3) {
+        0 => random.pick(&[0, 1_000_001, 1 << 24, 1 << 31, u32::MAX]),
+        1 => random.pick(&[1, 2, 65_536, 999_999, 1_000_000]),
+        _ => random.pick(&[
+            cycle.wrapping_sub(1),
+            cycle.wrapping_add(1),
+            cycle.wrapping_mul(2),
+            cycle / 2,
+            cycle | 1 << 31,
+        ]),
+    }
+}
+
+fn other_count(random: &mut Random, count: u8, most: u8) -> u8 {
+    let (less, more) = (count.wrapping_sub(1), count.wrapping_add(1));
+    random.pick(&[0, 1, most - 1, most, most + 1, 255, less, more])
+}
+
+fn damage_boards(random: &mut Random, boards: &mut [u8]) {
+    if boards.is_empty() {
+        return;
+    }
+    let one = random.below(boards.len());
+    let other = random.below(boards.len());
+    match random.below(4) {
+        0 => boards.swap(one, other),
+        1 => boards[one] = boards[other],
+        2 => boards[one] = random.pick(&[0, 1, 254, 255]),
+        _ => boards[one] = boards[other].wrapping_sub(1),
+    }
+}
+
+fn damage_rows(random: &mut Random, rows: &mut [Row]) {
+    if rows.is_empty() {
+        return;
+    }
+    let one = random.below(rows.len());
+    let other = random.below(rows.len());
+    let (tank, border) = (rows[other].tank, random.pick(&BORDERS));
+    let row = &mut rows[one];
+    match random.below(18) {
+        0 => rows.swap(one, other),
+        1 => row.tank = tank,
+        2 => row.tank = tank.wrapping_sub(1),
+        3 => row.tank = border,
+        4 | 5 => row.cost = 0,
+        6 => row.cost = row.period,
+        7 => row.cost = row.period.wrapping_sub(1),
+        8 => row.cost = row.period.wrapping_add(1),
+        9 => row.cost = border,
+        10 => row.period = row.cost,
+        11 => row.period = row.cost.wrapping_add(1),
+        12 => row.period = row.period.wrapping_add(1),
+        13 => row.period = border,
+        14 => row.phase = border,
+        15 => row.kind = 1 - row.kind.min(1),
+        16 => row.kind = 2,
+        _ => row.kind = random.pick(&[3, 128, 254, 255]),
+    }
+}
+
+/// The bytes are cut, or one of them is changed, lost or doubled; and bytes that stand after them in memory: after a cut, the lost part.
+pub fn damage_bytes(random: &mut Random, mut bytes: Vec<u8>) -> (Vec<u8>, Vec<u8>) {
+    let place = random.below(bytes.len());
+    match random.below(5) {
+        0 | 1 => {
+            let lost = bytes.split_off(place);
+            return (bytes, lost);
+        }
+        2 => bytes[place] = random.byte(),
+        3 => {
+            bytes.remove(place);
+        }
+        _ => bytes.insert(place, bytes[place]),
+    }
+    (bytes, random.bytes(9))
+}

@@ -1,0 +1,118 @@
+//! A table, or a table and a trace: as C lends them to the library, with bytes that follow in memory and do not belong to them, or as the probe
+//! is asked.
+
+use crate::kind::*;
+use crate::make::values::table_value;
+use second::checker::check;
+use second::table::{read, Table};
+use std::iter::repeat_with;
+use std::marker::PhantomData;
+
+#[derive(Clone, Default)]
+pub struct Given {
+    pub table: Vec<u8>,
+    pub trace: Option<Vec<u8>>,
+    pub after: Vec<u8>,
+    /// 01's number and of what, where it is known by the way it was made
+    pub known: Option<(u8, String)>,
+    /// a name for the way it was made
+    pub made: &'static str,
+}
+
+pub fn given(table: &[u8], trace: Option<&[u8]>) -> Given {
+    Given {
+        table: table.to_vec(),
+        trace: trace.map(<[u8]>::to_vec),
+        ..Given::default()
+    }
+}
+
+/// How they are made and counted.
+pub trait Maker: Clone + 'static {
+    const GROUPS: &'static [Group];
+
+    fn wild(random: &mut Random) -> Given;
+
+    fn cases(mut random: Random) -> Box<dyn Iterator<Item = Given>> {
+        Box::new(repeat_with(move || Self::wild(&mut random)))
+    }
+
+    fn count(given: &Given, number: u8, tally: &mut Tally);
+}
+
+#[derive(Clone)]
+pub struct Lent<M, const TO_LIBRARY: bool>(Given, PhantomData<M>);
+
+pub fn lent<M, const TO_LIBRARY: bool>(given: Given) -> Lent<M, TO_LIBRARY> {
+    Lent(given, PhantomData)
+}
+
+impl<M: Maker, const TO_LIBRARY: bool> Kind for Lent<M, TO_LIBRARY> {
+    const GROUPS: &'static [Group] = M::GROUPS;
+
+    fn wild(random: &mut Random) -> Self {
+        lent(M::wild(random))
+    }
+
+    fn cases(random: Random) -> Box<dyn Iterator<Item = Self>> {
+        Box::new(M::cases(random).map(lent))
+    }
+
+    fn asked(&mut self, to: &mut Message) {
+        let given = &mut self.0;
+        let letter = if given.trace.is_some() { b'C' } else { b'T' };
+        to.letter(letter).table(&mut given.table);
+        if let Some(trace) = &mut given.trace {
+            to.counted("trace", trace);
+        }
+        if TO_LIBRARY {
+            to.counted("in memory after it", &mut given.after);
+        }
+    }
+
+    fn answered(&self, to: &mut Message) {
+        match (TO_LIBRARY, &self.0.trace) {
+            (true, _) => self.0.answered_by_library(to),
+            (_, None) => self.0.table_answered(to),
+            (_, Some(trace)) => self.0.check_answered(trace, to),
+        }
+    }
+
+    fn known(&self) -> Option<(u8, &str)> {
+        let known = self.0.known.as_ref();
+        known.map(|(number, words)| (*number, &words[..]))
+    }
+
+    fn count(&self, answer: &[u8], tally: &mut Tally) {
+        M::count(&self.0, answer[0], tally);
+    }
+}
+
+impl Given {
+    /// The number is the same with NULL for what is empty, and no byte is changed.
+    fn answered_by_library(&self, to: &mut Message) {
+        let number = match &self.trace {
+            None => read(&self.table).map_or_else(|number| number, |_| 0),
+            Some(trace) => check(&self.table, trace).number,
+        };
+        to.number("number", number)
+            .number("number with NULL", number)
+            .number("bytes changed", false);
+    }
+
+    /// A refusal yields no table: every part of it is 0.
+    fn table_answered(&self, to: &mut Message) {
+        let (number, mut table) = match read(&self.table) {
+            Ok(table) => (0, table),
+            Err(number) => (number, Table::zero()),
+        };
+        table_value(to.number("number", number), &mut table);
+    }
+
+    fn check_answered(&self, trace: &[u8], to: &mut Message) {
+        let answer = check(&self.table, trace);
+        to.number("number", answer.number)
+            .number("row", answer.row)
+            .number("time", answer.time);
+    }
+}

@@ -1,0 +1,105 @@
+//! States that are not broken: a broken one shows no more of a slot than its 30.
+
+use crate::make::all_rows::all_rows;
+use crate::make::heavy::heavy;
+use crate::make::schedule::CYCLES;
+use crate::make::sound;
+use crate::make::unused;
+use crate::random::Random;
+use second::slot::{fresh, slot, State, LAST_TIME};
+use second::table::{read, Row, Table};
+
+const MOST_SLOTS: usize = 40;
+
+pub fn state(random: &mut Random) -> State {
+    let table = table(random);
+    let mut state = match random.below(3) {
+        0 => after_slots(random, table),
+        _ => {
+            let time = time(random, u64::from(table.cycle));
+            inside_shares(random, table, time)
+        }
+    };
+    if random.one_in(2) {
+        fill_unused(random, &mut state);
+    }
+    state
+}
+
+/// A table without a fault.
+pub fn table(random: &mut Random) -> Table {
+    let cycle = random.pick(&CYCLES);
+    let draft = match random.below(12) {
+        0 => sound::any(random),
+        1..=3 => sound::full_of(random, cycle, 0).expect("a short cycle can be filled"),
+        4 | 5 => sound::any_of(random, cycle),
+        6 | 7 => all_rows(random),
+        _ => heavy(random),
+    };
+    read(&draft.bytes()).expect("a sound table is taken")
+}
+
+/// The state that the second program itself has after some slots; one that is stopped by them only at times.
+fn after_slots(random: &mut Random, table: Table) -> State {
+    let mut state = fresh(table);
+    let any_one_in = random.pick(&[1, 4, 16]);
+    for _ in 0..random.below(MOST_SLOTS) {
+        let any = random.below(usize::from(table.cores) + 1) as u8;
+        let k = if random.one_in(any_one_in) {
+            any
+        } else {
+            table.cores
+        };
+        let before = state;
+        let answer = slot(&mut state, k, &mut [0; 2 + 8], 0);
+        if answer.number == 1 && !random.one_in(4) {
+            return before;
+        }
+    }
+    state
+}
+
+/// A state at this time, in which every row is inside its share: most of these no run of slots comes to.
+pub fn inside_shares(random: &mut Random, table: Table, time: u64) -> State {
+    let mut state = fresh(table);
+    state.time = time;
+    for (number, row) in table.named_rows().iter().enumerate() {
+        state.quanta[number] = quanta(random, row, time);
+    }
+    state
+}
+
+/// Early, just past the largest phase, late, at the very end; often where jobs begin.
+fn time(random: &mut Random, cycle: u64) -> u64 {
+    let any = random.below(LAST_TIME as usize) as u64;
+    match random.below(12) {
+        0 => LAST_TIME,
+        1 | 2 => LAST_TIME - random.between(1, 4) as u64,
+        3 => any,
+        4 | 5 => any / cycle * cycle,
+        6 => 65_535 + random.below(120) as u64,
+        7 => random.pick(&[1, 2, 3]) * cycle,
+        _ => random.below(120) as u64,
+    }
+}
+
+/// A count between the limits of the row's share.
+fn quanta(random: &mut Random, row: &Row, time: u64) -> u64 {
+    let (e, p) = (u64::from(row.cost), u64::from(row.period));
+    let a = time.saturating_sub(u64::from(row.phase));
+    let least = e * a / p;
+    let most = match row.kind {
+        0 => (e * a + p - 1) / p,
+        _ => (e * ((a + p - 1) / p)).min(time),
+    };
+    let between = random.between(least as usize, most as usize) as u64;
+    random.pick(&[least, most, between])
+}
+
+/// What no rule asks for: rows and quanta past n, boards past M.
+fn fill_unused(random: &mut Random, state: &mut State) {
+    unused::fill(random, &mut state.table);
+    for quanta in &mut state.quanta[usize::from(state.table.count)..] {
+        *quanta = random.pick(&[0, 1, state.time, LAST_TIME + 1, u64::MAX]);
+    }
+}
