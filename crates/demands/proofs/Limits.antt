@@ -5,8 +5,8 @@ use mathlib.Core.Bool.{Bool, true, false}
 use mathlib.Core.Logic.{_↔_}
 use Rattle.table.specs.declared.Row.{Row}
 use Rattle.pd2.specs.Ready.{isEarlyRelease}
-use Rattle.pd2.specs.Share.{upper, within, CanBe, jobsReleased}
-use Rattle.pd2.proofs.Share.{upper-means-share-rounded-up, upper-means-cost-of-jobs-released, plain-within-means-share, early-within-means-share}
+use Rattle.pd2.specs.Share.{upper, within, CanBe}
+use Rattle.pd2.proofs.Share.{jobsReleased, upper-means-share-rounded-up, upper-means-cost-of-jobs-released, plain-within-means-share, early-within-means-share}
 use Rattle.demands.specs.Limits.{upperLimit, InLimits}
 
 -- The limits of a row that can be, in the demand's words: by its kind.

@@ -22,14 +22,16 @@ use Rattle.table.specs.Bytes.{rowInBytes}
 use Rattle.fields.specs.Fields.{byte}
 use Rattle.pd2.specs.Ready.{ready, late}
 use Rattle.trace.specs.Record.{recordOf, marked, withFront}
-use Rattle.trace.specs.Records.{placeOf, slotsIn, placeIn}
+use Rattle.trace.specs.Records.{placeOf, slotsIn, placeIn, rowsOfSlot}
 use Rattle.trace.proofs.Names.{marked-are-named}
 use Rattle.trace.proofs.Found.{next-begins}
 use Rattle.dispatcher.specs.declared.State.{State}
 use Rattle.checker.specs.WellFormed.{WellFormed}
+use Rattle.checker.proofs.Sound.{rising-exactly}
 use Rattle.slots_run.specs.Slots.{slotsFrom}
 use Rattle.printer.specs.Text.{textOf}
 use Rattle.printer.specs.Buffer.{printedOf, outAfter}
+use Rattle.demands.proofs.Limits.{in-limits}
 use Rattle.demands.specs.Meanings.{WindowMeans, TableMeans, ValueMeans, RowMeans, OrderMeans, Shaped, TraceMeans, NamedMeans, WriteMeans, PrintMeans, SlotsMean, Meanings}
 
 window-means : (e p f i : ℕ) → WindowMeans e p f i
@@ -102,7 +104,8 @@ shaped s table = (
         free = λ t l. not-below (table .cores) (getD s (placeIn s t) 0) .0 (well .records t l .cores);
         picked = λ t l. not-below (getD s (placeIn s t) 0) (getD s (placeIn s t + 1) 0) .0 (well .records t l .picked);
         whole = λ t l. not-below (length s) (placeIn s t + 2 + getD s (placeIn s t + 1) 0) .0 (well .records t l .rows);
-        rows = λ t l. well .records t l .numbers;
+        rows-below = λ t j l k. rising-exactly (length (rowsOf table)) (rowsOfSlot s t) .0 (well .records t l .numbers) .0 j k;
+        rows-rise = λ t i j l k m. rising-exactly (length (rowsOf table)) (rowsOfSlot s t) .0 (well .records t l .numbers) .1 i j k m;
         end = not-below (placeIn s (slotsIn s)) (length s) .0 (well .end);
       },
   λ shape.
@@ -115,7 +118,7 @@ shaped s table = (
               cores = not-below (table .cores) (getD s (placeIn s t) 0) .1 (shape .free t l);
               picked = not-below (getD s (placeIn s t) 0) (getD s (placeIn s t + 1) 0) .1 (shape .picked t l);
               rows = not-below (length s) (placeIn s t + 2 + getD s (placeIn s t + 1) 0) .1 (shape .whole t l);
-              numbers = shape .rows t l;
+              numbers = rising-exactly (length (rowsOf table)) (rowsOfSlot s t) .1 (λ j k. shape .rows-below t j l k, λ i j k m. shape .rows-rise t i j l k m);
             };
         end = not-below (placeIn s (slotsIn s)) (length s) .1 (shape .end);
       },
@@ -164,10 +167,12 @@ meanings =
       table = table-means;
       value = value-means;
       row = row-means;
+      share = λ row q t cost weight. in-limits row (record { cost = cost; weight = weight }) q t;
       order = order-means;
       trace = trace-means;
       named = named-means;
       write = write-means;
       print = print-means;
+      fresh = λ t. refl;
       slots = slots-mean;
     }

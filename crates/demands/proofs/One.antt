@@ -17,7 +17,7 @@ use Rattle.table.proofs.Faultless.{taken-exactly, faultless-exactly}
 use Rattle.pd2.proofs.Verdicts.{answered-in-reach}
 use Rattle.trace.specs.Said.{bare}
 use Rattle.trace.proofs.Found.{found-if-all-inside, part-is-record}
-use Rattle.dispatcher.proofs.Kept.{refusals-are-first-causes, refusal-changes-nothing, fault-answers-30}
+use Rattle.dispatcher.proofs.Kept.{refusal-changes-nothing, fault-answers-30}
 use Rattle.dispatcher.proofs.Places.{slot-numbers, bare-unless-late, past-is-returned, past-is-ignored}
 use Rattle.checker.specs.Check.{traceSaid, checkOf}
 use Rattle.checker.proofs.Passes.{numbers-are-first-found, judges-table-first, trace-numbers, bare-unless-named}
@@ -52,11 +52,9 @@ tables =
 slots : Slots
 slots =
     record {
-      fresh = λ t. refl;
       broken-exactly = broken-exactly;
       exactly = slot-exactly;
       numbers = slot-numbers;
-      refused = refusals-are-first-causes;
       faulty = fault-answers-30;
       parts = bare-unless-late;
       returned = past-is-returned;

@@ -23,9 +23,8 @@ use Rattle.dispatcher.specs.declared.State.{State}
 use Rattle.dispatcher.specs.State.{rowsIn, quantaIn, timeOf, freshOf}
 use Rattle.dispatcher.specs.Broken.{broken}
 use Rattle.dispatcher.specs.Slot.{slotOf}
-use Rattle.dispatcher.specs.Kept.{After}
 use Rattle.dispatcher.proofs.Whole.{is-whole, nothing-given}
-use Rattle.dispatcher.proofs.Kept.{refusal-changes-nothing, done-makes-the-step, done-keeps-whole, fresh-is-whole, fault-answers-30}
+use Rattle.dispatcher.proofs.Kept.{After, refusal-changes-nothing, done-makes-the-step, done-keeps-whole, fresh-is-whole, fault-answers-30}
 use Rattle.dispatcher.proofs.RunKept.{one-when-late, quanta-are-records, records-stand-in-turn}
 use Rattle.checker.proofs.Passes.{passes-in-shares, checked-as-table}
 use Rattle.demands.specs.Limits.{sincePhase, InLimits}

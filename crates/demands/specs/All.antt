@@ -1,5 +1,5 @@
--- All that this crate states, in one record: whoever reads it has seen every statement, and its one theorem (proofs/All.antt) proves them all. The gate
--- asks for each of these fields by name and type.
+-- All that is promised, in one record: whoever reads it has seen every statement, and its one theorem (proofs/All.antt) proves them all. The gate
+-- asks for each of these fields by name and type. A statement in the specs of another crate that it does not lead to is a step of a proof, or of one crate alone.
 use Rattle.demands.specs.Determined.{EveryPromiseDetermines}
 use Rattle.demands.specs.Cases.{Cases}
 use Rattle.demands.specs.Meanings.{Meanings}
@@ -26,7 +26,7 @@ pub record All : Type 0 where
   -- the bench values that 01 marks P, and our own table of 01's numbers, orders and limits
   pub bench : BenchHolds
   pub laws : LawsHold
-  -- the mistake that cost a morning
+  -- what the last version did wrong
   pub confession : Confession
   -- what "must be shut out"
   pub shut-out : ShutOut

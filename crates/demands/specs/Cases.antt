@@ -70,7 +70,7 @@ pub record CheckCases : Type 0 where
   pub extra : checked.saidOf check.Extra ≡ bare 46
   pub too-long : checked.saidOf check.TooLong ≡ bare 47
 
--- and those of our own that are no answers of 01: what is said of one row, and how long a text is
+-- and those of our own that are no answers of 01: what is said of one row, and how long a text is. (The cases of `Due` and `Moment` stand in `next-is` of demand 1.)
 pub record OwnCases : Type 0 where
   pub yes : verdict true true ≡ Yes
   pub no : verdict true false ≡ No

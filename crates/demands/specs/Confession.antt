@@ -1,4 +1,5 @@
--- The mistake that cost a morning: on a full box of three cores, with the bit left out of the order, a row slips past its window.
+-- "the bit of PD2 was once left out because nothing on the bench changed. On a full box a job slipped past its window" (the demands): on a full box of three cores,
+-- with the bit left out of the order, a row slips past its window.
 use mathlib.Core.Path.{_≡_}
 use mathlib.Core.List.{List, [], _∷_, map}
 use Rattle.table.specs.declared.Row.{Row}

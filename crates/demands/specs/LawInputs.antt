@@ -23,12 +23,12 @@ front cycle boards = 1 ∷ wordBytes cycle ++ (length boards ∷ boards)
 abbrev pub rowBytes : ℕ → ℕ → ℕ → ℕ → ℕ → List ℕ
 rowBytes tank e p f kind = halfBytes tank ++ (halfBytes e ++ (halfBytes p ++ (halfBytes f ++ (kind ∷ []))))
 
--- so many rows 1/p, with tanks rising from one on
+-- n rows 1/p, with tanks rising one by one from the given tank on
 unfoldable pub alikeRows : ℕ → ℕ → ℕ → List ℕ
 alikeRows p tank zero = []
 alikeRows p tank (suc n) = rowBytes tank 1 p 0 0 ++ alikeRows p (tank + 1) n
 
--- so many rows 1/64 of phase 100, with rising tanks
+-- n rows 1/64 of phase 100, with tanks rising one by one from the given tank on
 unfoldable pub risingRows : ℕ → ℕ → List Row
 risingRows tank zero = []
 risingRows tank (suc n) = record { tank = tank; cost = 1; period = 64; phase = 100; kind = 0 } ∷ risingRows (tank + 1) n

@@ -1,4 +1,5 @@
--- The limits of a row's quanta, in the words of demand 3 and of 01, "Share": by the row's own numbers alone.
+-- The limits of a row's quanta, in the words of demand 3 and of 01, "Share": by the row's own numbers alone. (pd2 tests the same in whole numbers, pd2/specs/Share.antt: `share` of
+-- specs/Meanings.antt says that the two agree.)
 use Prim.Native.Nat.{ℕ, _+_, _-_, _*_, _/_, _≤_}
 use mathlib.Core.Bool.{cond}
 use lib.Dec.{ltb, eqb}

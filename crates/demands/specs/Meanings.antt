@@ -1,12 +1,12 @@
--- What the definitions that the demands speak of mean, once more in 01's own numbers and bytes: a demand that names a definition is worth what the definition
--- is worth.
+-- What the definitions mean that the demands and the promises name, once more in 01's own numbers and bytes. Some lines repeat a definition to the letter, on purpose: whoever
+-- changes the definition has to change it here too, under 01's sentence.
 use Prim.Native.Nat.{ℕ, suc, _+_, _-_, _*_, _/_, _%_, _≤_, _<_}
 use mathlib.Core.Path.{_≡_}
 use mathlib.Core.List.{List, [], _∷_, _++_}
 use mathlib.Core.Bool.{Bool, true, false, cond, not, _&&_}
 use mathlib.Core.Logic.{_↔_}
 use lib.Dec.{eqb}
-use lib.ListN.{length, getD, take, drop}
+use lib.ListN.{length, getD, take, drop, replicate}
 use Rattle.windows.specs.Windows.{start, deadline, bit, windowLength, jobStart}
 use Rattle.windows.specs.Group.{groupDeadline}
 use Rattle.table.specs.declared.Row.{Row}
@@ -15,18 +15,21 @@ use Rattle.table.specs.Causes.{zeroRow, load}
 use Rattle.table.specs.Value.{rowsOf, boardsOf}
 use Rattle.table.specs.Bytes.{tableIn}
 use Rattle.pd2.specs.Ready.{ready, late}
+use Rattle.pd2.specs.Share.{within}
 use Rattle.pd2.specs.Order.{rankOf, before}
 use Rattle.pd2.specs.Choice.{rowAt, quantaAt, readyIn, goesBeforeBy}
 use Rattle.trace.specs.Record.{recordOf, marked, writeNumber, partAfter}
 use Rattle.trace.specs.Records.{names, slotsIn, placeIn, rowsOfSlot, timesNamed}
 use Rattle.dispatcher.specs.declared.State.{State}
+use Rattle.dispatcher.specs.State.{freshOf}
 use Rattle.dispatcher.specs.Slot.{slotOf}
-use Rattle.checker.specs.Causes.{badRows, tooEarly, tooLate, lowest}
+use Rattle.checker.specs.Causes.{tooEarly, tooLate, lowest}
 use Rattle.checker.specs.WellFormed.{WellFormed}
 use Rattle.printer.specs.declared.Printed.the-variants.{Text, TooShort}
 use Rattle.printer.specs.Text.{textOf}
 use Rattle.printer.specs.Buffer.{printedOf, outAfter}
 use Rattle.slots_run.specs.Slots.{slotsFrom}
+use Rattle.demands.specs.Limits.{InLimits}
 
 -- "start r = f + floor((i-1)·p/e); deadline d = f + ceil(i·p/e)", "bit b = 0 if e divides i·p, else 1", "f + floor((i-1)/e)·p"
 pub record WindowMeans (e p f i : ℕ) : Type 0 where
@@ -67,6 +70,10 @@ pub record RowMeans (row : Row) (q t : ℕ) : Type 0 where
   pub ready-early : eqb (row .kind) 1 ≡ true → (ready row q t ≡ true) ↔ (row .phase + q / row .cost * row .period ≤ t)
   pub late-is : (late row q t ≡ true) ↔ (row .phase + ((q + 1) * row .period + (row .cost - 1)) / row .cost ≤ t)
 
+-- "Share": pd2 tests whole numbers; they are demand 3's limits, for every row with 0 < e ≤ p.
+abbrev pub ShareMeans : Row → ℕ → ℕ → Type 0
+ShareMeans row q t = 0 < row .cost → row .cost ≤ row .period → (within row q t ≡ true) ↔ InLimits row q t
+
 -- The order looks at d, b and D of the next subtask, and at the row's number.
 pub record OrderMeans (rows : List Row) (quanta : List ℕ) (j i : ℕ) : Type 0 where
   pub ready-is : (t : ℕ) → readyIn rows quanta t i ≡ ready (rowAt rows i) (quantaAt quanta i) t
@@ -88,7 +95,8 @@ pub record Shaped (table : Table) (s : List ℕ) : Type 0 where
   pub free : (t : ℕ) → t < slotsIn s → getD s (placeIn s t) 0 ≤ table .cores
   pub picked : (t : ℕ) → t < slotsIn s → getD s (placeIn s t + 1) 0 ≤ getD s (placeIn s t) 0
   pub whole : (t : ℕ) → t < slotsIn s → placeIn s t + 2 + getD s (placeIn s t + 1) 0 ≤ length s
-  pub rows : (t : ℕ) → t < slotsIn s → badRows (length (rowsOf table)) 0 (rowsOfSlot s t) ≡ false
+  pub rows-below : (t j : ℕ) → t < slotsIn s → j < length (rowsOfSlot s t) → getD (rowsOfSlot s t) j 0 < length (rowsOf table)
+  pub rows-rise : (t i j : ℕ) → t < slotsIn s → i < j → j < length (rowsOfSlot s t) → getD (rowsOfSlot s t) i 0 < getD (rowsOfSlot s t) j 0
   pub end : length s ≤ placeIn s (slotsIn s)
 
 pub record TraceMeans (s : List ℕ) : Type 0 where
@@ -121,7 +129,11 @@ pub record PrintMeans (input out : List ℕ) : Type 0 where
       (printedOf input out ≡ Text (length (textOf input))) × (outAfter input out ≡ textOf input ++ drop (length (textOf input)) out)
   pub too-short : length out < length (textOf input) → (printedOf input out ≡ TooShort) × (outAfter input out ≡ out)
 
--- Slots one after the other, for the speed bench.
+-- "A fresh state can be made from any table value: time 0, not stopped, all quanta 0"
+abbrev pub FreshMeans : Table → Type 0
+FreshMeans t = freshOf t ≡ record { table = t; time = record { 0 = 0 }; stopped = false; quanta = replicate 32 (record { 0 = 0 }) }
+
+-- Slots one after the other, which only `zb_slots` of the speed bench promises.
 pub record SlotsMean (s : State) (k : ℕ) (bytes : List ℕ) : Type 0 where
   pub none : slotsFrom s k bytes 0 ≡ record { state = s; bytes = bytes }
   pub one-more : (m : ℕ) →
@@ -134,9 +146,11 @@ pub record Meanings : Type 0 where
   pub table : (s : List ℕ) → TableMeans s
   pub value : (t : Table) → ValueMeans t
   pub row : (row : Row) (q t : ℕ) → RowMeans row q t
+  pub share : (row : Row) (q t : ℕ) → ShareMeans row q t
   pub order : (rows : List Row) (quanta : List ℕ) (j i : ℕ) → OrderMeans rows quanta j i
   pub trace : (s : List ℕ) → TraceMeans s
   pub named : (table : Table) (s : List ℕ) (t i : ℕ) → NamedMeans table s t i
   pub write : (part : List ℕ) (free : ℕ) (marks : List Bool) → WriteMeans part free marks
   pub print : (input out : List ℕ) → PrintMeans input out
+  pub fresh : (t : Table) → FreshMeans t
   pub slots : (s : State) (k : ℕ) (bytes : List ℕ) → SlotsMean s k bytes

@@ -26,11 +26,10 @@ use Rattle.trace.specs.Said.{Said, bare}
 use Rattle.trace.specs.Records.{freeAt, placeIn, rowsOfSlot}
 use Rattle.trace.specs.Found.{isFound, partFound, partBegins, FoundIfAllInside}
 use Rattle.dispatcher.specs.declared.State.{State}
-use Rattle.dispatcher.specs.State.{rowsIn, quantaIn, timeOf, freshOf}
+use Rattle.dispatcher.specs.State.{rowsIn, quantaIn, timeOf}
 use Rattle.dispatcher.specs.Broken.{broken}
 use Rattle.dispatcher.specs.Slot.{slotOf}
-use Rattle.dispatcher.specs.Kept.{RefusalsAreFirstCauses, RefusalChangesNothing, FaultAnswers30}
-use Rattle.dispatcher.specs.Places.{SlotNumbers, BareUnlessLate, PastIsReturned, PastIsIgnored}
+use Rattle.dispatcher.specs.Places.{SlotNumbers, BareUnlessLate, RefusalChangesNothing, FaultAnswers30, PastIsReturned, PastIsIgnored}
 use Rattle.checker.specs.Causes.{RisingExactly}
 use Rattle.checker.specs.Check.{traceFindings, checkOf}
 use Rattle.demands.specs.Limits.{InLimits}
@@ -45,8 +44,9 @@ pub record Windows : Type 0 where
   pub group : WalkGivesLeastTime
   pub light : LightHasNone
 
--- of a question about one row: it is answered for every row with 0 < e ≤ p, as far as 01's times, quanta and phases go, and a time of the next subtask, or
--- its deadline and bit, is that of subtask q + 1;
+-- of the questions about one row that our own functions answer and 01 does not name (`windows::next_due` and its like, `pd2::ready`, `late`, `within`): they say `Unanswered` to
+-- wild numbers, but never within 01's limits and one past them, nor where e = p, which 01 does not allow yet. A time of the next subtask (`of` is `start`, `jobStart` or
+-- `groupDeadline`), or its deadline and bit, is that of subtask q + 1;
 pub record NextIs (e p f q : ℕ) : Type 0 where
   pub time : (of : ℕ → ℕ → ℕ → ℕ → ℕ) → next of e p f q ≡ moment.At (record { 0 = of e p f (q + 1) })
   pub due : nextDue e p f q ≡ due.By (record { 0 = deadline e p f (q + 1) }) (bit e p (q + 1))
@@ -81,7 +81,8 @@ pub record NotBroken (s : State) : Type 0 where
 abbrev pub BrokenExactly : Type 0
 BrokenExactly = (s : State) → (broken s ≡ false) ↔ NotBroken s
 
--- "Given exactly when", of a slot's refusals, in the order 30, 31, 32, 33, 34: each with what was not met before it.
+-- "Given exactly when", of a slot's refusals, in the order 30, 31, 32, 33, 34: each with what was not met before it. The two causes of 34, a place past the end and too
+-- few bytes after it, are one: the record would end past the buffer.
 pub record SlotExactly (s : State) (k : ℕ) (buffer : List ℕ) (place number : ℕ) : Type 0 where
   pub is-30 : (number ≡ 30) ↔ (NotBroken s → ⊥)
   pub is-31 : (number ≡ 31) ↔ (NotBroken s × (s .stopped ≡ true))
@@ -91,18 +92,12 @@ pub record SlotExactly (s : State) (k : ℕ) (buffer : List ℕ) (place number :
       ↔ (NotBroken s × (s .stopped ≡ false) × (timeOf s < 1_000_000_000) × (k ≤ s .table .cores)
       × (length buffer < place + 2 + length (pd2Picks (rowsIn s) (quantaIn s) (timeOf s) k)))
 
--- "A fresh state can be made from any table value: time 0, not stopped, all quanta 0"
-abbrev pub FreshIs : Type 0
-FreshIs = (t : Table) → freshOf t ≡ record { table = t; time = record { 0 = 0 }; stopped = false; quanta = replicate 32 (record { 0 = 0 }) }
-
--- of a slot: 30 to 34, each exactly if its cause is the first met. A fresh state of a table with a fault is answered 30. "Places past row n, and board
+-- of a slot: 30 to 34, each exactly if 01 says so. A fresh state of a table with a fault is answered 30. "Places past row n, and board
 -- numbers past M, are ignored and returned as they came";
 pub record Slots : Type 0 where
-  pub fresh : FreshIs
   pub broken-exactly : BrokenExactly
   pub exactly : (s : State) (k : ℕ) (buffer : List ℕ) (place : ℕ) → SlotExactly s k buffer place (slotOf s k buffer place .said .number)
   pub numbers : SlotNumbers
-  pub refused : RefusalsAreFirstCauses
   pub faulty : FaultAnswers30
   pub parts : BareUnlessLate
   pub returned : PastIsReturned
@@ -110,15 +105,15 @@ pub record Slots : Type 0 where
 
 -- of a trace: the table's refusal first, and then 40 to 47, each with its row and time, exactly if its cause is the first met;
 pub record Checks : Type 0 where
-  pub numbers : (bytes s : List ℕ) →
-      let number = checkOf bytes s .number in
+  pub numbers : (tableBytes trace : List ℕ) →
+      let number = checkOf tableBytes trace .number in
       (number ≡ 0) ⊎ ((10 ≤ number) × (number ≤ 22)) ⊎ ((40 ≤ number) × (number ≤ 47))
-  pub table-refused : (bytes s : List ℕ) → (tableNumber bytes ≡ 0 → ⊥) → checkOf bytes s ≡ bare (tableNumber bytes)
-  pub trace-refused : (bytes s : List ℕ) (x : Said) → tableNumber bytes ≡ 0 → (x .number ≡ 0 → ⊥) →
-      (checkOf bytes s ≡ x) ↔ FirstFound (traceFindings (tableIn bytes) s) x
+  pub table-refused : (tableBytes trace : List ℕ) → (tableNumber tableBytes ≡ 0 → ⊥) → checkOf tableBytes trace ≡ bare (tableNumber tableBytes)
+  pub trace-refused : (tableBytes trace : List ℕ) (x : Said) → tableNumber tableBytes ≡ 0 → (x .number ≡ 0 → ⊥) →
+      (checkOf tableBytes trace ≡ x) ↔ FirstFound (traceFindings (tableIn tableBytes) trace) x
   -- 43 is met exactly where a row number is not below n or does not rise.
   pub rising : RisingExactly
-  pub parts : (bytes s : List ℕ) → let said = checkOf bytes s in (said .number ≡ 44 → ⊥) → (said .number ≡ 45 → ⊥) → said ≡ bare (said .number)
+  pub parts : (tableBytes trace : List ℕ) → let said = checkOf tableBytes trace in (said .number ≡ 44 → ⊥) → (said .number ≡ 45 → ⊥) → said ≡ bare (said .number)
 
 -- of a record in a trace: it is found exactly if 01 says so.
 pub record Records : Type 0 where

@@ -78,7 +78,7 @@ GivesAsRecorded slot =
     (s : State) (k : ℕ) (buffer : List ℕ) (place : ℕ) → Possible s k buffer place → numberOf (slot s k buffer place) < 2 → (i : ℕ) →
     quantaAt (quantaIn (slot s k buffer place .0 .state)) i ≡ quantaAt (quantaIn s) i + cond (names (rowsWritten (slot s k buffer place) place) i) 1 0
 
--- A dispatcher is none of these.
+-- A dispatcher is none of these, and gives as it records.
 pub record ShutOutOf (slot : Dispatcher) : Type 0 where
   pub refuses-all : RefusesAll slot → ⊥
   pub picks-nobody : PicksNobody slot → ⊥

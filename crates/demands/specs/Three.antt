@@ -25,9 +25,9 @@ use Rattle.demands.specs.RunPasses.{WordBytesAreRead, RunPasses}
 -- "A well-formed trace passes exactly when, at each time it covers, each row holds .."; the quanta of a row are the records that name it
 abbrev pub PassesInLimits : Type 0
 PassesInLimits =
-    (bytes s : List ℕ) → tableNumber bytes ≡ 0 → WellFormed (tableIn bytes) s →
-    (checkOf bytes s ≡ bare 0)
-    ↔ ((t i : ℕ) → t ≤ slotsIn s → i < length (rowsOf (tableIn bytes)) → InLimits (rowAt (rowsOf (tableIn bytes)) i) (timesNamed s i t) t)
+    (tableBytes trace : List ℕ) → tableNumber tableBytes ≡ 0 → WellFormed (tableIn tableBytes) trace →
+    let rows = rowsOf (tableIn tableBytes) in
+    (checkOf tableBytes trace ≡ bare 0) ↔ ((t i : ℕ) → t ≤ slotsIn trace → i < length rows → InLimits (rowAt rows i) (timesNamed trace i t) t)
 
 -- "From a fresh start, however many cores each slot had": the states that slots lead to, each with any number of cores, any buffer and any place, as long as
 -- none has reported a row late. A slot may also be refused on the way.

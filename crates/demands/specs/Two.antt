@@ -53,8 +53,9 @@ PicksArePd2s =
 -- of any table and trace.
 abbrev pub PassesExactly : Type 0
 PassesExactly =
-    (bytes s : List ℕ) →
-    (checkOf bytes s ≡ bare 0) ↔ ((tableNumber bytes ≡ 0) × WellFormed (tableIn bytes) s × InWindows (tableIn bytes) s)
+    (tableBytes trace : List ℕ) →
+    (checkOf tableBytes trace ≡ bare 0)
+    ↔ ((tableNumber tableBytes ≡ 0) × WellFormed (tableIn tableBytes) trace × InWindows (tableIn tableBytes) trace)
 
 -- "its order": x goes before y by one of the four rules, and not otherwise.
 abbrev pub OrderIsTheRules : Type 0
@@ -63,7 +64,7 @@ OrderIsTheRules = (x y : Rank) → (before x y ≡ true) ↔ Before x y
 pub record DemandTwo : Type 0 where
   pub order : OrderIsTheRules
   pub picks : PicksArePd2s
-  -- `choice::picks`, asked alone, picks as PD2 does wherever every row's question is answered.
+  -- `choice::picks`, asked alone, picks as PD2 does wherever every row's question is answered. It picks at most 8: a larger k counts as 8.
   pub alone : ChosenAsPd2
   -- "A row gets at most one quantum a slot", whatever the state.
   pub at-most-one : AtMostOneQuantum

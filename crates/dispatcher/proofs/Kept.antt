@@ -10,13 +10,14 @@ use lib.Dec.{ltb}
 use lib.ListN.{length, length-map, List·getD-eq-default}
 use borrow.Author.Tests.{ltb-true, ltb-false, eqb-false, not-false}
 use Rattle.facts.specs.First.{Lowest}
-use Rattle.facts.specs.Findings.{NoneFound}
+use Rattle.facts.specs.Findings.{FirstFound, NoneFound}
 use Rattle.facts.proofs.Tests.{both, hold-both, neither-holds}
 use Rattle.facts.proofs.First.{a-lowest}
 use Rattle.facts.proofs.Counting.{some-if, none-if, some-listed, each-fails, none-is-listed, lowest-is-first}
 use Rattle.facts.proofs.Findings.{said-exactly, none-exactly, otherwise-or-such, in-range}
 use Rattle.counts.specs.Limits.{timeLimit}
 use Rattle.table.specs.declared.Row.{Row}
+use Rattle.table.specs.declared.Table.{Table}
 use Rattle.table.specs.Limits.{rowLimit}
 use Rattle.table.specs.Value.{faultOf}
 use Rattle.pd2.specs.Share.{lower, upper, CanBe}
@@ -31,10 +32,10 @@ use Rattle.trace.proofs.Names.{listed-are-named}
 use Rattle.dispatcher.specs.declared.State.{State}
 use Rattle.dispatcher.specs.State.{rowsIn, quantaIn, timeOf, freshOf}
 use Rattle.dispatcher.specs.Broken.{ofRow, broken}
-use Rattle.trace.specs.Said.{bare}
+use Rattle.trace.specs.Said.{Said, bare}
 use Rattle.dispatcher.specs.Answer.{doneSaid}
 use Rattle.dispatcher.specs.Slot.{picksIn, recordIn, lateAt, lateIn, stepped, stoppedBy, slotTests, refusal, doneReply, slotBy, slotOf}
-use Rattle.dispatcher.specs.Kept.{RefusalsAreFirstCauses, RefusalChangesNothing, DoneMakesTheStep, UppersHold, After, DoneKeepsWhole, NextIsStopped, FreshIsWhole, FaultAnswers30}
+use Rattle.dispatcher.specs.Places.{RefusalChangesNothing, FaultAnswers30}
 use Rattle.counts.proofs.Numbers.{as-many-numbers, as-counted}
 use Rattle.dispatcher.proofs.Refused.{has-room-for, first-30, first-31, by-room}
 use Rattle.dispatcher.proofs.Whole.{Whole, is-whole, is-not-broken, rows-have-places, nothing-given}
@@ -112,7 +113,8 @@ module _ (s : State) (k : ℕ) (buffer : List ℕ) (place : ℕ) where
       go (suc r) = (λ e. e, λ e. e)
 
 -- A slot answers a number above 1 exactly if its cause is the first met,
-pub refusals-are-first-causes : RefusalsAreFirstCauses
+pub refusals-are-first-causes : (s : State) (k : ℕ) (buffer : List ℕ) (place number : ℕ) → 1 < number →
+    (slotOf s k buffer place .said .number ≡ number) ↔ FirstFound (slotTests s k buffer place) number
 unfolding refusal
 refusals-are-first-causes s k buffer place number h =
     let same = refused-number s k buffer place number h in
@@ -129,12 +131,28 @@ refusal-changes-nothing s k buffer place = go (refusal s k buffer place)
     go (suc r) h = (refl, refl)
 
 -- With 0 or 1 it makes the step.
-pub done-makes-the-step : DoneMakesTheStep
+pub done-makes-the-step : (s : State) (k : ℕ) (buffer : List ℕ) (place : ℕ) → slotOf s k buffer place .said .number < 2 →
+    slotOf s k buffer place ≡ doneReply s k buffer place
 done-makes-the-step s k buffer place h = slot-done s k buffer place (done-is-not-refused s k buffer place h)
 
 -- a state has as many places for quanta as its list
 as-many-places : (s : State) → length (quantaIn s) ≡ length (s .quanta)
 as-many-places s = as-many-numbers (s .quanta)
+
+-- All rows are within their upper limits.
+abbrev pub UppersHold : State → Type 0
+UppersHold s = (i : ℕ) → i < length (rowsIn s) → ofRow s (λ row q. upper row q (timeOf s)) i ≡ true
+
+-- A slot that is done, so from a state that is neither broken nor stopped, leads to one that is not broken. With 0 it is not stopped. With 1 it
+-- is, the answer names the lowest late row and the new time, and all upper limits hold.
+pub record After (s : State) (said : Said) : Type 0 where
+  pub whole : broken s ≡ false
+  pub uppers : UppersHold s
+  pub runs-on : said .number ≡ 0 → s .stopped ≡ false
+  pub stops : said .number ≡ 1 → s .stopped ≡ true
+  pub names-time : said .number ≡ 1 → said .time ≡ timeOf s
+  pub is-row : said .number ≡ 1 → said .row < length (rowsIn s)
+  pub names-row : said .number ≡ 1 → Lowest (ofRow s (lateAt (timeOf s))) (length (rowsIn s)) (said .row)
 
 -- What a slot gives, with k cores free.
 module _ (s : State) (k : ℕ) where
@@ -257,7 +275,8 @@ module _ (x : State) (table : faultOf (x .table) ≡ 0) (time : timeOf x ≤ tim
 
 -- A slot that is done leads to a state that is not broken, and its answer says of it what is so. The step keeps the upper limits and the quanta
 -- within the time; judging finds the late rows, and where there is none every row has its lower limit too.
-pub done-keeps-whole : DoneKeepsWhole
+pub done-keeps-whole : (s : State) (k : ℕ) (buffer : List ℕ) (place : ℕ) → slotOf s k buffer place .said .number < 2 →
+    After (slotOf s k buffer place .state) (slotOf s k buffer place .said)
 done-keeps-whole s k buffer place h =
     let done = done-is-not-refused s k buffer place h in
     let can = goes s k buffer place done in
@@ -271,13 +290,14 @@ unfolding slotOf
 stopped-answers s k buffer place whole stopped = rw (first-31 s k buffer place whole stopped)
 
 -- The slot after a 1 answers 31.
-pub next-is-stopped : NextIsStopped
+pub next-is-stopped : (s : State) (k : ℕ) (buffer : List ℕ) (place : ℕ) → slotOf s k buffer place .said .number ≡ 1 → (k′ : ℕ) (buffer′ : List ℕ) (place′ : ℕ) →
+    slotOf (slotOf s k buffer place .state) k′ buffer′ place′ .said .number ≡ 31
 next-is-stopped s k buffer place h k′ buffer′ place′ =
     let after = done-keeps-whole s k buffer place (omega (arith, h)) in
     stopped-answers (slotOf s k buffer place .state) k′ buffer′ place′ (after .whole) (after .stops h)
 
 -- A fresh state is broken only by its table.
-pub fresh-is-whole : FreshIsWhole
+pub fresh-is-whole : (t : Table) → (broken (freshOf t) ≡ false) ↔ (faultOf t ≡ 0)
 fresh-is-whole t = (λ h. is-whole (freshOf t) h .table, λ h. is-not-broken (freshOf t) (whole h))
   where
     whole : faultOf t ≡ 0 → Whole (freshOf t)

@@ -69,7 +69,7 @@ pub stays-usable : (s : State) (rows : List ℕ) → UsableState s → timeOf s 
 stays-usable s rows u slot-left =
     record {
       place = record { few = u .place .few; all = u .place .all; long = same-long ∙ u .place .long };
-      each = λ i l. let row = u .each i l in record { cost = row .cost; weight = row .weight; quanta = few i l; time = omega arith };
+      each = λ i l. let row = u .each i l in record { cost = row .cost; below-period = row .below-period; quanta = few i l; time = omega arith };
     }
   where
     same-long : length (stepped s rows .quanta) ≡ length (s .quanta)

@@ -25,11 +25,10 @@ use Rattle.dispatcher.specs.declared.State.{State}
 use Rattle.dispatcher.specs.State.{rowsIn, quantaIn, timeOf}
 use Rattle.dispatcher.specs.Broken.{broken}
 use Rattle.dispatcher.specs.Slot.{picksIn, recordIn, doneReply, slotOf}
-use Rattle.dispatcher.specs.Kept.{After}
 use Rattle.dispatcher.specs.Run.{Run, placeBy, runWith, oneMore, run}
 use Rattle.dispatcher.specs.RunKept.{runFor, QuantaAreRecords, RecordsStandInTurn}
 use Rattle.dispatcher.proofs.Whole.{Whole, is-whole, nothing-given}
-use Rattle.dispatcher.proofs.Kept.{done-is-not-refused, goes, refusal-changes-nothing, done-makes-the-step, places-stay, quanta-after, done-keeps-whole, fresh-is-whole}
+use Rattle.dispatcher.proofs.Kept.{After, done-is-not-refused, goes, refusal-changes-nothing, done-makes-the-step, places-stay, quanta-after, done-keeps-whole, fresh-is-whole}
 
 -- A slot that is done answers 1 exactly if some row is late: with 1 the row that is named is, and with 0 all rows are within their shares, so none is.
 pub one-when-late : (s : State) (said : Said) → After s said → said .number < 2 →

@@ -2,7 +2,6 @@ pub mod State
 pub mod Broken
 pub mod Answer
 pub mod Slot
-pub mod Kept
 pub mod Places
 pub mod Run
 pub mod RunKept

@@ -4,11 +4,12 @@ use mathlib.Core.Path.{_≡_}
 use mathlib.Core.List.{List}
 use mathlib.Core.Logic.{_⊎_}
 use lib.ListN.{length, take}
-use Rattle.table.specs.Value.{boardsOf}
+use Rattle.table.specs.declared.Table.{Table}
+use Rattle.table.specs.Value.{faultOf, boardsOf}
 use Rattle.pd2.specs.Choice.{quantaAt}
 use Rattle.trace.specs.Said.{bare}
 use Rattle.dispatcher.specs.declared.State.{State}
-use Rattle.dispatcher.specs.State.{rowsIn, quantaIn, timeOf}
+use Rattle.dispatcher.specs.State.{rowsIn, quantaIn, timeOf, freshOf}
 use Rattle.dispatcher.specs.Slot.{SlotReply, slotOf}
 
 -- A slot answers 0, 1 or a number of 30 to 34.
@@ -24,6 +25,16 @@ BareUnlessLate =
     (s : State) (k : ℕ) (buffer : List ℕ) (place : ℕ) →
     let said = slotOf s k buffer place .said in
     (said .number ≡ 1 → ⊥) → said ≡ bare (said .number)
+
+-- "With 30 to 34 the state returns equal and the buffer is untouched."
+abbrev pub RefusalChangesNothing : Type 0
+RefusalChangesNothing =
+    (s : State) (k : ℕ) (buffer : List ℕ) (place : ℕ) → 1 < slotOf s k buffer place .said .number →
+    (slotOf s k buffer place .state ≡ s) × (slotOf s k buffer place .bytes ≡ buffer)
+
+-- "if the table has a fault, its first slot answers 30"
+abbrev pub FaultAnswers30 : Type 0
+FaultAnswers30 = (t : Table) → (faultOf t ≡ 0 → ⊥) → (k : ℕ) (buffer : List ℕ) (place : ℕ) → slotOf (freshOf t) k buffer place .said ≡ bare 30
 
 -- "A row gets at most one quantum a slot."
 abbrev pub AtMostOneQuantum : Type 0

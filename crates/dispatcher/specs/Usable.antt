@@ -20,10 +20,10 @@ use Rattle.trace.specs.Said.{bare}
 use Rattle.dispatcher.specs.Answer.{saidOf}
 use Rattle.dispatcher.specs.Slot.{refusal}
 
--- A row that can be, with quanta and a time within their limits.
+-- A row that a table may hold, with quanta and a time within their limits.
 pub record UsableRow (row : Row) (q t : ℕ) : Type 0 where
   pub cost : 0 < row .cost
-  pub weight : row .cost < row .period
+  pub below-period : row .cost < row .period
   pub quanta : q ≤ t
   pub time : t ≤ timeLimit
 

@@ -24,7 +24,7 @@ use Rattle.table.specs.Limits.{cycleLimit, coreLimit, rowLimit}
 use Rattle.table.specs.Causes.{rowTests, tankAbove, load, zeroRow, boardTests, boardAbove}
 use Rattle.table.specs.Value.{boardsOf, rowsOf, sizeTests, rowCountTests, sumTests, faultOf}
 use Rattle.table.specs.Bytes.{cycleIn, coresIn, rowCountIn, rowsPlace, boardPlaces, rowPlaces, rowInBytes, boardTestsIn, rowTestsIn, rowCountTestsIn, lastTests, tableTests, tableNumber, tableIn, noTable, readingOf, reading}
-use Rattle.table.specs.Taken.{NumbersAreFirstCauses, NumbersAre10To22, TakenWhereNoCause, TakenHasNoFault, PastIsZero, Sound, RowsAreSound, SumIsWithin, SizesAreWithin, BoardsRise, TanksRise}
+use Rattle.table.specs.Taken.{NumbersAreFirstCauses, NumbersAre10To22, TakenWhereNoCause, PastIsZero, Sound}
 use Rattle.table.proofs.Numbers.{table-says, none-in-value, none-in-bytes}
 use Rattle.table.proofs.Value.{not-outside, no-fault}
 use Rattle.table.proofs.Answers.{head-passed}
@@ -97,7 +97,7 @@ taken-value-has-no-fault s h =
     (sym (ap (load (cycleIn s)) (first-are-read (rowInBytes s) zeroRow rowLimit (rowsPlace s) 9 (rowCountIn s))))
     (within s (each .4)))
 
-pub taken-has-no-fault : TakenHasNoFault
+pub taken-has-no-fault : (s : List ℕ) → reading s .number ≡ 0 → faultOf (reading s .table) ≡ 0
 taken-has-no-fault s h =
     let none = sym (number-read s) ∙ h in
     ap faultOf (table-read s none) ∙ taken-value-has-no-fault s none
@@ -113,23 +113,23 @@ sound-row : (cycle least : ℕ) (row : Row) → NoneFound (rowTests cycle least 
 sound-row cycle least row (NoneFound.later tank (NoneFound.later cost (NoneFound.later weight (NoneFound.later divides (NoneFound.later kind NoneFound.end))))) =
     record {
       cost = pos-of-ne-zero (eqb-false (row .cost) 0 cost);
-      weight = ltb-true (row .cost) (row .period) (not-false _ weight);
+      below-period = ltb-true (row .cost) (row .period) (not-false _ weight);
       divides = eqb-true (cycle % row .period) 0 (not-false _ divides);
       kind = ltb-false 1 (row .kind) kind;
     }
 
-pub rows-are-sound : RowsAreSound
+pub rows-are-sound : (t : Table) → faultOf t ≡ 0 → (i : ℕ) → i < length (rowsOf t) → Sound (t .cycle) (getD (rowsOf t) i zeroRow)
 rows-are-sound t h i k =
     let row = each-passed (rowTests (t .cycle)) tankAbove 0 (rowsOf t) (none-in-value t h .3) i zeroRow k in
     sound-row (t .cycle) (row .0) _ (row .1)
 
-pub sum-is-within : SumIsWithin
+pub sum-is-within : (t : Table) → faultOf t ≡ 0 → load (t .cycle) (rowsOf t) ≤ t .cores * t .cycle
 sum-is-within t h = go (none-in-value t h .4)
   where
     go : NoneFound (sumTests t) → load (t .cycle) (rowsOf t) ≤ t .cores * t .cycle
     go (NoneFound.later sum NoneFound.end) = ltb-false (t .cores * t .cycle) (load (t .cycle) (rowsOf t)) sum
 
-pub sizes-are-within : SizesAreWithin
+pub sizes-are-within : (t : Table) → faultOf t ≡ 0 → ((1 ≤ t .cycle) × (t .cycle ≤ cycleLimit)) × ((1 ≤ t .cores) × (t .cores ≤ coreLimit)) × (t .n ≤ rowLimit)
 sizes-are-within t h = let each = none-in-value t h in go (each .0) (each .2)
   where
     go : NoneFound (sizeTests t) → NoneFound (rowCountTests t) → ((1 ≤ t .cycle) × (t .cycle ≤ cycleLimit)) × ((1 ≤ t .cores) × (t .cores ≤ coreLimit)) × (t .n ≤ rowLimit)
@@ -172,10 +172,10 @@ board-enough least board (NoneFound.later rises NoneFound.end) = ltb-false board
 tank-enough : (cycle least : ℕ) (row : Row) → NoneFound (rowTests cycle least row) → least ≤ row .tank
 tank-enough cycle least row (NoneFound.later rises others) = ltb-false (row .tank) least rises
 
-pub boards-rise : BoardsRise
+pub boards-rise : (t : Table) → faultOf t ≡ 0 → (i j : ℕ) → i < j → j < length (boardsOf t) → getD (boardsOf t) i 0 < getD (boardsOf t) j 0
 boards-rise t h = passed-rise boardTests boardAbove (λ board. board) (λ board. refl) 0 board-enough 0 (boardsOf t) (none-in-value t h .1)
 
-pub tanks-rise : TanksRise
+pub tanks-rise : (t : Table) → faultOf t ≡ 0 → (i j : ℕ) → i < j → j < length (rowsOf t) → getD (rowsOf t) i zeroRow .tank < getD (rowsOf t) j zeroRow .tank
 tanks-rise t h = passed-rise (rowTests (t .cycle)) tankAbove (λ row. row .tank) (λ row. refl) zeroRow (tank-enough (t .cycle)) 0 (rowsOf t) (none-in-value t h .3)
 
 -- The promises of `read` and `fault` give the answer itself, so they determine it.

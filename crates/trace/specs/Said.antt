@@ -10,5 +10,6 @@ pub record Said : Type 0 where
 abbrev pub bare : ℕ → Said
 bare number = record { number = number; row = 0; time = 0 }
 
+-- with 1, 44 and 45: the number, the row and the time
 abbrev pub named : ℕ → ℕ → ℕ → Said
 named number row time = record { number = number; row = row; time = time }
