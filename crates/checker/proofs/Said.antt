@@ -4,8 +4,8 @@ use mathlib.Core.Path.{_≡_, refl}
 use mathlib.Core.List.{List}
 use mathlib.Core.Logic.{_↔_, _⊎_}
 use native.Mathlib.Omega.{arith}
-use Rattle.facts.specs.Findings.{NoneFound, AllSay}
-use Rattle.facts.proofs.Findings.{all-joined, otherwise-or-such, none-exactly}
+use Rattle.facts.specs.Findings.{NoneFound}
+use Rattle.facts.proofs.Findings.{AllSay, all-joined, otherwise-or-such, none-exactly}
 use Rattle.table.specs.declared.Table.{Table}
 use Rattle.trace.specs.Records.{slotsIn}
 use Rattle.trace.specs.Said.{Said, bare, named}

@@ -9,7 +9,7 @@ use Rattle.windows.proofs.Question.{windows-are-answered}
 use Rattle.windows.proofs.Windows.{next-start-is-d-less-b}
 use Rattle.windows.proofs.LeastTime.{walk-gives-least-time}
 use Rattle.windows.proofs.Group.{light-has-none}
-use Rattle.windows.specs.Next.{InReach}
+use Rattle.windows.specs.Fits.{InReach}
 use Rattle.windows.proofs.Next.{next-in-reach, due-in-reach}
 use Rattle.table.specs.Bytes.{tableNumber, tableIn}
 use Rattle.table.proofs.Taken.{number-read, table-read, numbers-are-first-causes, numbers-are-10-to-22, taken-where-no-cause, no-table-read, past-is-zero}

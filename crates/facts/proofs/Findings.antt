@@ -6,8 +6,18 @@ use mathlib.Core.Bool.{Bool, true, false, cond, _&&_}
 use mathlib.Core.Logic.{_↔_, _⊎_, inl, inr}
 use lib.Dec.{leb}
 use borrow.Author.Tests.{leb-true}
-use Rattle.facts.specs.Findings.{Finding, Test, _then_, firstFound, FirstFound, NoneFound, AllSay, ranged}
+use Rattle.facts.specs.Findings.{Finding, Test, _then_, firstFound, FirstFound, NoneFound}
 use Rattle.facts.proofs.Tests.{both}
+
+-- Whatever is found, what is said is such.
+pub data AllSay {A : Type 0} (such : A → Type 0) : List (Finding A) → Type 0 where
+  end : AllSay such []
+  next : {f : Finding A} {fs : List (Finding A)} → such (f .answer) → AllSay such fs → AllSay such (f ∷ fs)
+
+-- Every test has a number from lo to hi.
+abbrev pub ranged : ℕ → ℕ → List Test → Bool
+ranged lo hi [] = true
+ranged lo hi (t ∷ ts) = (leb lo (t .answer) && leb (t .answer) hi) && ranged lo hi ts
 
 -- for callers
 

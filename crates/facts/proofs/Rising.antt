@@ -5,9 +5,9 @@ use mathlib.Core.List.{List, [], _∷_, map}
 use native.Mathlib.Nat.{le-of-suc-le-suc, not-suc-le-zero}
 use native.Mathlib.Omega.{arith}
 use lib.ListN.{length, getD}
-use Rattle.facts.specs.Findings.{Test, _then_, NoneFound, AllSay}
+use Rattle.facts.specs.Findings.{Test, _then_, NoneFound}
 use Rattle.facts.specs.Rising.{rising}
-use Rattle.facts.proofs.Findings.{none-joined, none-apart, all-joined}
+use Rattle.facts.proofs.Findings.{AllSay, none-joined, none-apart, all-joined}
 
 -- for callers
 

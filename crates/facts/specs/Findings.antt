@@ -2,8 +2,7 @@
 use Prim.Native.Nat.{ℕ}
 use mathlib.Core.Path.{_≡_}
 use mathlib.Core.List.{List, [], _∷_, _++_}
-use mathlib.Core.Bool.{Bool, true, false, cond, _&&_}
-use lib.Dec.{leb}
+use mathlib.Core.Bool.{Bool, true, false, cond}
 
 infix 70 _says_
 infixr 60 _then_
@@ -39,13 +38,3 @@ pub data FirstFound {A : Type 0} : List (Finding A) → A → Type 0 where
 pub data NoneFound {A : Type 0} : List (Finding A) → Type 0 where
   end : NoneFound []
   later : {f : Finding A} {fs : List (Finding A)} → f .cause ≡ false → NoneFound fs → NoneFound (f ∷ fs)
-
--- Whatever is found, what is said is such.
-pub data AllSay {A : Type 0} (such : A → Type 0) : List (Finding A) → Type 0 where
-  end : AllSay such []
-  next : {f : Finding A} {fs : List (Finding A)} → such (f .answer) → AllSay such fs → AllSay such (f ∷ fs)
-
--- Every test has a number from lo to hi.
-abbrev pub ranged : ℕ → ℕ → List Test → Bool
-ranged lo hi [] = true
-ranged lo hi (t ∷ ts) = (leb lo (t .answer) && leb (t .answer) hi) && ranged lo hi ts

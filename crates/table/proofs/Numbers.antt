@@ -3,8 +3,8 @@ use Prim.Native.Nat.{ℕ, _≤_}
 use mathlib.Core.Path.{_≡_, refl}
 use mathlib.Core.List.{List}
 use native.Mathlib.Omega.{arith}
-use Rattle.facts.specs.Findings.{Test, firstFound, NoneFound, AllSay}
-use Rattle.facts.proofs.Findings.{none-exactly, none-in-five, all-joined, in-range}
+use Rattle.facts.specs.Findings.{Test, firstFound, NoneFound}
+use Rattle.facts.proofs.Findings.{AllSay, none-exactly, none-in-five, all-joined, in-range}
 use Rattle.facts.proofs.Rising.{rising-say}
 use Rattle.fields.specs.Fields.{byte}
 use Rattle.table.specs.declared.Row.{Row}

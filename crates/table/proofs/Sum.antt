@@ -6,7 +6,7 @@ use native.Mathlib.Numerals.{add-one}
 use native.Mathlib.Omega.{arith}
 use lib.ListN.{length, take, getD, set, length-set}
 use lib.Seq.{take-suc, take-suc-set}
-use Rattle.table.specs.Limits.{loadLimit}
+use Rattle.table.specs.Parts.{loadLimit}
 use Rattle.table.specs.declared.Row.{Row}
 use Rattle.table.specs.Causes.{load}
 

@@ -9,7 +9,7 @@ ghost use Prim.Native.Nat.{_+_, _*_, _/_, _≤_, _<_};
 ghost use lib.ListN.{length, take};
 ghost use Rattle.facts.specs.Findings.{firstFound};
 ghost use Rattle.facts.specs.Rising.{rising};
-ghost use Rattle.table.specs.Limits.{loadLimit};
+ghost use Rattle.table.specs.Parts.{loadLimit};
 ghost use Rattle.table.specs.Causes.{rowTests, tankAbove, load, zeroRow};
 ghost use Rattle.table.specs.Bytes.{rowInBytes};
 ghost use Rattle.table.specs.RowRead.{rowReplyOf, rowReply};

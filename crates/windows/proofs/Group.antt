@@ -8,9 +8,9 @@ use borrow.Author.Tests.{eq-eqb, ne-eqb, lt-ltb, le-ltb}
 use Rattle.facts.specs.First.{atFirst}
 use Rattle.facts.specs.Loops.{Reached, Found}
 use Rattle.facts.proofs.Loops.{begins, not-past, stops-here, goes-on, found}
-use Rattle.windows.specs.Windows.{deadline, bit, windowLength, lastOfJob}
+use Rattle.windows.specs.Windows.{deadline, bit, windowLength}
 use Rattle.windows.specs.Group.{heavy, stops, stopTime, groupDeadline}
-use Rattle.windows.proofs.Windows.{bit-at-job-end, job-end-is-near}
+use Rattle.windows.proofs.Windows.{lastOfJob, bit-at-job-end, job-end-is-near}
 
 -- for callers
 

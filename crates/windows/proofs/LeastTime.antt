@@ -11,10 +11,10 @@ use native.Mathlib.Omega.{arith}
 use Rattle.facts.specs.Rounding.{ceilDiv}
 use Rattle.facts.specs.First.{IsFirst}
 use Rattle.facts.proofs.Rounding.{ceil-is-enough}
-use Rattle.windows.specs.Windows.{deadline, bit, windowLength, jobStart, lastOfJob}
+use Rattle.windows.specs.Windows.{deadline, bit, windowLength, jobStart}
 use Rattle.windows.specs.Group.{stops, stopTime, groupDeadline}
 use Rattle.windows.specs.LeastTime.{Marks, IsGroupDeadline, WalkGivesLeastTime}
-use Rattle.windows.proofs.Windows.{bit-zero-divides, bit-at-job-end, job-end-is-near, deadline-of-whole, deadline-rises, bit-zero-is-at-most-2-long}
+use Rattle.windows.proofs.Windows.{lastOfJob, bit-zero-divides, bit-at-job-end, job-end-is-near, deadline-of-whole, deadline-rises, bit-zero-is-at-most-2-long}
 use Rattle.windows.proofs.Group.{light-has-none, heavy-walks, bit-stops, length-stops, else-passes, bit-gives, length-gives, walk-ends-within-job}
 
 -- Two least times are equal.

@@ -16,7 +16,8 @@ use Rattle.windows.specs.declared.Moment.{Moment}
 use Rattle.windows.specs.declared.Moment.the-variants as moment
 use Rattle.windows.specs.Fits.{Fits, CanWalk}
 use Rattle.windows.specs.Windows.{deadline, bit}
-use Rattle.windows.specs.Next.{reach, nextAnswered, InReach, nextDue, next}
+use Rattle.windows.specs.Next.{reach, nextAnswered, nextDue, next}
+use Rattle.windows.specs.Fits.{InReach}
 
 -- within reach is answered, and the other way round
 in-reach-is-answered : {e p o q : ℕ} → InReach e p o q → nextAnswered e p o q ≡ true

@@ -8,7 +8,11 @@ use native.Mathlib.Omega.{arith}
 use borrow.Author.Tests.{eq-eqb, ne-eqb}
 use Rattle.facts.specs.Rounding.{ceilDiv}
 use Rattle.facts.proofs.Rounding.{ceil-is-enough, below-ceil-falls-short, floor-is-near, ceil-is-near, ceil-of-whole, ceil-of-part}
-use Rattle.windows.specs.Windows.{start, deadline, bit, NextStartIsDLessB, windowLength, jobStart, lastOfJob}
+use Rattle.windows.specs.Windows.{start, deadline, bit, NextStartIsDLessB, windowLength, jobStart}
+
+-- "A job is e quanta in a row": the last subtask of the job that holds subtask i
+unfoldable pub lastOfJob : ℕ → ℕ → ℕ
+lastOfJob e i = ceilDiv i e * e
 
 -- for callers
 

@@ -10,6 +10,13 @@ furthest = reach + 65_536
 abbrev pub products : ℕ
 products = 4_611_686_018_427_387_904
 
+-- A question about the next window that is answered, as a record (`nextAnswered` of Next.antt).
+pub record InReach (e p o q : ℕ) : Type 0 where
+  pub cost : 0 < e
+  pub weight : e ≤ p
+  pub origin : o ≤ reach
+  pub quanta : q ≤ reach
+
 -- A row that can be, an origin within reach, and a subtask that a walk can come to.
 pub record Fits (e p o i : ℕ) : Type 0 where
   pub cost : 0 < e

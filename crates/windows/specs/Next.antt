@@ -1,5 +1,5 @@
 -- A row's next window, by its origin o and the quanta q it has been given: "Subtask i is next when i-1 quanta have been given."
-use Prim.Native.Nat.{ℕ, _+_, _<_, _≤_}
+use Prim.Native.Nat.{ℕ, _+_}
 use mathlib.Core.Bool.{Bool, cond, _&&_}
 use lib.Dec.{ltb, leb}
 use Rattle.windows.specs.declared.Due.{Due}
@@ -15,13 +15,6 @@ reach = 70_368_744_177_664
 -- A question about the next window is answered for each row that can be, with an origin and quanta within reach.
 abbrev pub nextAnswered : ℕ → ℕ → ℕ → ℕ → Bool
 nextAnswered e p o q = ltb 0 e && leb e p && leb o reach && leb q reach
-
--- The same as a record, for laws.
-pub record InReach (e p o q : ℕ) : Type 0 where
-  pub cost : 0 < e
-  pub weight : e ≤ p
-  pub origin : o ≤ reach
-  pub quanta : q ≤ reach
 
 -- d and b of the next subtask
 unfoldable pub nextDue : ℕ → ℕ → ℕ → ℕ → Due

@@ -29,7 +29,3 @@ windowLength e p o i = deadline e p o i - start e p o i
 -- "the start of the job that holds it, f + floor((i-1)/e)·p"
 unfoldable pub jobStart : ℕ → ℕ → ℕ → ℕ → ℕ
 jobStart e p o i = o + (i - 1) / e * p
-
--- "A job is e quanta in a row": the last subtask of the job that holds subtask i
-unfoldable pub lastOfJob : ℕ → ℕ → ℕ
-lastOfJob e i = ceilDiv i e * e

@@ -2,7 +2,7 @@ use mathlib.Core.Path.{_≡_, sym, ap, _∙_}
 use Prim.Native.Nat.{ℕ, _*_, _/_, _≤_, _<_}
 use native.Mathlib.Nat.{div-le-self, div-zero, mul-zero, mul-le-mul}
 use native.Mathlib.Omega.{arith}
-use Rattle.table.specs.Limits.{loadLimit}
+use Rattle.table.specs.Parts.{loadLimit}
 use Rattle.table.proofs.rows.quanta_of.Statement.{statement}
 use Rattle.table.proofs.rows.quanta_of.Tie as tie
 
