@@ -1,11 +1,11 @@
 -- The promises determine what they speak of. Assumes nothing.
 use Prim.Native.Nat.{ℕ}
-use mathlib.Core.Path.{_≡_, refl, sym, ap, _∙_}
+use mathlib.Core.Path.{_≡_, refl}
 use mathlib.Core.List.{List}
 use mathlib.Core.Bool.{cond}
 use lib.Dec.{eqb}
 use Rattle.facts.specs.Determined.{Determined, TellsApart}
-use Rattle.facts.proofs.Determined.{by-meaning}
+use Rattle.facts.proofs.Determined.{by-meaning, by-way-back}
 use Rattle.trace.specs.Said.{Said}
 use Rattle.checker.specs.declared.TableFault.{TableFault}
 use Rattle.checker.specs.declared.TableFault.the-variants.{Ends, Format, Cycle, Cores, Boards, RowCount, Tanks, Cost, Weight, Period, Kind, After, Sum}
@@ -74,7 +74,7 @@ back TooLong = refl
 
 -- Two answers with one number, row and time are one answer,
 pub answers-tell-apart : TellsApart saidOf
-answers-tell-apart a b e = sym (back a) ∙ (ap answerFor e ∙ back b)
+answers-tell-apart = by-way-back answerFor back
 
 -- so the promise of `check` determines its answer.
 pub check-is-determined : (bytes s : List ℕ) → Determined {R = Answer} (λ r. saidOf r ≡ checkOf bytes s)

@@ -13,14 +13,17 @@ use Rattle.table.specs.declared.Table.{Table}
 use Rattle.table.specs.Limits.{rowLimit}
 use Rattle.table.specs.Value.{rowsOf}
 use Rattle.pd2.specs.Choice.{rowAt, quantaAt}
+use Rattle.pd2.specs.Near.{HasWindow}
 use Rattle.pd2.proofs.Share.{row-can-be}
 use Rattle.pd2.proofs.Choice.{row-there}
 use Rattle.checker.specs.Passes.{due}
-use Rattle.checker.specs.Walking.{CanCheck, CanBeDue, DueAre}
+use Rattle.checker.specs.Walking.{CanCheck, DueAre}
 
--- A row of the table can be asked.
-pub can-be-due : (table : Table) → CanCheck table → (i : ℕ) → i < length (rowsOf table) → (d : Row) {q : ℕ} → q ≤ reach → CanBeDue (getD (table .rows) i d) q
-can-be-due table can i l d few = record { can = rw (row-there (table .rows) (table .n) i d l) (row-can-be table (can .sound) i l); few = few }
+-- A row of the table has a next window.
+pub has-window : (table : Table) → CanCheck table → (i : ℕ) → i < length (rowsOf table) → (d : Row) {q : ℕ} → q ≤ reach → HasWindow (getD (table .rows) i d) q
+has-window table can i l d few =
+    let row = row-can-be table (can .sound) i l in
+    rw (row-there (table .rows) (table .n) i d l) record { cost = row .cost; weight = row .weight; quanta = few }
 
 -- An array that is filled with what is due, row after row,
 pub dues-are-filled : (table : Table) (dues : List ℕ) {i : ℕ} → Filled (λ j. due (rowAt (rowsOf table) j) 1) 0 0 rowLimit i dues → length (rowsOf table) ≤ i → DueAre table (λ _. 0) dues

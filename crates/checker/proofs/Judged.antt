@@ -11,7 +11,9 @@ use Rattle.facts.specs.First.{Lowest}
 use Rattle.facts.specs.Findings.{_says_, FirstFound, NoneFound}
 use Rattle.facts.proofs.First.{same-lowest}
 use Rattle.facts.proofs.Findings.{none-joined, first-in-front, first-behind}
-use Rattle.facts.proofs.Counting.{some-if, none-if, lowest-is-first, no-more-than-all}
+use Rattle.facts.proofs.Counting.{no-more-than-all}
+use Rattle.facts.proofs.Some.{some-if, none-if}
+use Rattle.facts.proofs.Listing.{lowest-is-first}
 use Rattle.counts.specs.Limits.{kept}
 use Rattle.table.specs.declared.Table.{Table}
 use Rattle.table.specs.Value.{rowsOf}

@@ -8,7 +8,8 @@ use lib.ListN.{length, getD}
 use Rattle.facts.specs.First.{Lowest}
 use Rattle.facts.specs.Findings.{FirstFound, NoneFound}
 use Rattle.facts.proofs.Findings.{first-is-said, none-joined, first-in-front, first-behind}
-use Rattle.facts.proofs.Counting.{some-if, none-if, lowest-is-first}
+use Rattle.facts.proofs.Some.{some-if, none-if}
+use Rattle.facts.proofs.Listing.{lowest-is-first}
 use Rattle.table.specs.declared.Table.{Table}
 use Rattle.table.specs.Value.{rowsOf}
 use Rattle.pd2.specs.Ready.{ready}

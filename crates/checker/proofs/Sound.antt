@@ -13,7 +13,8 @@ use Rattle.facts.specs.Counting.{those}
 use Rattle.facts.specs.Findings.{NoneFound}
 use Rattle.facts.proofs.Findings.{none-joined, none-apart}
 use Rattle.facts.proofs.Tests.{neither-holds}
-use Rattle.facts.proofs.Counting.{none-if, each-fails, listed-pass, listed-rise}
+use Rattle.facts.proofs.Some.{none-if, each-fails}
+use Rattle.facts.proofs.Listing.{listed-pass, listed-rise}
 use Rattle.table.specs.declared.Table.{Table}
 use Rattle.table.specs.Value.{rowsOf}
 use Rattle.pd2.specs.Ready.{ready, late}

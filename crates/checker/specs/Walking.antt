@@ -7,13 +7,10 @@ use lib.ListN.{length, getD, take, drop}
 use Rattle.facts.specs.First.{Lowest}
 use Rattle.facts.specs.Findings.{FirstFound, NoneFound}
 use Rattle.counts.specs.Limits.{kept}
-use Rattle.windows.specs.Next.{reach}
-use Rattle.table.specs.declared.Row.{Row}
 use Rattle.table.specs.declared.Table.{Table}
 use Rattle.table.specs.Limits.{rowLimit}
 use Rattle.table.specs.Value.{faultOf, rowsOf}
 use Rattle.pd2.specs.Ready.{ready}
-use Rattle.pd2.specs.Share.{CanBe}
 use Rattle.pd2.specs.Choice.{rowAt, quantaAt}
 use Rattle.trace.specs.Said.{bare}
 use Rattle.trace.specs.Records.{pickedAt, pastRecord, names, placeIn, timesNamed}
@@ -35,11 +32,6 @@ pub record Askable (table : Table) (counts : List ℕ) (t : ℕ) : Type 0 where
   pub long : length counts ≡ rowLimit
   pub few : (i : ℕ) → i < length (rowsOf table) → quantaAt counts i ≤ t
   pub time : t ≤ slotLimit
-
--- A row can be asked when its next quantum is due.
-pub record CanBeDue (row : Row) (q : ℕ) : Type 0 where
-  pub can : CanBe row
-  pub few : q ≤ reach
 
 -- At each row's place stands when its next quantum is due.
 pub record DueAre (table : Table) (quanta : ℕ → ℕ) (dues : List ℕ) : Type 0 where

@@ -10,8 +10,9 @@ ghost use Prim.Native.Nat.{_+_, _≤_};
 ghost use lib.Dec.{leb};
 ghost use lib.ListN.{getD, take, drop};
 ghost use Rattle.facts.specs.First.{Lowest};
+ghost use Rattle.pd2.specs.Near.{HasWindow};
 ghost use Rattle.checker.specs.Passes.{due};
-ghost use Rattle.checker.specs.Walking.{CanCheck, CanBeDue, DueAre, CanGive, Gave};
+ghost use Rattle.checker.specs.Walking.{CanCheck, DueAre, CanGive, Gave};
 
 // When the first quantum of each row is due.
 pub(crate) fn first_dues(table: Table) -> [u64; 32]
@@ -31,7 +32,7 @@ pub(crate) fn first_dues(table: Table) -> [u64; 32]
 
 // When a row's next quantum is due.
 fn next_due(row: Row, given: Quanta) -> u64
-    requires { ⌜ CanBeDue row (given .0) ⌝ }
+    requires { ⌜ HasWindow row (given .0) ⌝ }
     ensures { λ r. ⌜ r ≡ due row (given .0 + 1) ⌝ }
 {
     let due = windows::next_due(row.cost, row.period, pd2::origin(row), given);

@@ -12,12 +12,12 @@ use Rattle.windows.proofs.Windows.{deadline-is-near}
 use Rattle.windows.proofs.Fits.{product-fits}
 use Rattle.table.specs.declared.Row.{Row}
 use Rattle.pd2.specs.Ready.{originOf, ready}
-use Rattle.pd2.specs.Share.{CanBe}
 use Rattle.pd2.specs.Verdict.{answered}
 use Rattle.pd2.specs.Choice.{rowAt, quantaAt}
+use Rattle.pd2.specs.Near.{HasWindow}
 use Rattle.pd2.proofs.Verdicts.{in-reach, yes-is-answered}
 use Rattle.choice.specs.Choice.{saysReady}
-use Rattle.choice.specs.Classes.{keyOf, keyIn, KeysAre, groupOf, HasWindow, ClassHasWindows}
+use Rattle.choice.specs.Classes.{keyOf, keyIn, KeysAre, groupOf, ClassHasWindows}
 
 -- A row that is answered to be ready has a window,
 pub window-if-ready : (row : Row) (q t : ℕ) → saysReady row q t ≡ true → HasWindow row q
@@ -43,10 +43,6 @@ unfolding keyOf
 unready-key row q t h = rw h (refl, λ e. absurd (false≢true e))
 
 module _ (row : Row) (q : ℕ) (u : HasWindow row q) where
-  -- It can be.
-  pub row-can : CanBe row
-  row-can = record { cost = u .cost; weight = u .weight }
-
   -- Its deadline is far from the largest number.
   pub deadline-is-small : row .phase < 65_536 → row .period < 65_536 → deadline (row .cost) (row .period) (originOf row) (q + 1) < 5_000_000_000_000_000_000
   deadline-is-small phase period =

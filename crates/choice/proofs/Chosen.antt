@@ -9,7 +9,7 @@ use borrow.Author.Tests.{lt-ltb}
 use lib.ListN.{length, getD, take, length-take}
 use lib.Seq.{take-all, ext-getD}
 use Rattle.facts.specs.Determined.{Determined}
-use Rattle.facts.proofs.Counting.{same-list}
+use Rattle.facts.proofs.Listing.{same-list}
 use Rattle.counts.specs.declared.Quanta.{Quanta}
 use Rattle.table.specs.declared.Row.{Row}
 use Rattle.pd2.specs.Order.{before}

@@ -9,7 +9,7 @@ use borrow.Author.Tests.{lt-ltb, le-ltb, eq-eqb, ne-eqb, ltb-true, eqb-true}
 use lib.Dec.{ltb, eqb}
 use Rattle.facts.specs.Counting.{howMany}
 use Rattle.facts.proofs.Counting.{same-count, counts-apart, counts-no-more, counts-fewer}
-use Rattle.facts.proofs.Tests.{both, one-of-two}
+use Rattle.facts.proofs.Tests.{both, one-of-two, same-test}
 use Rattle.counts.specs.Limits.{most}
 use Rattle.pd2.specs.Picks.{ahead, picked}
 use Rattle.pd2.proofs.Picks.{picked-if-few-ahead, unready-is-not-picked}
@@ -97,11 +97,7 @@ module _
         rw (whole, same) (same-below (howMany (λ j. ltb (key j) class) n) (howMany (λ j. eqb (key j) class && sub j i) n) full)
       where
         same-below : (a b : ℕ) → a + left ≡ k → ltb (a + b) k ≡ ltb b left
-        same-below a b e = go (decLt b left)
-          where
-            go : Dec (b < left) → ltb (a + b) k ≡ ltb b left
-            go (yes m) = lt-ltb (a + b) k (omega arith) ∙ sym (lt-ltb b left m)
-            go (no m) = le-ltb (a + b) k (omega arith) ∙ sym (le-ltb b left (omega arith))
+        same-below a b e = same-test {b = k} {d = left} (λ m. omega arith, λ m. omega arith)
 
     module _ (group : ℕ → ℕ) (ties : (j i : ℕ) → j < n → i < n → 0 < left → key j ≡ class → key i ≡ class → class < most → tied key group j i ≡ eqb (key j) (key i) && sub j i) where
       -- PD2's rule picks exactly the rows that the cut takes.

@@ -10,17 +10,18 @@ use lib.Dec.{ltb}
 use lib.ListN.{length, getD, take, replicate, set}
 use lib.Seq.{getD-set-same, getD-set-other}
 use Rattle.facts.specs.Counting.{howMany, those}
-use Rattle.facts.proofs.Counting.{list-ends}
+use Rattle.facts.proofs.Listing.{list-ends}
 use Rattle.facts.proofs.Filling.{Filled, filling-begins, fills-one-more}
 use Rattle.counts.specs.declared.Quanta.{Quanta}
 use Rattle.counts.specs.Limits.{most}
 use Rattle.table.specs.declared.Row.{Row}
 use Rattle.pd2.specs.Choice.{rowAt, quantaAt}
+use Rattle.pd2.specs.Near.{HasWindow}
 use Rattle.trace.specs.Record.{marked}
 use Rattle.choice.specs.Arrays.{InPlace}
 use Rattle.counts.specs.Numbers.{numbersOf}
 use Rattle.choice.specs.Choice.{saysReady, saysReadyIn}
-use Rattle.choice.specs.Classes.{keyOf, keyIn, KeysAre, groupOf, HasWindow, GroupsAre, tied, inCut}
+use Rattle.choice.specs.Classes.{keyOf, keyIn, KeysAre, groupOf, GroupsAre, tied, inCut}
 use Rattle.pd2.proofs.Choice.{row-there}
 use Rattle.counts.proofs.Numbers.{number-there}
 

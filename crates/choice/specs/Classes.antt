@@ -8,10 +8,10 @@ use lib.Dec.{ltb, eqb}
 use lib.ListN.{length, getD}
 use Rattle.facts.specs.Counting.{howMany}
 use Rattle.counts.specs.Limits.{most}
-use Rattle.windows.specs.Next.{reach}
 use Rattle.table.specs.declared.Row.{Row}
 use Rattle.pd2.specs.Order.{Rank, rankOf}
 use Rattle.pd2.specs.Choice.{rowAt, quantaAt}
+use Rattle.pd2.specs.Near.{HasWindow}
 use Rattle.choice.specs.Choice.{saysReady, saysReadyIn}
 
 -- The key of a rank: two for each deadline, b = 1 before b = 0. A row that is not ready has the largest number there is.
@@ -58,13 +58,7 @@ groupOf row q key class = cond (eqb key class && not (eqb (class % 2) 1)) (rankO
 abbrev pub groupIn : List ℕ → ℕ → ℕ
 groupIn groups i = getD groups i 0
 
--- A row with a next window: windows answers, if the phase is that of a row.
-pub record HasWindow (row : Row) (q : ℕ) : Type 0 where
-  pub cost : 0 < row .cost
-  pub weight : row .cost ≤ row .period
-  pub quanta : q ≤ reach
-
--- The rows of the class are such rows.
+-- The rows of the class have a next window.
 abbrev pub ClassHasWindows : List Row → List ℕ → List ℕ → ℕ → Type 0
 ClassHasWindows rows quanta keys class = (i : ℕ) → i < length rows → keyIn keys i ≡ class → HasWindow (rowAt rows i) (quantaAt quanta i)
 

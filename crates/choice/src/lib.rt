@@ -15,6 +15,7 @@ ghost use lib.ListN.{length, take};
 ghost use Rattle.trace.specs.Record.{marked};
 ghost use Rattle.facts.specs.Counting.{howMany, those};
 ghost use Rattle.counts.specs.Limits.{most};
+ghost use Rattle.pd2.specs.Near.{HasWindow};
 ghost use Rattle.choice.specs.Arrays.{InPlace};
 ghost use Rattle.counts.specs.Numbers.{numbersOf};
 ghost use Rattle.choice.specs.Choice.{saysReady, chosen};
@@ -24,7 +25,6 @@ ghost use Rattle.choice.specs.Classes.{
   KeysAre,
   groupOf,
   groupIn,
-  HasWindow,
   ClassHasWindows,
   GroupsAre,
   goesFirst,

@@ -1,5 +1,5 @@
 -- The definitions mean what 01 says, in numbers and bytes. Assumes nothing.
-use Prim.Native.Nat.{ℕ, _+_, _-_, _*_, _/_, _≤_, _<_}
+use Prim.Native.Nat.{ℕ, _+_, _-_, _*_, _/_, _≤_}
 use mathlib.Core.Path.{_≡_, refl, ap, _∙_}
 use mathlib.Core.List.{List}
 use mathlib.Core.Bool.{Bool, true, false}
@@ -10,7 +10,7 @@ use lib.Dec.{ltb, leb}
 use lib.ListN.{length, getD}
 use Rattle.facts.specs.Rounding.{ceilDiv}
 use Rattle.facts.specs.First.{Lowest}
-use Rattle.facts.proofs.Counting.{lowest-is-first}
+use Rattle.facts.proofs.Listing.{lowest-is-first}
 use Rattle.facts.proofs.Places.{read-there}
 use Rattle.windows.specs.Windows.{start, deadline, bit, windowLength, jobStart}
 use Rattle.table.specs.declared.Row.{Row}
@@ -91,36 +91,36 @@ order-means : (rows : List Row) (quanta : List ℕ) (j i : ℕ) → OrderMeans r
 order-means rows quanta j i = record { ready-is = λ t. refl; rank-is = λ row q. refl; goes-before = refl }
 
 -- A test that one number is below another fails where it is not.
-not-below : (a b : ℕ) → (ltb a b ≡ false) ↔ (b ≤ a)
-not-below a b = (ltb-false a b, le-ltb a b)
+below-fails : (a b : ℕ) → (ltb a b ≡ false) ↔ (b ≤ a)
+below-fails a b = (ltb-false a b, le-ltb a b)
 
 shaped : (s : List ℕ) (table : Table) → WellFormed table s ↔ Shaped table s
 shaped s table = (
   λ well.
       record {
-        slot-count = not-below (length s) 4 .0 (well .slot-count);
-        limit = not-below 1_000_000_000 (slotsIn s) .0 (well .limit);
-        heads = λ t l. not-below (length s) (placeIn s t + 2) .0 (well .records t l .head);
-        free = λ t l. not-below (table .cores) (getD s (placeIn s t) 0) .0 (well .records t l .cores);
-        picked = λ t l. not-below (getD s (placeIn s t) 0) (getD s (placeIn s t + 1) 0) .0 (well .records t l .picked);
-        whole = λ t l. not-below (length s) (placeIn s t + 2 + getD s (placeIn s t + 1) 0) .0 (well .records t l .rows);
+        slot-count = below-fails (length s) 4 .0 (well .slot-count);
+        limit = below-fails 1_000_000_000 (slotsIn s) .0 (well .limit);
+        heads = λ t l. below-fails (length s) (placeIn s t + 2) .0 (well .records t l .head);
+        free = λ t l. below-fails (table .cores) (getD s (placeIn s t) 0) .0 (well .records t l .cores);
+        picked = λ t l. below-fails (getD s (placeIn s t) 0) (getD s (placeIn s t + 1) 0) .0 (well .records t l .picked);
+        whole = λ t l. below-fails (length s) (placeIn s t + 2 + getD s (placeIn s t + 1) 0) .0 (well .records t l .rows);
         rows-below = λ t j l k. rising-exactly (length (rowsOf table)) (rowsOfSlot s t) .0 (well .records t l .numbers) .0 j k;
         rows-rise = λ t i j l k m. rising-exactly (length (rowsOf table)) (rowsOfSlot s t) .0 (well .records t l .numbers) .1 i j k m;
-        end = not-below (placeIn s (slotsIn s)) (length s) .0 (well .end);
+        end = below-fails (placeIn s (slotsIn s)) (length s) .0 (well .end);
       },
   λ shape.
       record {
-        slot-count = not-below (length s) 4 .1 (shape .slot-count);
-        limit = not-below 1_000_000_000 (slotsIn s) .1 (shape .limit);
+        slot-count = below-fails (length s) 4 .1 (shape .slot-count);
+        limit = below-fails 1_000_000_000 (slotsIn s) .1 (shape .limit);
         records = λ t l.
             record {
-              head = not-below (length s) (placeIn s t + 2) .1 (shape .heads t l);
-              cores = not-below (table .cores) (getD s (placeIn s t) 0) .1 (shape .free t l);
-              picked = not-below (getD s (placeIn s t) 0) (getD s (placeIn s t + 1) 0) .1 (shape .picked t l);
-              rows = not-below (length s) (placeIn s t + 2 + getD s (placeIn s t + 1) 0) .1 (shape .whole t l);
+              head = below-fails (length s) (placeIn s t + 2) .1 (shape .heads t l);
+              cores = below-fails (table .cores) (getD s (placeIn s t) 0) .1 (shape .free t l);
+              picked = below-fails (getD s (placeIn s t) 0) (getD s (placeIn s t + 1) 0) .1 (shape .picked t l);
+              rows = below-fails (length s) (placeIn s t + 2 + getD s (placeIn s t + 1) 0) .1 (shape .whole t l);
               numbers = rising-exactly (length (rowsOf table)) (rowsOfSlot s t) .1 (λ j k. shape .rows-below t j l k, λ i j k m. shape .rows-rise t i j l k m);
             };
-        end = not-below (placeIn s (slotsIn s)) (length s) .1 (shape .end);
+        end = below-fails (placeIn s (slotsIn s)) (length s) .1 (shape .end);
       },
 )
 

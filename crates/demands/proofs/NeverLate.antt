@@ -37,14 +37,15 @@ use Rattle.optimal.specs.Box.{Box}
 use Rattle.optimal.proofs.Box.{sum-is-load, table-is-box}
 use Rattle.optimal.proofs.NeverLate.{pd2-never-late}
 use Rattle.dispatcher.specs.declared.State.{State}
-use Rattle.dispatcher.specs.State.{quantaIn, timeOf, freshOf}
+use Rattle.dispatcher.specs.State.{quantaIn, timeOf}
 use Rattle.dispatcher.specs.Broken.{broken}
 use Rattle.dispatcher.specs.Run.{run}
 use Rattle.dispatcher.specs.Slot.{picksIn, refusal, slotOf}
 use Rattle.dispatcher.proofs.Whole.{is-whole}
-use Rattle.dispatcher.proofs.Kept.{Goes, goes-back, not-refused-is-done, refusal-changes-nothing, done-makes-the-step, places-stay, quanta-after, done-keeps-whole, fresh-is-whole}
+use Rattle.dispatcher.proofs.Ran.{places-stay}
+use Rattle.dispatcher.proofs.Kept.{Goes, goes-back, not-refused-is-done, refusal-changes-nothing, done-makes-the-step, quanta-after, done-keeps-whole}
 use Rattle.dispatcher.proofs.Places.{picks-are-few, bare-unless-late}
-use Rattle.demands.proofs.Three.{done-with-0}
+use Rattle.demands.proofs.Three.{done-with-0, Running, fresh-runs, still-runs}
 use Rattle.demands.specs.NeverLate.{WithCores, NeverLateWith, NeverLate}
 
 -- A sound table whose rows need at most c cores.
@@ -106,9 +107,7 @@ module _ (table : Table) (c : ℕ) (sound : faultOf table ≡ 0) (few : load (ta
 
   -- What is known of a state that slots with at least c cores have led to.
   record Kept (s : State) : Type 0 where
-    same : s .table ≡ table
-    whole : broken s ≡ false
-    runs : s .stopped ≡ false
+    known : Running table s
     long : length (s .quanta) ≡ rowLimit
     course : Course (timeOf s) (quantaIn s)
 
@@ -118,17 +117,17 @@ module _ (table : Table) (c : ℕ) (sound : faultOf table ≡ 0) (few : load (ta
   course-after s k buffer place so more done =
       rw (ap (λ x. x .state) (done-makes-the-step s k buffer place done))
       (goes-on (timeOf s) (quantaIn s) _ k (so .course) more
-      (λ i l. quanta-after s k (is-whole s (so .whole)) (so .long) i ∙ ap (λ b. quantaAt (quantaIn s) i + cond b 1 0) (named i l)))
+      (λ i l. quanta-after s k (is-whole s (so .known .whole)) (so .long) i ∙ ap (λ b. quantaAt (quantaIn s) i + cond b 1 0) (named i l)))
     where
       named : (i : ℕ) → i < length (rowsOf table) → names (picksIn s k) i ≡ isPicked (quantaIn s) (timeOf s) k i
-      named i l = rw (so .same) (listed-are-named _ _ i ∙ rw (lt-ltb i (length (rowsOf table)) l) refl)
+      named i l = rw (so .known .same) (listed-are-named _ _ i ∙ rw (lt-ltb i (length (rowsOf table)) l) refl)
 
   -- so it does not answer 1,
   not-late : (s : State) (k : ℕ) (buffer : List ℕ) (place : ℕ) → Kept s → c ≤ k → slotOf s k buffer place .said .number ≡ 1 → ⊥
   not-late s k buffer place so more is-1 =
       let done : slotOf s k buffer place .said .number < 2 = omega (arith, is-1) in
       let after = done-keeps-whole s k buffer place done in
-      let same : slotOf s k buffer place .state .table ≡ table = ap (λ x. x .state .table) (done-makes-the-step s k buffer place done) ∙ so .same in
+      let same : slotOf s k buffer place .state .table ≡ table = ap (λ x. x .state .table) (done-makes-the-step s k buffer place done) ∙ so .known .same in
       let row = slotOf s k buffer place .said .row in
       let is-late = after .names-row is-1 .passes (after .is-row is-1) in
       let nobody = nobody-late _ _ (course-after s k buffer place so more done) row (rw same at (after .is-row is-1)) in
@@ -138,9 +137,7 @@ module _ (table : Table) (c : ℕ) (sound : faultOf table ≡ 0) (few : load (ta
   kept : (s : State) → WithCores table c s → Kept s
   kept _ WithCores.start =
       record {
-        same = refl;
-        whole = fresh-is-whole table .1 sound;
-        runs = refl;
+        known = fresh-runs table sound;
         long = refl;
         course = begins _;
       }
@@ -148,13 +145,10 @@ module _ (table : Table) (c : ℕ) (sound : faultOf table ≡ 0) (few : load (ta
     where
       go : Dec (slotOf s k buffer place .said .number < 2) → Kept s → Kept (slotOf s k buffer place .state)
       go (yes done) so =
-          let after = done-keeps-whole s k buffer place done in
           let step = ap (λ x. x .state) (done-makes-the-step s k buffer place done) in
           record {
-            same = ap (λ x. x .table) step ∙ so .same;
-            whole = after .whole;
-            runs = after .runs-on (done-with-0 done (not-late s k buffer place so more));
-            long = ap (λ x. length (x .quanta)) step ∙ (places-stay s k ∙ so .long);
+            known = still-runs table s k buffer place (so .known) (not-late s k buffer place so more);
+            long = ap (λ x. length (x .quanta)) step ∙ (places-stay s (picksIn s k) ∙ so .long);
             course = course-after s k buffer place so more done;
           }
       go (no refused) so = subst Kept (sym (refusal-changes-nothing s k buffer place (omega arith) .0)) so
@@ -171,7 +165,7 @@ module _ (table : Table) (c : ℕ) (sound : faultOf table ≡ 0) (few : load (ta
           slotOf s k buffer place .said ≡ bare 0
       answers-0 s k buffer place so more cores time room =
           let few : length (picksIn s k) ≤ 8 = omega (arith, picks-are-few s k, sizes-are-within table sound .1 .1) in
-          let going : Goes s k buffer place = record { whole = so .whole; runs = so .runs; time = time; cores = rw (so .same) cores; room = omega arith } in
+          let going : Goes s k buffer place = record { whole = so .known .whole; runs = so .known .runs; time = time; cores = rw (so .known .same) cores; room = omega arith } in
           let done : slotOf s k buffer place .said .number < 2 = not-refused-is-done s k buffer place (goes-back s k buffer place going) in
           let late = not-late s k buffer place so more in
           bare-unless-late s k buffer place late ∙ ap bare (done-with-0 done late)

@@ -1,8 +1,8 @@
 -- Demand 3. Assumes nothing.
-use Prim.Native.Nat.{ℕ, _*_, _≤_, _<_, zero-le}
+use Prim.Native.Nat.{ℕ, _*_, _<_, zero-le}
 use mathlib.Core.Path.{_≡_, refl, sym, ap, _∙_, subst}
 use mathlib.Core.List.{List}
-use mathlib.Core.Bool.{Bool, true, false, true≢false}
+use mathlib.Core.Bool.{true, false, true≢false}
 use mathlib.Core.Logic.{_↔_}
 use native.Mathlib.Decide.{decLt, ℕ-discrete}
 use native.Mathlib.Nat.{mul-zero, div-le-self}
@@ -13,8 +13,8 @@ use Rattle.table.specs.declared.Table.{Table}
 use Rattle.table.specs.Value.{faultOf, rowsOf}
 use Rattle.table.specs.Bytes.{tableIn}
 use Rattle.table.proofs.Taken.{taken-value-has-no-fault}
-use Rattle.pd2.specs.Ready.{isEarlyRelease, late}
-use Rattle.pd2.specs.Share.{elapsed, upper, within, CanBe}
+use Rattle.pd2.specs.Ready.{late}
+use Rattle.pd2.specs.Share.{within, CanBe}
 use Rattle.pd2.specs.Choice.{rowAt, quantaAt}
 use Rattle.pd2.proofs.Share.{row-can-be, late-exactly-if-owed}
 use Rattle.trace.specs.Records.{timesNamed}
@@ -55,25 +55,34 @@ done-with-0 {n} l h = go (decLt n 1)
     go (no m) = absurd (h (omega arith))
 
 -- What is known of a state that slots have led to from a fresh start.
-record Kept (table : Table) (s : State) : Type 0 where
-  same : s .table ≡ table
-  whole : broken s ≡ false
-  runs : s .stopped ≡ false
+pub record Running (table : Table) (s : State) : Type 0 where
+  pub same : s .table ≡ table
+  pub whole : broken s ≡ false
+  pub runs : s .stopped ≡ false
 
--- A slot that does not report a row late keeps that: it is done with 0, or refused and changes nothing.
-kept : (table : Table) (s : State) → faultOf table ≡ 0 → FromFresh table s → Kept table s
-kept table _ sound FromFresh.start = record { same = refl; whole = fresh-is-whole table .1 sound; runs = refl }
-kept table _ sound (FromFresh.slot s k buffer place from not-late) = go (decLt (slotOf s k buffer place .said .number) 2) (kept table s sound from)
+-- It is known of a fresh state,
+pub fresh-runs : (table : Table) → faultOf table ≡ 0 → Running table (freshOf table)
+fresh-runs table sound = record { same = refl; whole = fresh-is-whole table .1 sound; runs = refl }
+
+-- and a slot that does not report a row late keeps it: it is done with 0, or refused and changes nothing.
+pub still-runs : (table : Table) (s : State) (k : ℕ) (buffer : List ℕ) (place : ℕ) → Running table s → (slotOf s k buffer place .said .number ≡ 1 → ⊥) →
+    Running table (slotOf s k buffer place .state)
+still-runs table s k buffer place so not-late = go (decLt (slotOf s k buffer place .said .number) 2)
   where
-    go : Dec (slotOf s k buffer place .said .number < 2) → Kept table s → Kept table (slotOf s k buffer place .state)
-    go (yes done) so =
+    go : Dec (slotOf s k buffer place .said .number < 2) → Running table (slotOf s k buffer place .state)
+    go (yes done) =
         let after = done-keeps-whole s k buffer place done in
         record {
           same = ap (λ x. x .state .table) (done-makes-the-step s k buffer place done) ∙ so .same;
           whole = after .whole;
           runs = after .runs-on (done-with-0 done not-late);
         }
-    go (no refused) so = subst (Kept table) (sym (refusal-changes-nothing s k buffer place (omega arith) .0)) so
+    go (no refused) = subst (Running table) (sym (refusal-changes-nothing s k buffer place (omega arith) .0)) so
+
+-- So it is known as long as no row is reported late.
+running : (table : Table) (s : State) → faultOf table ≡ 0 → FromFresh table s → Running table s
+running table _ sound FromFresh.start = fresh-runs table sound
+running table _ sound (FromFresh.slot s k buffer place from not-late) = still-runs table s k buffer place (running table s sound from) not-late
 
 -- A table with a fault stays fresh: each slot answers 30.
 stays-fresh : (table : Table) (s : State) → (faultOf table ≡ 0 → ⊥) → FromFresh table s → s ≡ freshOf table
@@ -94,7 +103,7 @@ nothing-in-limits row =
 keeps-sound : (table : Table) (s : State) → faultOf table ≡ 0 → FromFresh table s → (i : ℕ) → i < length (rowsOf table) →
     InLimits (rowAt (rowsOf table) i) (quantaAt (quantaIn s) i) (timeOf s)
 keeps-sound table s sound from =
-    let so = kept table s sound from in
+    let so = running table s sound from in
     subst (λ x. (i : ℕ) → i < length (rowsOf x) → InLimits (rowAt (rowsOf x) i) (quantaAt (quantaIn s) i) (timeOf s)) (so .same)
     (λ i l. in-limits (rowAt (rowsIn s) i) (row-can-be (s .table) (is-whole s (so .whole) .table) i l) (quantaAt (quantaIn s) i) (timeOf s) .0 (is-whole s (so .whole) .shares (so .runs) i l))
 

@@ -6,7 +6,7 @@ use native.Mathlib.Omega.{arith}
 use borrow.Author.Tests.{lt-ltb, le-ltb, eq-eqb, ne-eqb}
 use lib.ListN.{length}
 use lib.Seq.{length-take-le}
-use Rattle.facts.proofs.Counting.{some-either, some-where}
+use Rattle.facts.proofs.Some.{some-either, some-where}
 use Rattle.counts.specs.Limits.{timeLimit}
 use Rattle.table.specs.Limits.{rowLimit}
 use Rattle.table.specs.Value.{faultOf}

@@ -1,11 +1,11 @@
 -- The promises determine what they speak of. Assumes nothing.
 use Prim.Native.Nat.{ℕ}
-use mathlib.Core.Path.{_≡_, refl, sym, ap, ap₂, _∙_}
+use mathlib.Core.Path.{_≡_, refl, sym, ap₂, _∙_}
 use mathlib.Core.List.{List}
 use mathlib.Core.Bool.{cond}
 use lib.Dec.{eqb}
 use Rattle.facts.specs.Determined.{Determined, TellsApart}
-use Rattle.facts.proofs.Determined.{by-value}
+use Rattle.facts.proofs.Determined.{by-value, by-way-back}
 use Rattle.table.specs.declared.Table.{Table}
 use Rattle.dispatcher.specs.declared.State.{State}
 use Rattle.dispatcher.specs.declared.Answer.{Answer}
@@ -39,7 +39,7 @@ back NoRoom = refl
 
 -- Two answers with one number, row and time are one answer.
 pub answers-tell-apart : TellsApart saidOf
-answers-tell-apart a b e = sym (back a) ∙ (ap answerFor e ∙ back b)
+answers-tell-apart = by-way-back answerFor back
 
 -- The promise of `told` gives what is told, field by field.
 pub told-is-determined : (a : Answer) → Determined {R = Told} (λ r. saidBy r ≡ saidOf a)

@@ -7,13 +7,14 @@ use mathlib.Core.Logic.{_↔_, _⊎_, inl, inr, ⊎-elim}
 use native.Mathlib.Decide.{decLt}
 use native.Mathlib.Omega.{arith}
 use lib.Dec.{ltb}
-use lib.ListN.{length, length-map, List·getD-eq-default}
+use lib.ListN.{length, List·getD-eq-default}
 use borrow.Author.Tests.{ltb-true, ltb-false, eqb-false, not-false}
 use Rattle.facts.specs.First.{Lowest}
 use Rattle.facts.specs.Findings.{FirstFound, NoneFound}
 use Rattle.facts.proofs.Tests.{both, hold-both, neither-holds}
 use Rattle.facts.proofs.First.{a-lowest}
-use Rattle.facts.proofs.Counting.{some-if, none-if, some-listed, each-fails, none-is-listed, lowest-is-first}
+use Rattle.facts.proofs.Some.{some-if, none-if, each-fails}
+use Rattle.facts.proofs.Listing.{some-listed, none-is-listed, lowest-is-first}
 use Rattle.facts.proofs.Findings.{said-exactly, none-exactly, otherwise-or-such, in-range}
 use Rattle.counts.specs.Limits.{timeLimit}
 use Rattle.table.specs.declared.Row.{Row}
@@ -26,7 +27,7 @@ use Rattle.pd2.specs.Choice.{rowAt, quantaAt, given, readyIn, goesBeforeBy}
 use Rattle.pd2.specs.Order.{before}
 use Rattle.pd2.proofs.Share.{row-can-be, nothing-is-within, upper-kept-when-idle, upper-after-quantum-means-ready, late-means-below}
 use Rattle.pd2.proofs.Picks.{picked-is-ready}
-use Rattle.pd2.proofs.Choice.{how-many-given, given-at}
+use Rattle.pd2.proofs.Choice.{given-at}
 use Rattle.trace.specs.Records.{names}
 use Rattle.trace.proofs.Names.{listed-are-named}
 use Rattle.dispatcher.specs.declared.State.{State}
@@ -37,6 +38,7 @@ use Rattle.dispatcher.specs.Answer.{doneSaid}
 use Rattle.dispatcher.specs.Slot.{picksIn, recordIn, lateAt, lateIn, stepped, stoppedBy, slotTests, refusal, doneReply, slotBy, slotOf}
 use Rattle.dispatcher.specs.Places.{RefusalChangesNothing, FaultAnswers30}
 use Rattle.counts.proofs.Numbers.{as-many-numbers, as-counted}
+use Rattle.dispatcher.proofs.Ran.{places-stay}
 use Rattle.dispatcher.proofs.Refused.{has-room-for, first-30, first-31, by-room}
 use Rattle.dispatcher.proofs.Whole.{Whole, is-whole, is-not-broken, rows-have-places, nothing-given}
 
@@ -156,12 +158,6 @@ pub record After (s : State) (said : Said) : Type 0 where
 
 -- What a slot gives, with k cores free.
 module _ (s : State) (k : ℕ) where
-  -- The places stay.
-  pub places-stay : length (stepped s (picksIn s k) .quanta) ≡ length (s .quanta)
-  places-stay =
-      length-map (given (names (picksIn s k)) 0 (quantaIn s)) (λ q. record { 0 = q })
-      ∙ (how-many-given (names (picksIn s k)) 0 (quantaIn s) ∙ as-many-places s)
-
   -- A row that is named is picked, so it is a ready row of the table.
   pub named-is-ready : (i : ℕ) → names (picksIn s k) i ≡ true → (i < length (rowsIn s)) × (readyIn (rowsIn s) (quantaIn s) (timeOf s) i ≡ true)
   named-is-ready i h =
@@ -179,7 +175,7 @@ module _ (s : State) (k : ℕ) where
   -- and one that has none has no quanta, as before
   none-past-places : (i : ℕ) → length (s .quanta) ≤ i → quantaAt (quantaIn (stepped s (picksIn s k))) i ≡ quantaAt (quantaIn s) i
   none-past-places i l =
-      List·getD-eq-default (quantaIn (stepped s (picksIn s k))) 0 {n = i} (omega (arith, as-many-places (stepped s (picksIn s k)), places-stay))
+      List·getD-eq-default (quantaIn (stepped s (picksIn s k))) 0 {n = i} (omega (arith, as-many-places (stepped s (picksIn s k)), places-stay s (picksIn s k)))
       ∙ sym (List·getD-eq-default (quantaIn s) 0 {n = i} (omega (arith, as-many-places s)))
 
   -- Each row has one quantum more if it is picked, in a whole state with places for 32 rows,

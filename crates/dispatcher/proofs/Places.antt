@@ -2,22 +2,22 @@
 use Prim.Native.Nat.{ℕ, zero, suc, _+_, _≤_, _<_}
 use mathlib.Core.Path.{_≡_, refl, sym, ap, ap₂, _∙_}
 use mathlib.Core.List.{List, [], _∷_}
-use mathlib.Core.Bool.{Bool, cond, _&&_}
+use mathlib.Core.Bool.{Bool}
 use mathlib.Core.Logic.{_⊎_, inl, inr, ⊎-elim}
 use native.Mathlib.Omega.{arith}
 use lib.Dec.{ltb}
 use lib.ListN.{length, take}
 use lib.Seq.{getD-take}
 use Rattle.facts.specs.Counting.{those, some}
-use Rattle.facts.proofs.Counting.{same-count, same-list}
+use Rattle.facts.proofs.Counting.{same-count}
+use Rattle.facts.proofs.Listing.{same-list}
 use Rattle.table.specs.declared.Row.{Row}
 use Rattle.table.specs.Value.{faultOf}
 use Rattle.pd2.specs.Ready.{ready}
-use Rattle.pd2.specs.Picks.{picked}
 use Rattle.pd2.specs.Choice.{rowAt, quantaAt, given, readyIn, goesBeforeBy, pd2Picks}
 use Rattle.pd2.specs.Order.{before}
-use Rattle.pd2.proofs.Picks.{picks-are-best}
-use Rattle.pd2.proofs.Choice.{pd2-is-strict}
+use Rattle.pd2.proofs.Picks.{picks-are-best, same-picked}
+use Rattle.pd2.proofs.Choice.{pd2-is-strict, given-in-front}
 use Rattle.trace.specs.Record.{recordOf, withRecord}
 use Rattle.trace.specs.Records.{names}
 use Rattle.trace.specs.Said.{bare}
@@ -87,29 +87,14 @@ past-is-returned s k buffer place =
     unpicked : (i : ℕ) → length (rowsIn s) ≤ i → quantaAt (quantaIn (stepped s (picksIn s k))) i ≡ quantaAt (quantaIn s) i
     unpicked i l = ⊎-elim (λ more. absurd (omega (arith, named-is-ready s k i (more .0) .0))) (λ same. same) (one-more-or-same s k i)
 
--- Quanta that agree on the rows
-module _ (rows : List Row) (quanta quanta′ : List ℕ) (same : (i : ℕ) → i < length rows → quantaAt quanta i ≡ quantaAt quanta′ i) (t k : ℕ) where
-  -- (who is picked, by the quanta)
-  pickedBy : List ℕ → ℕ → Bool
-  pickedBy q = picked (readyIn rows q t) (goesBeforeBy before rows q) (length rows) k
-
-  -- pick each row alike: it is ready alike, and as many go before it,
-  picked-alike : (i : ℕ) → i < length rows → pickedBy quanta i ≡ pickedBy quanta′ i
-  unfolding picked pickedBy
-  picked-alike i l =
-      ap₂ (λ isReady ahead. isReady && ltb ahead k) (ap (λ q. ready (rowAt rows i) q t) (same i l)) (same-count _ _ (length rows) (λ j m. rw (same j m, same i l)))
-
-  -- so the picks are the same.
-  same-picks : pd2Picks rows quanta t k ≡ pd2Picks rows quanta′ t k
-  unfolding pickedBy
-  same-picks = same-list (pickedBy quanta) (pickedBy quanta′) (length rows) picked-alike
-
--- Giving to the places in front is giving to all, seen in front.
-given-in-front : (isPicked : ℕ → Bool) (n i : ℕ) (quanta : List ℕ) → take n (given isPicked i quanta) ≡ given isPicked i (take n quanta)
-unfolding given
-given-in-front isPicked zero i quanta = refl
-given-in-front isPicked (suc n) i [] = refl
-given-in-front isPicked (suc n) i (q ∷ quanta) = ap (λ rest. (q + cond (isPicked i) 1 0) ∷ rest) (given-in-front isPicked n (i + 1) quanta)
+-- Quanta that agree on the rows make the same rows ready and go first, so the picks are the same.
+same-picks : (rows : List Row) (quanta quanta′ : List ℕ) → ((i : ℕ) → i < length rows → quantaAt quanta i ≡ quantaAt quanta′ i) → (t k : ℕ) →
+    pd2Picks rows quanta t k ≡ pd2Picks rows quanta′ t k
+same-picks rows quanta quanta′ same t k =
+    same-list _ _ (length rows)
+    (same-picked (readyIn rows quanta t) (readyIn rows quanta′ t) (goesBeforeBy before rows quanta) (goesBeforeBy before rows quanta′) (length rows) k
+    (λ i l. ap (λ q. ready (rowAt rows i) q t) (same i l))
+    (λ i j l m. rw (same i l, same j m) refl))
 
 -- Two states that differ only past n and M
 module _ (s s′ : State) (alike : AlikeBelow s s′) where

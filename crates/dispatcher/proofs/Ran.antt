@@ -1,7 +1,7 @@
 -- What is left of a slot once its rows are picked: quanta are given, and lateness is judged. Assumes nothing.
 use Prim.Native.Nat.{ℕ, _+_, _≤_, _<_, min}
 use mathlib.Core.Path.{_≡_, refl, sym, ap, subst, _∙_}
-use mathlib.Core.List.{List, [], _∷_, map}
+use mathlib.Core.List.{List}
 use mathlib.Core.Bool.{Bool, true, false, cond, _&&_, false≢true}
 use native.Mathlib.Decide.{decLt}
 use native.Mathlib.Omega.{arith}
@@ -12,7 +12,8 @@ use lib.ListN.{length, getD, length-map, List·getD-eq-default}
 use lib.Seq.{ext-getD}
 use Rattle.facts.specs.First.{Lowest}
 use Rattle.facts.proofs.First.{same-lowest}
-use Rattle.facts.proofs.Counting.{some-listed, some-if, none-if, lowest-is-first, none-is-listed}
+use Rattle.facts.proofs.Some.{some-if, none-if}
+use Rattle.facts.proofs.Listing.{some-listed, lowest-is-first, none-is-listed}
 use Rattle.counts.specs.declared.Quanta.{Quanta}
 use Rattle.counts.specs.Limits.{timeLimit, kept, most}
 use Rattle.counts.specs.Numbers.{numbersOf, counted}
@@ -64,19 +65,20 @@ given-is marks before after so few small = sym (counted-back after) ∙ ap count
         at true e = let low = small i e in rw e (omega arith)
         at false e = rw e (omega arith)
 
+-- Giving keeps the places of a state.
+pub places-stay : (s : State) (rows : List ℕ) → length (stepped s rows .quanta) ≡ length (s .quanta)
+places-stay s rows =
+    length-map (given (names rows) 0 (quantaIn s)) (λ q. record { 0 = q })
+    ∙ (how-many-given (names rows) 0 (quantaIn s) ∙ as-many-numbers (s .quanta))
+
 -- If only its rows are given to, a usable state stays usable as long as the time is below its limit.
 pub stays-usable : (s : State) (rows : List ℕ) → UsableState s → timeOf s < timeLimit → UsableState (stepped s rows)
 stays-usable s rows u slot-left =
     record {
-      place = record { few = u .place .few; all = u .place .all; long = same-long ∙ u .place .long };
+      place = record { few = u .place .few; all = u .place .all; long = places-stay s rows ∙ u .place .long };
       each = λ i l. let row = u .each i l in record { cost = row .cost; below-period = row .below-period; quanta = few i l; time = omega arith };
     }
   where
-    same-long : length (stepped s rows .quanta) ≡ length (s .quanta)
-    same-long =
-        length-map (given (names rows) 0 (quantaIn s)) (λ q. record { 0 = q })
-        ∙ (how-many-given (names rows) 0 (quantaIn s) ∙ as-many-numbers (s .quanta))
-
     one-at-most : (b : Bool) → cond b 1 0 ≤ 1
     one-at-most true = omega arith
     one-at-most false = omega arith

@@ -28,7 +28,8 @@ use Rattle.dispatcher.specs.Slot.{picksIn, recordIn, doneReply, slotOf}
 use Rattle.dispatcher.specs.Run.{Run, placeBy, runWith, oneMore, run}
 use Rattle.dispatcher.specs.RunKept.{runFor, QuantaAreRecords, RecordsStandInTurn}
 use Rattle.dispatcher.proofs.Whole.{Whole, is-whole, nothing-given}
-use Rattle.dispatcher.proofs.Kept.{After, done-is-not-refused, goes, refusal-changes-nothing, done-makes-the-step, places-stay, quanta-after, done-keeps-whole, fresh-is-whole}
+use Rattle.dispatcher.proofs.Ran.{places-stay}
+use Rattle.dispatcher.proofs.Kept.{After, done-is-not-refused, goes, refusal-changes-nothing, done-makes-the-step, quanta-after, done-keeps-whole, fresh-is-whole}
 
 -- A slot that is done answers 1 exactly if some row is late: with 1 the row that is named is, and with 0 all rows are within their shares, so none is.
 pub one-when-late : (s : State) (said : Said) → After s said → said .number < 2 →
@@ -77,7 +78,7 @@ stands-after : (from : ℕ) (s : State) (b : List ℕ) (next k : ℕ) → Stands
 stands-after from s b next k so whole room =
     let inside : placeOf b from (timeOf s) ≤ length b = rw (← so .place) room in
     record {
-      long = places-stay s k ∙ so .long;
+      long = places-stay s (picksIn s k) ∙ so .long;
       place = rw (so .place, add-one (timeOf s)) (sym (next-place b from (timeOf s) k (picksIn s k) inside));
       counts = λ i.
           quanta-after s k whole (so .long) i
@@ -143,7 +144,7 @@ module _ (table : Table) (free : ℕ → ℕ) (buffer : List ℕ) (place : ℕ) 
         done-keeps-whole (r .state) (free m) (r .bytes) (r .place) done,
         ap (λ x. x .state .table) step ∙ g .same,
         ap (λ x. timeOf (x .state)) step ∙ ap (λ t. t + 1) (g .clock),
-        ap (λ x. length (x .state .quanta)) step ∙ (places-stay (r .state) (free m) ∙ g .long),
+        ap (λ x. length (x .state .quanta)) step ∙ (places-stay (r .state) (picksIn (r .state) (free m)) ∙ g .long),
       )
 
   -- While every answer is 0 the run goes on.

@@ -8,7 +8,7 @@ use lib.Dec.{ltb, eqb}
 use lib.ListN.{length, getD, replicate, length-take, getD-replicate, length-replicate, List·getD-eq-default, List·getD-map}
 use borrow.Author.Tests.{ltb-false, le-ltb, eqb-true, eq-eqb, not-false}
 use Rattle.facts.proofs.Tests.{neither-holds}
-use Rattle.facts.proofs.Counting.{none-if, each-fails}
+use Rattle.facts.proofs.Some.{none-if, each-fails}
 use Rattle.counts.specs.declared.Quanta.{Quanta}
 use Rattle.counts.specs.Limits.{timeLimit}
 use Rattle.table.specs.declared.Table.{Table}

@@ -14,18 +14,16 @@ use Rattle.pd2.specs.Picks.{picked}
 use Rattle.pd2.specs.Order.{before}
 use Rattle.pd2.specs.Share.{within}
 use Rattle.pd2.specs.Choice.{rowAt, readyIn, goesBeforeBy}
-use Rattle.pd2.proofs.Picks.{picks-are-best}
-use Rattle.pd2.proofs.Choice.{pd2-is-strict}
 use Rattle.trace.specs.Record.{recordOf, withRecord}
 use Rattle.trace.specs.Records.{freeAt, pickedAt, rowsAt, pastRecord, placeOf, timesNamedFrom}
 use Rattle.trace.proofs.Records.{places-rise, stand-from, ends-at-next, ends-before}
 use Rattle.trace.proofs.Agree.{Agree, rows-agree, place-agrees, count-agrees, still-as-long, agrees-before, free-written, count-written, rows-written}
-use Rattle.dispatcher.specs.declared.State.{State}
 use Rattle.dispatcher.specs.State.{rowsIn, quantaIn, timeOf}
 use Rattle.dispatcher.specs.Slot.{picksIn, recordIn, slotOf}
 use Rattle.dispatcher.specs.Run.{Run, oneMore, run}
 use Rattle.dispatcher.specs.RunKept.{runFor}
 use Rattle.dispatcher.proofs.Kept.{Goes, goes, done-is-not-refused, done-makes-the-step}
+use Rattle.dispatcher.proofs.Places.{picks-are-few}
 use Rattle.dispatcher.proofs.RunKept.{next-run, before-too, going, place-behind, keeps-shares, quanta-are-records}
 
 -- for callers
@@ -98,12 +96,6 @@ module _ (table : Table) (from t : ℕ) (b : List ℕ) (next k : ℕ) (rows : Li
       go j l (yes h) = stay-sound j h
       go j l (no h) = let e : j ≡ t = omega arith in rw (e, stands-next) this
 
--- No more rows are picked than cores are free.
-few-picks : (s : State) (k : ℕ) → length (picksIn s k) ≤ k
-few-picks s k =
-    let strict = pd2-is-strict (rowsIn s) (quantaIn s) (timeOf s) (length (rowsIn s)) in
-    omega (arith, picks-are-best (readyIn (rowsIn s) (quantaIn s) (timeOf s)) (goesBeforeBy before (rowsIn s) (quantaIn s)) (length (rowsIn s)) k strict .how-many)
-
 module _ (table : Table) (free : ℕ → ℕ) (buffer : List ℕ) (place : ℕ) where
   abbrev at : ℕ → Run
   at = runFor table free buffer place
@@ -134,7 +126,7 @@ module _ (table : Table) (free : ℕ → ℕ) (buffer : List ℕ) (place : ℕ) 
       rw (st .bytes, st .next)
       (written-after table place m (r .bytes) (r .place) (free m) (picksIn (r .state) (free m)) so (st .goes .room)
       (subst (λ t. free m ≤ t .cores) same (st .goes .cores))
-      (few-picks (r .state) (free m))
+      (picks-are-few (r .state) (free m))
       isPicked
       (ap (λ t. those isPicked (length (rowsOf t))) same))
 

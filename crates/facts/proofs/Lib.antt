@@ -3,7 +3,10 @@ pub mod Zero
 pub mod First
 pub mod Tests
 pub mod Search
+pub mod Growing
 pub mod Counting
+pub mod Some
+pub mod Listing
 pub mod Sums
 pub mod Findings
 pub mod Rising

@@ -47,16 +47,3 @@ not-below a b = go (decLt a b)
 pub one-of-two : (a b : Bool) → a || b ≡ true → (a ≡ true) ⊎ (b ≡ true)
 one-of-two true b h = inl refl
 one-of-two false b h = inr h
-
--- A test beside one that holds, or beside one that fails.
-pub or-true : (b : Bool) → b || true ≡ true
-or-true true = refl
-or-true false = refl
-
-pub or-false : (b : Bool) → b || false ≡ b
-or-false true = refl
-or-false false = refl
-
-pub and-false : (b : Bool) → b && false ≡ false
-and-false true = refl
-and-false false = refl

@@ -62,6 +62,13 @@ given-at isPicked i (q ∷ quanta) (suc j) h =
     given-at isPicked (i + 1) quanta j (le-of-suc-le-suc h)
     ∙ ap (λ k. quantaAt quanta j + cond (isPicked k) 1 0) {x = i + 1 + j} {y = i + suc j} (omega arith)
 
+-- Giving to the places in front is giving to all, seen in front.
+pub given-in-front : (isPicked : ℕ → Bool) (n i : ℕ) (quanta : List ℕ) → take n (given isPicked i quanta) ≡ given isPicked i (take n quanta)
+unfolding given
+given-in-front isPicked zero i quanta = refl
+given-in-front isPicked (suc n) i [] = refl
+given-in-front isPicked (suc n) i (q ∷ quanta) = ap (λ rest. (q + cond (isPicked i) 1 0) ∷ rest) (given-in-front isPicked n (i + 1) quanta)
+
 -- The first n rows stand in their array.
 pub row-there : (rows : List Row) (n i : ℕ) (d : Row) → i < length (take n rows) → getD rows i d ≡ rowAt (take n rows) i
 row-there rows n i d l =

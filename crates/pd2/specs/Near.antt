@@ -9,3 +9,9 @@ pub record Near (row : Row) (q t : ℕ) : Type 0 where
   pub weight : row .cost ≤ row .period
   pub quanta : q ≤ reach + 1
   pub time : t ≤ reach + 1
+
+-- A row that can be, with quanta within reach, has a next window: windows answers, if the phase is that of a row.
+pub record HasWindow (row : Row) (q : ℕ) : Type 0 where
+  pub cost : 0 < row .cost
+  pub weight : row .cost ≤ row .period
+  pub quanta : q ≤ reach

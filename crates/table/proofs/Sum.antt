@@ -22,11 +22,16 @@ pub added-none : (rows : List Row) (n cycle : ℕ) → n ≤ length rows → Add
 unfolding load
 added-none rows n cycle l = record { within = omega arith; long = l; small = omega arith; first = refl }
 
--- A row after the others adds its own quanta.
-load-one-more : (cycle : ℕ) (rows : List Row) (row : Row) → load cycle (rows ++ (row ∷ [])) ≡ load cycle rows + row .cost * (cycle / row .period)
+-- A row behind the others adds its own quanta,
+row-behind-adds : (cycle : ℕ) (rows : List Row) (row : Row) → load cycle (rows ++ (row ∷ [])) ≡ load cycle rows + row .cost * (cycle / row .period)
 unfolding load
-load-one-more cycle [] row = omega arith
-load-one-more cycle (first ∷ rows) row = omega (arith, load-one-more cycle rows row)
+row-behind-adds cycle [] row = omega arith
+row-behind-adds cycle (first ∷ rows) row = omega (arith, row-behind-adds cycle rows row)
+
+-- so the quanta of the rows below i + 1 in a cycle are those of the rows below i and those of row i.
+pub load-one-more : (cycle : ℕ) (rows : List Row) (i : ℕ) (d : Row) → i < length rows →
+    load cycle (take (i + 1) rows) ≡ load cycle (take i rows) + getD rows i d .cost * (cycle / getD rows i d .period)
+load-one-more cycle rows i d h = rw (add-one i, take-suc rows i d h) (row-behind-adds cycle (take i rows) (getD rows i d))
 
 module _ {rows : List Row} {n cycle sum i : ℕ} (so : Added rows n cycle sum i) (h : i < n) {q : ℕ} (small : q < loadLimit) where
   -- One row more, in the array as it then is: its first rows are those added before, and the row.
@@ -37,7 +42,7 @@ module _ {rows : List Row} {n cycle sum i : ℕ} (so : Added rows n cycle sum i)
         within = omega arith;
         long = l;
         small = omega (arith, so .small);
-        first = rw (add-one i, e) (omega (arith, so .first, load-one-more cycle (take i rows) row));
+        first = rw (add-one i, e) (omega (arith, so .first, row-behind-adds cycle (take i rows) row));
       }
 
   -- The next row stands in the array,

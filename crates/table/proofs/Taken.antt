@@ -1,15 +1,14 @@
 -- What is known of a table that is taken. Assumes nothing.
 use mathlib.Core.Path.{_≡_, refl, sym, ap, _∙_}
-use mathlib.Core.List.{List, [], _∷_, map}
+use mathlib.Core.List.{List, map}
 use mathlib.Core.Bool.{false}
-use Prim.Native.Nat.{ℕ, zero, suc, _+_, _*_, _/_, _%_, _≤_, _<_}
-use native.Mathlib.Nat.{pos-of-ne-zero, le-of-suc-le-suc, not-suc-le-zero, div-add-mod'}
-use native.Mathlib.Numerals.{add-one}
+use Prim.Native.Nat.{ℕ, zero, suc, _*_, _/_, _%_, _≤_, _<_}
+use native.Mathlib.Nat.{pos-of-ne-zero, div-add-mod'}
 use native.Mathlib.Omega.{arith}
 use lib.Seq.{length-take-le, getD-take}
 use borrow.Author.Tests.{ltb-true, ltb-false, eqb-true, eqb-false, not-false}
 use lib.Dec.{ltb}
-use lib.ListN.{length, getD, take}
+use lib.ListN.{length, getD}
 use Rattle.facts.specs.Findings.{NoneFound}
 use Rattle.facts.specs.Determined.{Determined}
 use Rattle.facts.proofs.Determined.{by-value}
@@ -149,17 +148,6 @@ pub places-are-there : (s : List ℕ) → tableNumber s ≡ 0 → (length (table
 places-are-there s h =
     let sizes = sizes-are-within (tableIn s) (taken-value-has-no-fault s h) in
     (how-many-padded (byte s) 0 coreLimit 6 1 (sizes .1 .1), how-many-padded (rowInBytes s) zeroRow rowLimit (rowsPlace s) 9 (sizes .2))
-
--- The quanta of the rows below i + 1 in a cycle are those of the rows below i and those of row i.
-pub load-one-more : (cycle : ℕ) (rows : List Row) (i : ℕ) (d : Row) → i < length rows →
-    load cycle (take (i + 1) rows) ≡ load cycle (take i rows) + getD rows i d .cost * (cycle / getD rows i d .period)
-unfolding load
-load-one-more cycle rows i d h = rw (add-one i) (go rows i h)
-  where
-    go : (l : List Row) (j : ℕ) → j < length l → load cycle (take (suc j) l) ≡ load cycle (take j l) + getD l j d .cost * (cycle / getD l j d .period)
-    go [] j k = absurd (not-suc-le-zero k)
-    go (x ∷ l) zero k = omega arith
-    go (x ∷ l) (suc j) k = rw (go l j (le-of-suc-le-suc k)) (omega arith)
 
 -- A sound row's jobs fill the cycle.
 pub jobs-fill-cycle : {cycle : ℕ} {row : Row} → Sound cycle row → cycle / row .period * row .period ≡ cycle

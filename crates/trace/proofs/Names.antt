@@ -2,7 +2,7 @@
 use Prim.Native.Nat.{ℕ, zero, suc, _+_, _≤_, _<_}
 use mathlib.Core.Path.{_≡_, refl, sym, ap, _∙_}
 use mathlib.Core.List.{List, [], _∷_, _++_}
-use mathlib.Core.Bool.{Bool, true, false, _&&_, _||_}
+use mathlib.Core.Bool.{Bool, true, false, _&&_, _||_, or-true, or-false, or-assoc, and-true, and-false}
 use native.Mathlib.Decide.{decLt}
 use native.Mathlib.Numerals.{add-one}
 use native.Mathlib.Omega.{arith}
@@ -11,8 +11,7 @@ use lib.Dec.{ltb, eqb}
 use lib.ListN.{length, getD, take, List·getD-eq-default}
 use lib.Seq.{take-suc}
 use Rattle.facts.specs.Counting.{those}
-use Rattle.facts.proofs.Tests.{or-true, or-false}
-use Rattle.facts.proofs.Counting.{none-listed, listed-if-passed, unlisted-if-failed}
+use Rattle.facts.proofs.Listing.{none-listed, listed-if-passed, unlisted-if-failed}
 use Rattle.trace.specs.Record.{marked}
 use Rattle.trace.specs.Records.{names}
 
@@ -30,11 +29,7 @@ names-one r row = or-false (eqb r row)
 pub names-either : (a b : List ℕ) (row : ℕ) → names (a ++ b) row ≡ names a row || names b row
 unfolding names
 names-either [] b row = refl
-names-either (x ∷ a) b row = rw (names-either a b row) (or-assoc (eqb x row) (names a row) (names b row))
-  where
-    or-assoc : (x y z : Bool) → x || (y || z) ≡ (x || y) || z
-    or-assoc true y z = refl
-    or-assoc false y z = refl
+names-either (x ∷ a) b row = rw (names-either a b row) (sym (or-assoc (eqb x row) (names a row) (names b row)))
 
 -- A row that stands in a list is named,
 pub named-at : (rows : List ℕ) (j : ℕ) → j < length rows → names rows (getD rows j 0) ≡ true
@@ -66,23 +61,14 @@ listed-are-named a zero row = rw (none-listed a, le-ltb row 0 (omega arith)) (na
 listed-are-named a (suc n) row =
     rw (← add-one n) (one-more-named a n row (a n) refl ∙ rw (listed-are-named a n row) (go (decLt row n) (decLt n row)))
   where
-    or-none : (x y : Bool) → x || (y && false) ≡ x
-    or-none true y = refl
-    or-none false true = refl
-    or-none false false = refl
-
-    and-true : (x : Bool) → x && true ≡ x
-    and-true true = refl
-    and-true false = refl
-
     go : Dec (row < n) → Dec (n < row) → (ltb row n && a row) || (a n && eqb n row) ≡ ltb row (n + 1) && a row
     go (yes l) d =
         let k : row < n + 1 = omega arith in
-        simp (lt-ltb _ _ l, lt-ltb _ _ k, ne-eqb n row (λ e. omega arith), or-none (a row) (a n))
+        simp (lt-ltb _ _ l, lt-ltb _ _ k, ne-eqb n row (λ e. omega arith), and-false (a n), or-false (a row))
     go (no l) (yes m) =
         let h : n ≤ row = omega arith in
         let k : n + 1 ≤ row = omega arith in
-        simp (le-ltb _ _ h, le-ltb _ _ k, ne-eqb n row (λ e. omega arith), or-none false (a n))
+        simp (le-ltb _ _ h, le-ltb _ _ k, ne-eqb n row (λ e. omega arith), and-false (a n))
     go (no l) (no m) =
         let same : n ≡ row = omega arith in
         let h : row ≤ row = omega arith in

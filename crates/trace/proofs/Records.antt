@@ -3,11 +3,11 @@ use Prim.Native.Nat.{ℕ, zero, suc, _+_, _≤_, _<_}
 use mathlib.Core.Path.{_≡_, refl, sym, ap, _∙_}
 use mathlib.Core.List.{List, _++_}
 use mathlib.Core.Bool.{true, false, cond}
-use native.Mathlib.Decide.{decLt}
 use native.Mathlib.Numerals.{add-one}
 use native.Mathlib.Omega.{arith}
 use lib.ListN.{length, take, drop, length-drop, take-append-drop, List·getD-append}
 use lib.Seq.{length-take-le, take-append-seam, take-append-le, drop-append-le, drop-append-add, getD-append-add}
+use Rattle.facts.proofs.Growing.{never-falls}
 use Rattle.facts.proofs.Counting.{same-count, counted-if-passed, uncounted-if-failed, counted-one-more}
 use Rattle.fields.specs.Fields.{byte}
 use Rattle.trace.specs.Record.{recordOf, withFront, withRecord}
@@ -21,12 +21,7 @@ begins-at-first s from = refl
 -- Records stand one behind the other: a later one begins at a later place.
 pub places-rise : (s : List ℕ) (from j t : ℕ) → j ≤ t → placeOf s from j ≤ placeOf s from t
 unfolding placeOf
-places-rise s from j zero h = let e : j ≡ 0 = omega arith in rw e (omega arith)
-places-rise s from j (suc t) h = go (decLt t j) (places-rise s from j t)
-  where
-    go : Dec (t < j) → (j ≤ t → placeOf s from j ≤ placeOf s from t) → placeOf s from j ≤ placeOf s from (suc t)
-    go (yes l) rest = let e : j ≡ suc t = omega arith in rw e (omega arith)
-    go (no l) rest = let r = rest (omega arith) in omega arith
+places-rise s from j t = never-falls (placeOf s from) t (λ m l. rw (add-one m) (omega arith)) j
 
 -- The records stand from that place on,
 pub stand-from : (s : List ℕ) (from t : ℕ) → from ≤ placeOf s from t

@@ -6,7 +6,8 @@ use mathlib.Core.Bool.{Bool, true, false}
 use native.Mathlib.Omega.{arith}
 use lib.ListN.{length, getD, take, drop, set, length-append, length-drop}
 use Rattle.facts.specs.Counting.{those}
-use Rattle.facts.proofs.Counting.{listed-if-passed, unlisted-if-failed, none-listed, more-listed, counts-grow, as-many-listed}
+use Rattle.facts.proofs.Counting.{counts-grow}
+use Rattle.facts.proofs.Listing.{listed-if-passed, unlisted-if-failed, none-listed, more-listed, as-many-listed}
 use Rattle.facts.proofs.Filling.{overwritten-one-more}
 use borrow.Author.Tests.{lt-leb, le-leb}
 use Rattle.trace.specs.declared.Stored.the-variants.{Written, NoRoom}

@@ -1,13 +1,13 @@
 -- The window question's answer: its meaning tells all answers apart, and what is taken or refused. Assumes nothing.
 use mathlib.Core.Path.{_≡_, refl, sym, ap, _∙_}
-use mathlib.Core.Bool.{Bool, true, false, not, _&&_, _||_, true≢false}
+use mathlib.Core.Bool.{Bool, true, false, not, _&&_, _||_, true≢false, Bool·not-not}
 use Prim.Native.Nat.{ℕ, _+_, _≤_, _<_}
 use native.Mathlib.Nat.{pos-of-ne-zero}
 use native.Mathlib.Decide.{decLe}
 use native.Mathlib.Omega.{arith}
-use borrow.Author.Tests.{lt-ltb, le-ltb, le-leb, lt-leb, ltb-true, leb-true, eqb-false, ne-eqb, not-false}
+use borrow.Author.Tests.{lt-ltb, le-leb, ltb-true, leb-true, eqb-false, ne-eqb, not-false}
 use lib.Dec.{ltb, leb, eqb}
-use Rattle.facts.proofs.Tests.{both, neither-holds}
+use Rattle.facts.proofs.Tests.{both, neither-holds, not-below}
 use Rattle.facts.specs.Determined.{Determined, TellsApart}
 use Rattle.facts.proofs.Determined.{by-meaning}
 use Rattle.counts.specs.declared.Slot.{Slot}
@@ -33,11 +33,7 @@ window-is-determined e p f i = by-meaning replies-tell-apart
 
 -- the code's test of the last subtask is the definition's
 pub above-last : {n i : ℕ} → n ≡ i → ltb lastSubtask n ≡ not (leb i lastSubtask)
-above-last {n} {i} same = ap (ltb lastSubtask) same ∙ go (decLe i lastSubtask)
-  where
-    go : Dec (i ≤ lastSubtask) → ltb lastSubtask i ≡ not (leb i lastSubtask)
-    go (yes h) = simp (le-ltb _ _ h, le-leb _ _ h)
-    go (no h) = let above : lastSubtask < i = omega arith in simp (lt-ltb _ _ above, lt-leb _ _ above)
+above-last {n} {i} same = ap (ltb lastSubtask) same ∙ (sym (Bool·not-not (ltb lastSubtask i)) ∙ ap not (not-below lastSubtask i))
 
 -- What an accepted question says of its numbers.
 pub not-refused : (e p i : ℕ) → refused e p i ≡ false → (0 < e) × (e < p) × (1 ≤ i) × (i ≤ lastSubtask)

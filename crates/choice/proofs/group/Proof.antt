@@ -6,7 +6,7 @@ use Rattle.windows.specs.Group.{groupDeadline}
 use Rattle.windows.proofs.Next.{momentTime, isMoment}
 use Rattle.pd2.specs.Ready.{originOf}
 use Rattle.pd2.proofs.Verdicts.{moment-is-said}
-use Rattle.choice.proofs.Asked.{row-can, group-asked, no-group-outside, no-group-at-bit-0}
+use Rattle.choice.proofs.Asked.{group-asked, no-group-outside, no-group-at-bit-0}
 use borrow.Author.Needs.{needs}
 use Rattle.choice.proofs.group.Statement.{statement}
 use Rattle.choice.proofs.group.Tie as tie
@@ -20,7 +20,7 @@ said c =
     let a = c .before .before .before .before in
     let small : a .args .row .phase < 65_536 = search needs in
     let has = a .pre (c .before .before .before .if1 .left) in
-    moment-is-said _ _ (row-can _ _ has) (has .quanta) small (c .before .origin .ensures) groupDeadline (c .next-group-deadline .ensures)
+    moment-is-said _ _ has small (c .before .origin .ensures) groupDeadline (c .next-group-deadline .ensures)
 
 returns : tie.Need-returns
 returns c = no-group-outside _ _ _ _ (c .if1 .taken)

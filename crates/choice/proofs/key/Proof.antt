@@ -7,12 +7,12 @@ use Rattle.windows.specs.Windows.{deadline, bit}
 use Rattle.windows.proofs.Windows.{bit-is-0-or-1}
 use Rattle.windows.proofs.Next.{dueTime, dueBit, isDue}
 use Rattle.pd2.specs.Ready.{originOf}
+use Rattle.pd2.specs.Near.{HasWindow}
 use Rattle.pd2.specs.Verdict.{isYes}
 use Rattle.pd2.proofs.Verdicts.{due-is-said}
 use native.Mathlib.Omega.{arith}
 use Rattle.choice.specs.Choice.{saysReady}
-use Rattle.choice.specs.Classes.{HasWindow}
-use Rattle.choice.proofs.Asked.{window-if-ready, row-can, deadline-is-small, unready-key, ready-key}
+use Rattle.choice.proofs.Asked.{window-if-ready, deadline-is-small, unready-key, ready-key}
 use borrow.Author.Needs.{needs}
 use Rattle.choice.proofs.key.Statement.{statement}
 use Rattle.choice.proofs.key.Tie as tie
@@ -53,7 +53,7 @@ returns-2 : tie.Need-returns-2
 returns-2 c =
     let a = c .before .before .before .before .before .before .before in
     let small : a .args .row .phase < 65_536 = search needs in
-    let said = due-is-said _ _ (row-can _ _ (windowed (c .before .before .before .before))) (windowed (c .before .before .before .before) .quanta) small (c .before .before .before .origin .ensures) (c .before .before .next-due .ensures) in
+    let said = due-is-said _ _ (windowed (c .before .before .before .before)) small (c .before .before .before .origin .ensures) (c .before .before .next-due .ensures) in
     absurd (true≢false (sym (ap isDue said) ∙ ap isDue (c .enum-told .given .1)))
 
 time-requires : tie.Need-time-requires
@@ -67,7 +67,7 @@ said : (c : tie.After-time) →
 said c =
     let a = c .before .before .before .before .before .before .before .before .before in
     let small : a .args .row .phase < 65_536 = search needs in
-    let is = sym (c .before .before .due .given .1) ∙ due-is-said _ _ (row-can _ _ (windowed (c .before .before .before .before .before .before))) (windowed (c .before .before .before .before .before .before) .quanta) small (c .before .before .before .before .before .origin .ensures) (c .before .before .before .before .next-due .ensures) in
+    let is = sym (c .before .before .due .given .1) ∙ due-is-said _ _ (windowed (c .before .before .before .before .before .before)) small (c .before .before .before .before .before .origin .ensures) (c .before .before .before .before .next-due .ensures) in
     (c .time .ensures ∙ ap dueTime is, ap dueBit is)
 
 -- they are small

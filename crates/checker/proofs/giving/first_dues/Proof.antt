@@ -8,7 +8,7 @@ use Rattle.table.specs.Value.{rowsOf}
 use Rattle.pd2.specs.Choice.{rowAt}
 use Rattle.checker.specs.Passes.{due}
 use Rattle.pd2.proofs.Choice.{row-there}
-use Rattle.checker.proofs.Dues.{can-be-due, dues-are-filled}
+use Rattle.checker.proofs.Dues.{has-window, dues-are-filled}
 use Rattle.checker.proofs.giving.first_dues.Statement.{statement}
 use Rattle.checker.proofs.giving.first_dues.Tie as tie
 
@@ -38,7 +38,7 @@ row-is : (c : tie.In-loop Inv-loop μ-loop) → c .before .loop .i < length (row
 row-is c = omega (arith, c .loop-test .taken, c .before .before .pre .all)
 
 next-due-requires : tie.Need-next-due-requires Inv-loop μ-loop
-next-due-requires c κs = can-be-due _ (c .before .before .before .before .pre) _ (row-is (c .before .before)) _ (omega (arith, c .of .ensures))
+next-due-requires c κs = has-window _ (c .before .before .before .before .pre) _ (row-is (c .before .before)) _ (omega (arith, c .of .ensures))
 
 mul-dues : tie.Need-mul-dues Inv-loop μ-loop
 mul-dues c = omega arith

@@ -14,7 +14,7 @@ use Rattle.checker.specs.Walking.{DueAre, isEarly}
 use Rattle.checker.proofs.Named.{PassSoFar, passing-begins, passes-on, fails-first, none-fails, GaveSoFar, giving-begins, not-given-yet, gives-one-more, all-given, named-is-below, how-many-rows, row-at}
 use Rattle.pd2.proofs.Choice.{row-there}
 use Rattle.checker.proofs.Asked.{ready-as-read}
-use Rattle.checker.proofs.Dues.{can-be-due, one-due-later}
+use Rattle.checker.proofs.Dues.{has-window, one-due-later}
 use Rattle.checker.proofs.giving.give.Statement.{statement}
 use Rattle.checker.proofs.giving.give.Tie as tie
 
@@ -140,7 +140,7 @@ next-due-requires : tie.Need-next-due-requires Inv-loop μ-loop
 next-due-requires c κs =
     let a = c .before .before .before .before .before .before .before .before .before .before .before .before in
     let byte = c .before .before .before .before .before .before .before .before in
-    can-be-due _ (a .pre .ask .can) _ (is-there byte) _ (omega (arith, c .before .one-more .ensures, c .before .before .before .before .before .of .ensures, had byte, a .pre .ask .few (byte .byte .result) (is-there byte), a .pre .ask .time))
+    has-window _ (a .pre .ask .can) _ (is-there byte) _ (omega (arith, c .before .one-more .ensures, c .before .before .before .before .before .of .ensures, had byte, a .pre .ask .few (byte .byte .result) (is-there byte), a .pre .ask .time))
 
 mul-dues : tie.Need-mul-dues Inv-loop μ-loop
 mul-dues c =

@@ -4,7 +4,7 @@ use borrow.Author.Needs.{needs}
 use borrow.Author.Tests.{le-leb, lt-leb}
 use lib.Dec.{leb}
 use lib.ListN.{getD}
-use Rattle.facts.proofs.Counting.{NoneYet, looking-begins, looks-on, found-lowest, found-none}
+use Rattle.facts.proofs.Some.{NoneYet, looking-begins, looks-on, found-lowest, found-none}
 use Rattle.checker.proofs.giving.lowest_late.Statement.{statement}
 use Rattle.checker.proofs.giving.lowest_late.Tie as tie
 

@@ -2,7 +2,7 @@ use mathlib.Core.Path.{_≡_, sym, _∙_}
 use Prim.Native.Nat.{_-_, _<_}
 use native.Mathlib.Omega.{arith}
 use lib.ListN.{length, take}
-use Rattle.facts.proofs.Counting.{NoneYet, looking-begins, looks-on, some-if, none-at-all}
+use Rattle.facts.proofs.Some.{NoneYet, looking-begins, looks-on, some-if, none-at-all}
 use Rattle.counts.specs.Numbers.{numbersOf}
 use Rattle.dispatcher.specs.Broken.{ofRowAt}
 use Rattle.dispatcher.specs.Usable.{brokenRow}
