@@ -6,7 +6,7 @@ use Rattle.checker.specs.declared.TableFault.the-variants.{Ends, Format,
 use Rattle.checker.specs.declared.Answer.{Answer}
 use Rattle.checker.specs.declared.Answer.the-variants.{Passed, Table, Cut, TooManyCores, TooManyRows, BadRow, Early, Late, Extra, TooLong}
 
--- This paper's number for each refusal of the table.
+-- 01's number for each refusal of the table.
 abbrev pub faultNumber : TableFault → ℕ
 faultNumber Ends = 10
 faultNumber Format = 11
@@ -22,7 +22,7 @@ faultNumber Kind = 20
 faultNumber After = 21
 faultNumber Sum = 22
 
--- This paper's number, row and time for each answer.
+-- 01's number, row and time for each answer.
 abbrev pub saidOf : Answer → Said
 saidOf Passed = bare 0
 saidOf (Table fault) = bare (faultNumber fault)

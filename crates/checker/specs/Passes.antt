@@ -30,7 +30,8 @@ due row i = deadline (row .cost) (row .period) (originOf row) i
 abbrev pub Holds : List ℕ → ℕ → ℕ → ℕ → Type 0
 Holds s row t i = (names (rowsOfSlot s t) row ≡ true) × (timesNamed s row t + 1 ≡ i)
 
--- "each quantum falls inside its allowed slots, none overdue"
+-- "each quantum falls inside its allowed slots, none overdue": each subtask that a slot holds was allowed there, and each whose deadline is at or before the trace's end
+-- was given before its deadline.
 pub record InWindows (table : Table) (s : List ℕ) : Type 0 where
   pub allowed : (row t i : ℕ) → row < length (rowsOf table) → t < slotsIn s → Holds s row t i →
       (firstAllowed (rowAt (rowsOf table) row) i ≤ t) × (t < due (rowAt (rowsOf table) row) i)

@@ -11,6 +11,7 @@ use Rattle.demands.specs.TraceLaws.{partLaws, traceLaws}
 use Rattle.demands.specs.PrinterLaws.{printerLaws}
 
 -- "A window may be asked for alone .. It is refused if e = 0, if e is not below p, or if i is not in 1 to 1,000,000,001; then r, d, b and D come back as 0."
+-- e, p, f, i; then the number, r, d, b and D
 abbrev pub windowLaws : List Law
 windowLaws =
     window 0 3 0 1 50 0 0 0 0

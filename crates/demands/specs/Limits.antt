@@ -18,7 +18,7 @@ shareDown row t = row .cost * sincePhase row t / row .period
 abbrev pub shareUp : Row → ℕ → ℕ
 shareUp row t = ceilDiv (row .cost * sincePhase row t) (row .period)
 
--- "all jobs released before that time": job j is released at f + j·p, so that only jobs below t can be
+-- "all jobs released before that time": job j, counted from 0, is released at f + j·p, so that only jobs below t can be
 abbrev pub jobsBefore : Row → ℕ → ℕ
 jobsBefore row t = howMany (λ j. ltb (row .phase + j * row .period) t) t
 

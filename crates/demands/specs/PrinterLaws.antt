@@ -9,9 +9,9 @@ use Rattle.printer.specs.Example.{exampleInput, exampleText}
 use Rattle.demands.specs.Law.{Law, prints}
 use Rattle.demands.specs.LawInputs.{halfBytes, front, rowBytes, halfAndThirdBytes}
 
--- A line of digits and spaces: each digit stands for itself, and `sp` for a space. "\n" is the byte 10.
+-- A line of digits and spaces: each digit stands for itself, and `sp`, which is no digit, for a space. A newline, the byte 10, ends the line.
 abbrev pub sp : ℕ
-sp = 10
+sp = 99
 
 abbrev pub charOf : ℕ → ℕ
 charOf x = cond (eqb x sp) 32 (48 + x)

@@ -6,7 +6,7 @@ use Rattle.dispatcher.specs.declared.Told.{Told}
 use Rattle.dispatcher.specs.declared.Answer.{Answer}
 use Rattle.dispatcher.specs.declared.Answer.the-variants.{Done, Late, Broken, Stopped, AtLimit, TooManyCores, NoRoom}
 
--- This paper's number, row and time for each answer.
+-- 01's number, row and time for each answer.
 abbrev pub saidOf : Answer → Said
 saidOf Done = bare 0
 saidOf (Late row time) = named 1 row (time .0)

@@ -99,7 +99,7 @@ tableTests s =
 unfoldable pub tableNumber : List ℕ → ℕ
 tableNumber s = firstFound 0 (tableTests s)
 
--- "a table that is taken has 0 in every place past n and past M"
+-- the table that the bytes hold: "a table that is taken has 0 in every place past n and past M"
 abbrev pub tableIn : List ℕ → Table
 tableIn s =
     record {
@@ -110,7 +110,7 @@ tableIn s =
       rows = padded (rowInBytes s) zeroRow rowLimit (rowsPlace s) 9 (rowCountIn s);
     }
 
--- "A table refusal yields no table": every part is 0.
+-- "A table refusal yields no table"; "In any refused answer each part that no rule names is 0 or empty."
 abbrev pub noTable : Table
 noTable = record { cycle = 0; cores = 0; boards = replicate coreLimit 0; n = 0; rows = replicate rowLimit zeroRow }
 

@@ -14,7 +14,7 @@ pub record RowReply : Type 0 where
   pub row : Row
   pub past : ℕ
 
--- This paper's number and values for each case: 0 with the row and the place past it, or the number of a fault and no row.
+-- 01's number and values for each case: 0 with the row and the place past it, or the number of a fault and no row.
 abbrev pub rowReplyOf : read.RowRead → RowReply
 rowReplyOf (read.the-variants.Row row cursor) = record { number = 0; row = row; past = cursor .at }
 rowReplyOf (read.the-variants.Fault number) = record { number = number; row = zeroRow; past = 0 }

@@ -28,7 +28,7 @@ withFront part entry = entry ++ drop (length entry) part
 unfoldable pub withRecord : List ℕ → ℕ → List ℕ → List ℕ
 withRecord buffer place entry = take place buffer ++ withFront (drop place buffer) entry
 
--- This paper's number for each case of the writer's answer: 0, "done", and 34, "fewer than 2 + c bytes remain after it". It names nothing else.
+-- 01's number for each case of the writer's answer: 0, "done", and 34, "fewer than 2 + c bytes remain after it". It names nothing else.
 abbrev pub storedNumber : Stored → ℕ
 storedNumber Written = 0
 storedNumber NoRoom = 34

@@ -11,7 +11,8 @@ unfoldable pub heavy : ℕ → ℕ → Bool
 heavy e p = ltb p (2 * e)
 
 -- The walk from subtask i stops at subtask j if "b = 0", or if j is past i and its "window is 3 slots long". (The length of i's own
--- window does not count: one less than its deadline lies before d. docs/DECISIONS.md, 8.)
+-- window does not count: one less than its deadline lies before d. docs/DECISIONS.md, 8. In a heavy row no window with b = 0 is 3 slots
+-- long, so the two never meet in one j.)
 unfoldable pub stops : ℕ → ℕ → ℕ → ℕ → ℕ → Bool
 stops e p o i j = eqb (bit e p j) 0 || (ltb i j && eqb (windowLength e p o j) 3)
 

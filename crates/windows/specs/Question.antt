@@ -17,7 +17,7 @@ pub record Reply : Type 0 where
   pub b : ℕ
   pub D : ℕ
 
--- "then r, d, b and D come back as 0"
+-- a refusal: "then r, d, b and D come back as 0"
 abbrev pub refusedReply : Reply
 refusedReply = record { number = 50; r = 0; d = 0; b = 0; D = 0 }
 
