@@ -8,13 +8,16 @@
 #define _XOPEN_SOURCE 700
 #include "zbrojomir.h"
 
+#define SLOTS 8
+#define TRACE_LENGTH (4 + SLOTS * 10)
+#define LAST_RECORD (TRACE_LENGTH - 10)
+
+static uint8_t table[ZB_TABLE_LONGEST + 1], trace[TRACE_LENGTH + 1];
+
 /* A call: of zb_table_check, or of zb_trace_check if `with_trace`; and the number that 01 gives to these bytes. */
 struct asked {
-    const uint8_t *table;
-    size_t table_length;
     int with_trace;
-    const uint8_t *trace;
-    size_t trace_length;
+    size_t table_length, trace_length;
     uint8_t number;
 };
 
@@ -22,8 +25,7 @@ struct asked {
 static struct asked lent;
 
 static inline __attribute__((always_inline)) uint64_t ask(void) {
-    return lent.with_trace ? zb_trace_check(lent.table, lent.table_length, lent.trace, lent.trace_length)
-                           : zb_table_check(lent.table, lent.table_length);
+    return lent.with_trace ? zb_trace_check(table, lent.table_length, trace, lent.trace_length) : zb_table_check(table, lent.table_length);
 }
 
 #include "paint.h"
@@ -34,37 +36,31 @@ static size_t depth_of(struct asked asked) {
 }
 
 /* A full box: 8 cores, and 32 rows of 1/4, plain and early release in turn. */
-static void fill(uint8_t *table) {
+static void fill_table(void) {
     static const uint8_t head[] = {1, 4, 0, 0, 0, 8, 0, 1, 2, 3, 4, 5, 6, 7, 32};
-    uint8_t tank;
+    uint8_t *next = table + sizeof head, tank;
 
     memcpy(table, head, sizeof head);
-    table += sizeof head;
     for (tank = 0; tank < 32; tank++) {
         uint8_t row[9] = {0, 0, 1, 0, 4, 0, 0, 0, 0};
         row[0] = tank;
         row[8] = tank % 2;
-        memcpy(table, row, sizeof row);
-        table += sizeof row;
+        memcpy(next, row, sizeof row);
+        next += sizeof row;
     }
 }
 
-#define SLOTS 8
-#define TRACE_LENGTH (4 + SLOTS * 10)
-#define LAST_RECORD (TRACE_LENGTH - 10)
-
 /* A trace of the full box that passes: two cycles, in each slot the next eight rows. */
-static void fill_trace(uint8_t *trace) {
-    uint8_t slot, place;
+static void fill_trace(void) {
+    uint8_t *next = trace + 4, slot, place;
 
-    memset(trace, 0, TRACE_LENGTH + 1);
+    memset(trace, 0, sizeof trace);
     trace[0] = SLOTS;
-    trace += 4;
     for (slot = 0; slot < SLOTS; slot++) {
-        *trace++ = 8;
-        *trace++ = 8;
+        *next++ = 8;
+        *next++ = 8;
         for (place = 0; place < 8; place++) {
-            *trace++ = (uint8_t)(slot % 4 * 8 + place);
+            *next++ = (uint8_t)(slot % 4 * 8 + place);
         }
     }
 }
@@ -77,7 +73,7 @@ struct refusal {
     uint8_t number;
 };
 
-static const struct refusal table_refusals[] = {
+static const struct refusal refusals[] = {
     {0, 1, 0, 10},
     {0, 2, ZB_TABLE_LONGEST, 11},
     {1, 0, ZB_TABLE_LONGEST, 12},
@@ -92,9 +88,7 @@ static const struct refusal table_refusals[] = {
     {ZB_TABLE_LONGEST - 1, 0, ZB_TABLE_LONGEST - 1, 10},
     {ZB_TABLE_LONGEST, 0, ZB_TABLE_LONGEST + 1, 21},
     {ZB_TABLE_LONGEST - 7, 2, ZB_TABLE_LONGEST, 22},
-};
-
-static const struct refusal trace_refusals[] = {
+    /* of a trace, as their numbers say */
     {0, SLOTS, 0, 40},
     {0, SLOTS, 3, 40},
     {0, SLOTS, LAST_RECORD + 1, 40},
@@ -111,40 +105,44 @@ static const struct refusal trace_refusals[] = {
     {3, 0x40, TRACE_LENGTH, 47},
 };
 
+#define FIRST_OF_TRACE 40
+
+/* The call for the full box, which passes. */
+static struct asked full(int with_trace) {
+    struct asked asked = {0, ZB_TABLE_LONGEST, TRACE_LENGTH, ZB_DONE};
+
+    fill_table();
+    fill_trace();
+    asked.with_trace = with_trace;
+    return asked;
+}
+
+static struct asked refused(int with_trace, const struct refusal *refusal) {
+    struct asked asked = full(with_trace);
+    int of_trace = refusal->number >= FIRST_OF_TRACE;
+
+    (of_trace ? trace : table)[refusal->place] = refusal->byte;
+    *(of_trace ? &asked.trace_length : &asked.table_length) = refusal->length;
+    asked.number = refusal->number;
+    return asked;
+}
+
 /* The depths of a function: for the full box, and the most for what is refused. */
 struct depths {
     size_t full, refused;
 };
 
-static void deepen(size_t *most, size_t here) {
-    *most = here > *most ? here : *most;
-}
-
-/* For each refused table, with the trace that passes or without one. */
-static void refuse_tables(struct asked asked, uint8_t *table, size_t *most) {
+static struct depths depths_of(int with_trace) {
+    struct depths depths = {depth_of(full(with_trace)), 0};
     size_t i;
 
-    for (i = 0; i < sizeof table_refusals / sizeof *table_refusals; i++) {
-        fill(table);
-        table[table_refusals[i].place] = table_refusals[i].byte;
-        asked.table_length = table_refusals[i].length;
-        asked.number = table_refusals[i].number;
-        deepen(most, depth_of(asked));
+    for (i = 0; i < sizeof refusals / sizeof *refusals; i++) {
+        if (with_trace || refusals[i].number < FIRST_OF_TRACE) {
+            size_t here = depth_of(refused(with_trace, &refusals[i]));
+            depths.refused = here > depths.refused ? here : depths.refused;
+        }
     }
-    fill(table);
-}
-
-static void refuse_traces(struct asked asked, uint8_t *trace, size_t *most) {
-    size_t i;
-
-    for (i = 0; i < sizeof trace_refusals / sizeof *trace_refusals; i++) {
-        fill_trace(trace);
-        trace[trace_refusals[i].place] = trace_refusals[i].byte;
-        asked.trace_length = trace_refusals[i].length;
-        asked.number = trace_refusals[i].number;
-        deepen(most, depth_of(asked));
-    }
-    fill_trace(trace);
+    return depths;
 }
 
 /* Says how deep a function goes; 0 if that is more than the header says. */
@@ -162,18 +160,8 @@ static int within(const char *function, const char *limit, size_t said, struct d
 }
 
 int main(void) {
-    static uint8_t table[ZB_TABLE_LONGEST + 1], trace[TRACE_LENGTH + 1];
-    struct asked asked = {table, ZB_TABLE_LONGEST, 0, trace, TRACE_LENGTH, ZB_DONE};
-    struct depths of_table = {0, 0}, of_trace = {0, 0};
+    struct depths of_table = depths_of(0), of_trace = depths_of(1);
 
-    fill(table);
-    fill_trace(trace);
-    of_table.full = depth_of(asked);
-    refuse_tables(asked, table, &of_table.refused);
-    asked.with_trace = 1;
-    of_trace.full = depth_of(asked);
-    refuse_tables(asked, table, &of_trace.refused);
-    refuse_traces(asked, trace, &of_trace.refused);
     return within("zb_table_check", "ZB_TABLE_CHECK_STACK", ZB_TABLE_CHECK_STACK, of_table, "; ") &&
                    within("zb_trace_check", "ZB_TRACE_CHECK_STACK", ZB_TRACE_CHECK_STACK, of_trace, "\n")
                ? 0

@@ -17,28 +17,26 @@ pub fn compare<C: Kind>(program: &Program, seed: u64, count: usize) -> Result<St
     let mut cases = C::cases(Random::seeded(seed)).take(count);
     let mut seen = tally(C::GROUPS);
     loop {
-        let (batch, asked) = batch(program, &mut cases);
+        let batch = batch(program, &mut cases);
         if batch.is_empty() {
             return seen.words();
         }
-        for (case, asked) in batch.iter().zip(&asked) {
-            as_known(case.known(), asked)?;
-        }
-        if let Some(place) = find(program, &asked)? {
+        batch.iter().try_for_each(as_known)?;
+        if let Some(place) = find(program, &batch)? {
             FOUND.store(true, Ordering::SeqCst);
-            return Err(difference(program, &batch[place])?);
+            return Err(difference(program, &batch[place].case)?);
         }
         // not before: what is no answer at all cannot be counted
-        for (case, asked) in batch.iter().zip(&asked) {
+        for asked in &batch {
             seen.case();
-            case.count(&asked.answer, &mut seen);
+            asked.case.count(&asked.answer, &mut seen);
         }
     }
 }
 
 /// The second program is held to what is known beforehand. An answer begins with 01's number.
-fn as_known(known: Option<(u8, &str)>, asked: &Asked) -> Result<(), String> {
-    match known {
+fn as_known<C: Kind>(asked: &Asked<C>) -> Result<(), String> {
+    match asked.case.known() {
         Some((number, words)) if number != asked.answer[0] => Err(format!(
             "{}: the second program answers {}, 01 says {}: {}",
             words,

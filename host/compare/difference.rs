@@ -10,6 +10,9 @@ use std::time::{Duration, Instant};
 /// For so long smaller cases are looked for.
 const PATIENCE: Duration = Duration::from_secs(20);
 
+/// So many of them are tried at once, since the first that will do is taken.
+const AT_ONCE: usize = 100;
+
 /// So many fields that differ are told.
 const MOST_FIELDS: usize = 6;
 
@@ -48,12 +51,12 @@ fn shrunk<C: Kind>(program: &Program, found: &C) -> Result<C, String> {
 fn smaller<C: Kind>(program: &Program, case: &C, until: Instant) -> Result<Option<C>, String> {
     let mut cases = smaller::cases(case);
     while Instant::now() < until {
-        let (mut batch, asked) = batch(program, &mut cases);
+        let mut batch = batch(program, &mut cases.by_ref().take(AT_ONCE));
         if batch.is_empty() {
             break;
         }
-        if let Some(place) = find(program, &asked)? {
-            return Ok(Some(batch.swap_remove(place)));
+        if let Some(place) = find(program, &batch)? {
+            return Ok(Some(batch.swap_remove(place).case));
         }
     }
     Ok(None)

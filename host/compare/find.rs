@@ -3,18 +3,16 @@
 use crate::kind::{answer, request, Kind};
 use crate::program::Program;
 
-/// A request and the second program's answer, as bytes.
-pub struct Asked {
+/// A case, and its request and the second program's answer as bytes.
+pub struct Asked<C> {
+    pub case: C,
     pub request: Vec<u8>,
     pub answer: Vec<u8>,
 }
 
-/// Cases, and how each is asked.
-pub type Batch<C> = (Vec<C>, Vec<Asked>);
-
 /// The next cases, as many as one run of the program is asked.
-pub fn batch<C: Kind>(program: &Program, cases: &mut dyn Iterator<Item = C>) -> Batch<C> {
-    let (mut batch, mut asked) = (Vec::new(), Vec::new());
+pub fn batch<C: Kind>(program: &Program, cases: &mut dyn Iterator<Item = C>) -> Vec<Asked<C>> {
+    let mut batch = Vec::new();
     let mut bytes = 0;
     while program.takes_more(batch.len(), bytes) {
         let case = match cases.next() {
@@ -23,14 +21,17 @@ pub fn batch<C: Kind>(program: &Program, cases: &mut dyn Iterator<Item = C>) -> 
         };
         let (request, answer) = (request(&case).bytes, answer(&case).bytes);
         bytes += request.len();
-        asked.push(Asked { request, answer });
-        batch.push(case);
+        batch.push(Asked {
+            case,
+            request,
+            answer,
+        });
     }
-    (batch, asked)
+    batch
 }
 
 /// The place of a case in the batch that the program, asked alone, answers in another way than the second program.
-pub fn find(program: &Program, batch: &[Asked]) -> Result<Option<usize>, String> {
+pub fn find<C>(program: &Program, batch: &[Asked<C>]) -> Result<Option<usize>, String> {
     let (place, middle, end) = match unlike(program, batch)? {
         None => return Ok(None),
         Some(_) if batch.len() == 1 => return Ok(Some(0)),
@@ -49,7 +50,7 @@ pub fn find(program: &Program, batch: &[Asked]) -> Result<Option<usize>, String>
 }
 
 /// The case in whose answer the first byte stands that is not the second program's, if there is one.
-fn unlike(program: &Program, batch: &[Asked]) -> Result<Option<usize>, String> {
+fn unlike<C>(program: &Program, batch: &[Asked<C>]) -> Result<Option<usize>, String> {
     let requests: Vec<&[u8]> = batch.iter().map(|asked| &asked.request[..]).collect();
     let output = program.run(requests.concat())?;
     let mut said = &output.stdout[..];

@@ -2,7 +2,7 @@
 
 pub use crate::message::Message;
 pub use crate::random::Random;
-pub use crate::tally::{group, Group, Tally};
+pub use crate::tally::{Group, Tally};
 use std::iter::repeat_with;
 
 pub trait Kind: Clone + 'static {
@@ -17,7 +17,7 @@ pub trait Kind: Clone + 'static {
         Box::new(repeat_with(move || Self::wild(&mut random)))
     }
 
-    /// The request, of parts of the case.
+    /// The request, of parts of the case, each of which may be made smaller by it.
     fn asked(&mut self, to: &mut Message);
 
     /// The second program's answer.
@@ -30,11 +30,6 @@ pub trait Kind: Clone + 'static {
 
     /// Counts the case, whose answer has these bytes.
     fn count(&self, answer: &[u8], tally: &mut Tally);
-
-    /// Smaller cases that have more than one part of the request smaller.
-    fn smaller(&self) -> Vec<Self> {
-        vec![]
-    }
 }
 
 pub fn request<C: Kind>(case: &C) -> Message {

@@ -1,7 +1,8 @@
-//! The kinds of case. A new one is a file in kinds/ and a line here.
+//! The kinds of case. A new one is a file in kinds/, which is named below, and a line of the list.
 
 use crate::compare::compare;
 use crate::kind::*;
+use crate::make::lent::Lent;
 use crate::program::{Ours, Program};
 
 /// Our programs, and how many requests each gets in one run: as many as fit, or, where it ends after one, one.
@@ -19,9 +20,8 @@ const ALL: usize = usize::MAX;
 pub struct Line {
     pub name: &'static str,
     pub ours: Ours,
-    /// how many cases a run has
+    /// how many cases a short run has
     pub short: usize,
-    pub long: usize,
     pub compare: fn(&Program, u64, usize) -> Result<String, String>,
     /// a wild case's request and its answer
     pub any: fn(&mut Random) -> (Message, Message),
@@ -29,40 +29,41 @@ pub struct Line {
 
 /// Each file is a module, and each line a part of the list.
 macro_rules! kinds {
-    ($($file:ident: $name:literal, $ours:expr, $short:expr, $long:expr;)*) => {
+    ($($file:ident)*; $($case:ty: $name:literal, $ours:expr, $short:expr;)*) => {
         $(pub mod $file;)*
 
         pub const KINDS: &[Line] = &[$(Line {
             name: $name,
             ours: $ours,
             short: $short,
-            long: $long,
-            compare: compare::<$file::Case>,
-            any: |random| exchange(&$file::Case::wild(random)),
+            compare: compare::<$case>,
+            any: |random| exchange(&<$case>::wild(random)),
         }),*];
     };
 }
 
 kinds! {
-    // file        what is said of it              asked of        short    long
-    window:        "windows",                      PROBE,          40_000,  400_000;
-    table:         "tables",                       PROBE,          10_000,  100_000;
-    value:         "table values",                 PROBE,          5_000,   50_000;
-    slot:          "slots",                        PROBE,          20_000,  200_000;
-    record:        "records",                      PROBE,          5_000,   50_000;
-    check:         "checks",                       PROBE,          14_000,  140_000;
-    by_hand_probe: "made by hand, of the probe",   PROBE,          ALL,     ALL;
-    fresh:         "questions of fresh states",    QUESTIONS,      2_000,   20_000;
-    next:          "questions of next windows",    QUESTIONS,      10_000,  100_000;
-    row:           "questions of rows",            QUESTIONS,      10_000,  100_000;
-    picks:         "questions of picks",           QUESTIONS,      4_000,   40_000;
-    late:          "questions of late rows",       QUESTIONS,      3_000,   30_000;
-    give:          "questions of quanta given",    QUESTIONS,      2_000,   20_000;
-    write:         "questions of records",         QUESTIONS,      4_000,   40_000;
-    cut_request:   "cut requests of the probe",    PROBE_ONCE,     60,      600;
-    cut_question:  "cut questions",                QUESTIONS_ONCE, 60,      600;
-    printed:       "printed schedules",            PRINTER,        200,     2_000;
-    by_hand:       "made by hand, of the library", LIBRARY,        ALL,     ALL;
-    library_table: "tables of the library",        LIBRARY,        200_000, 2_000_000;
-    library_trace: "traces of the library",        LIBRARY,        200_000, 2_000_000;
+    by_hand check cut give late next picks printed record row slot table value window write;
+
+    // case                       what is said of it              asked of        cases
+    window::Case:                 "windows",                      PROBE,          40_000;
+    Lent<table::Tables, false>:   "tables",                       PROBE,          10_000;
+    value::Case<false>:           "table values",                 PROBE,          5_000;
+    slot::Case:                   "slots",                        PROBE,          20_000;
+    record::Case:                 "records",                      PROBE,          5_000;
+    Lent<check::Checks, false>:   "checks",                       PROBE,          14_000;
+    Lent<by_hand::ByHand, false>: "made by hand, of the probe",   PROBE,          ALL;
+    value::Case<true>:            "questions of fresh states",    QUESTIONS,      2_000;
+    next::Case:                   "questions of next windows",    QUESTIONS,      10_000;
+    row::Case:                    "questions of rows",            QUESTIONS,      10_000;
+    picks::Case:                  "questions of picks",           QUESTIONS,      4_000;
+    late::Case:                   "questions of late rows",       QUESTIONS,      3_000;
+    give::Case:                   "questions of quanta given",    QUESTIONS,      2_000;
+    write::Case:                  "questions of records",         QUESTIONS,      4_000;
+    cut::Case<false>:             "cut requests of the probe",    PROBE_ONCE,     60;
+    cut::Case<true>:              "cut questions",                QUESTIONS_ONCE, 60;
+    printed::Case:                "printed schedules",            PRINTER,        200;
+    Lent<by_hand::ByHand, true>:  "made by hand, of the library", LIBRARY,        ALL;
+    Lent<table::Tables, true>:    "tables of the library",        LIBRARY,        200_000;
+    Lent<check::Checks, true>:    "traces of the library",        LIBRARY,        200_000;
 }

@@ -1,30 +1,16 @@
 //! What cases are made of, and what several kinds of case have in common.
 
-pub mod all_rows;
-pub mod broken;
-pub mod cut;
 pub mod damage;
-pub mod disturb;
-pub mod draft;
-pub mod heavy;
-pub mod hex;
-pub mod input;
-pub mod last_late;
 pub mod lent;
-pub mod many_rows;
 pub mod marks;
 pub mod reach;
-pub mod room;
 pub mod rows;
 pub mod rows_seen;
 pub mod schedule;
 pub mod slot_seen;
-pub mod smaller_state;
 pub mod sound;
 pub mod spoil;
 pub mod states;
-pub mod table_values;
-pub mod unused;
 pub mod values;
 pub mod weight;
 pub mod written;

@@ -4,6 +4,7 @@
 use crate::number::Number;
 use crate::shown::shown;
 use crate::smaller;
+use std::ops::Range;
 
 #[derive(Default)]
 pub struct Message {
@@ -13,8 +14,8 @@ pub struct Message {
     pub marks: Vec<usize>,
     /// in how many ways each of its parts can be made smaller
     pub ways: Vec<usize>,
-    /// the part that is made smaller while the message is written, and in which of its ways
-    change: Option<(usize, usize)>,
+    /// the parts that are made smaller while the message is written, and in which of their ways
+    change: Option<(Range<usize>, usize)>,
 }
 
 struct Field {
@@ -22,8 +23,7 @@ struct Field {
     /// of which row or board, where a name stands for several
     of: Option<usize>,
     shape: Shape,
-    begin: usize,
-    end: usize,
+    place: Range<usize>,
 }
 
 #[derive(Clone, Copy, PartialEq)]
@@ -35,9 +35,9 @@ enum Shape {
 
 /// What a request is made of: its parts can be made smaller, and then what they are lent from is smaller.
 impl Message {
-    pub fn changing(part: usize, way: usize) -> Message {
+    pub fn changing(parts: Range<usize>, way: usize) -> Message {
         Message {
-            change: Some((part, way)),
+            change: Some((parts, way)),
             ..Message::default()
         }
     }
@@ -75,12 +75,6 @@ impl Message {
         self.number("length", length as u32).fixed(name, bytes)
     }
 
-    /// The bytes of a table after their length (4).
-    pub fn table(&mut self, table: &mut Vec<u8>) -> &mut Message {
-        let length = self.shrunk_table(table);
-        self.number("length", length as u32).fixed("table", table)
-    }
-
     /// Bytes that are not yet written; their length.
     pub fn shrunk(&mut self, bytes: &mut Vec<u8>) -> usize {
         if let Some(way) = self.turn(smaller::ways_of_bytes(bytes)) {
@@ -89,19 +83,12 @@ impl Message {
         bytes.len()
     }
 
-    pub fn shrunk_table(&mut self, table: &mut Vec<u8>) -> usize {
-        if let Some(way) = self.turn(smaller::ways_of_table(table)) {
-            *table = smaller::table(table, way);
-        }
-        table.len()
-    }
-
-    /// Counts a part; the way in which it has to be made smaller, if it is the one.
-    fn turn(&mut self, ways: usize) -> Option<usize> {
+    /// Counts a part, of which several fields may be made; the way in which it has to be made smaller, if it is the one.
+    pub fn turn(&mut self, ways: usize) -> Option<usize> {
         let here = self.ways.len();
         self.ways.push(ways);
-        let change = self.change.filter(|(part, _)| *part == here);
-        change.map(|(_, way)| way)
+        let (parts, way) = self.change.as_ref()?;
+        Some(*way).filter(|_| parts.contains(&here) && *way < ways)
     }
 }
 
@@ -128,8 +115,7 @@ impl Message {
         let length = self.bytes.len().saturating_sub(count);
         self.bytes.truncate(length);
         for field in &mut self.fields {
-            field.begin = field.begin.min(length);
-            field.end = field.end.min(length);
+            field.place = field.place.start.min(length)..field.place.end.min(length);
         }
     }
 
@@ -142,13 +128,12 @@ impl Message {
     ) -> &mut Message {
         let begin = self.bytes.len();
         self.bytes.extend_from_slice(bytes);
-        let end = self.bytes.len();
+        let place = begin..self.bytes.len();
         self.fields.push(Field {
             name,
             of,
             shape,
-            begin,
-            end,
+            place,
         });
         self
     }
@@ -160,7 +145,7 @@ impl Message {
     pub fn words(&self) -> String {
         let mut words = Vec::new();
         for field in &self.fields {
-            let bytes = &self.bytes[field.begin..field.end];
+            let bytes = &self.bytes[field.place.clone()];
             if bytes.iter().any(|&byte| byte != 0) {
                 words.push(format!("{} = {}", field.title(), field.told(bytes)));
             }
@@ -173,9 +158,9 @@ impl Message {
         let mut found = Vec::new();
         for (turn, field) in self.fields.iter().enumerate() {
             let last = turn + 1 == self.fields.len();
-            let end = if last { bytes.len() } else { field.end };
-            let here = &bytes[field.begin.min(bytes.len())..end.min(bytes.len())];
-            let right = &self.bytes[field.begin..field.end];
+            let end = if last { bytes.len() } else { field.place.end };
+            let here = &bytes[field.place.start.min(bytes.len())..end.min(bytes.len())];
+            let right = &self.bytes[field.place.clone()];
             if right != here {
                 let (wrong, right) = (field.told(here), field.told(right));
                 found.push(format!("{}: {}, not {}", field.title(), wrong, right));
@@ -193,7 +178,7 @@ impl Field {
 
     /// These bytes as the field would be told; those of a number may be too few or too many.
     fn told(&self, bytes: &[u8]) -> String {
-        let whole = bytes.len() == self.end - self.begin;
+        let whole = bytes.len() == self.place.len();
         match self.shape {
             Shape::Number if whole => u64::read(bytes).to_string(),
             Shape::Text => format!("{:?}", String::from_utf8_lossy(bytes)),

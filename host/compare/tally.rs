@@ -1,35 +1,37 @@
 //! How often each answer, rule or kind was met: a comparison in which one is rare shows little of it, and fails.
 
-/// Names of which each must be met in at least one case of so many.
-pub struct Group {
-    title: &'static str,
-    one_in: usize,
-    /// with a bar between each and the next; `10..22` is every number from 10 to 22
-    names: &'static str,
-}
-
-pub const fn group(title: &'static str, one_in: usize, names: &'static str) -> Group {
-    Group {
-        title,
-        one_in,
-        names,
-    }
-}
+/// Names of which each must be met in at least one case of so many: `title (1 in 20): name | name`. `10..22` is every number
+/// from 10 to 22.
+pub type Group = &'static str;
 
 pub struct Tally {
-    groups: &'static [Group],
     cases: usize,
-    /// the names of each group, and how often each was met
-    counts: Vec<Vec<(String, usize)>>,
+    groups: Vec<Counts>,
 }
 
-pub fn tally(groups: &'static [Group]) -> Tally {
-    let names = |group: &Group| group.names.split(" | ").flat_map(named).collect();
+struct Counts {
+    title: &'static str,
+    one_in: usize,
+    /// and how often each was met
+    names: Vec<(String, usize)>,
+}
+
+pub fn tally(groups: &[Group]) -> Tally {
+    let counts = |group: &Group| counts(group).unwrap_or_else(|| panic!("no group: {}", group));
     Tally {
-        groups,
         cases: 0,
-        counts: groups.iter().map(names).collect(),
+        groups: groups.iter().map(counts).collect(),
     }
+}
+
+fn counts(group: Group) -> Option<Counts> {
+    let (title, rest) = group.split_once(" (1 in ")?;
+    let (one_in, names) = rest.split_once("): ")?;
+    Some(Counts {
+        title,
+        one_in: one_in.parse().ok()?,
+        names: names.split(" | ").flat_map(named).collect(),
+    })
 }
 
 fn named(name: &str) -> Vec<(String, usize)> {
@@ -71,27 +73,34 @@ impl Tally {
     }
 
     fn of(&mut self, title: &str) -> &mut Vec<(String, usize)> {
-        let place = self.groups.iter().position(|group| group.title == title);
-        &mut self.counts[place.unwrap_or_else(|| panic!("nothing is counted as {}", title))]
+        let found = self.groups.iter_mut().find(|group| group.title == title);
+        &mut found
+            .unwrap_or_else(|| panic!("nothing is counted as {}", title))
+            .names
     }
 
     /// All counts; an error if one of them is too small.
     pub fn words(&self) -> Result<String, String> {
         let mut told = vec![format!("{} cases", self.cases)];
         let mut rare = Vec::new();
-        for (Group { title, one_in, .. }, counts) in self.groups.iter().zip(&self.counts) {
-            let mut words = Vec::new();
-            for (name, count) in counts {
-                words.push(format!("{}: {}", name, count));
-                if count * one_in < self.cases {
-                    rare.push(format!("{} {}: {}", title, name, count));
-                }
-            }
-            let words = words.join(", ");
+        for Counts {
+            title,
+            one_in,
+            names,
+        } in &self.groups
+        {
+            let words = names
+                .iter()
+                .map(|(name, count)| format!("{}: {}", name, count));
+            let words = words.collect::<Vec<_>>().join(", ");
             told.push(format!(
                 "{} (each at least 1 in {}) {}",
                 title, one_in, words
             ));
+            let few = names
+                .iter()
+                .filter(|(_, count)| count * one_in < self.cases);
+            rare.extend(few.map(|(name, count)| format!("{} {}: {}", title, name, count)));
         }
         let told = told.join("; ");
         if rare.is_empty() {

@@ -22,7 +22,7 @@ pub fn run(long: bool, runner: &Path) -> Result<(), String> {
         program(runner, ours).test()?;
     }
     for outcome in by_all(&|kind| {
-        let count = if long { kind.long } else { kind.short };
+        let count = kind.short.saturating_mul(if long { 10 } else { 1 });
         let named = |words| format!("{} (seed {}): {}", kind.name, seed, words);
         let outcome = (kind.compare)(&program(runner, kind.ours), seed, count);
         outcome.map(named).map_err(named)

@@ -1,12 +1,8 @@
-//! Cases made by hand, each with the number that 01 gives it: those of by_hand.txt, and what lies around the example of 01. Through the C calls
-//! of the library.
+//! Cases made by hand, each with the number that 01 gives it: those of by_hand.txt, and what lies around the example of 01.
 
 use crate::kind::*;
-use crate::make::hex::bytes_of;
-use crate::make::lent::{given, Given, Lent, Maker};
+use crate::make::lent::{given, Given, Maker};
 use std::collections::BTreeMap;
-
-pub type Case = Lent<ByHand, true>;
 
 #[derive(Clone)]
 pub struct ByHand;
@@ -14,9 +10,9 @@ pub struct ByHand;
 impl Maker for ByHand {
     /// At least two of each number are listed, of some 13,500 cases.
     const GROUPS: &'static [Group] = &[
-        group("made", 500, "listed | a prefix | another byte"),
-        group("table listed with", 7_000, "0 | 10..22"),
-        group("trace listed with", 7_000, "0 | 10 | 21 | 40..47"),
+        "made (1 in 500): listed | a prefix | another byte",
+        "table listed with (1 in 7000): 0 | 10..22",
+        "trace listed with (1 in 7000): 0 | 10 | 21 | 40..47",
     ];
 
     fn wild(random: &mut Random) -> Given {
@@ -66,13 +62,9 @@ fn of_line(line: &str, names: &Names) -> Given {
     let (words, bytes) = rest.split_once(':').expect("bytes after the words");
     let number = number.parse().expect("a line begins with its number");
     let mut parts = bytes.split('/').map(|part| bytes_with(part, names));
-    Given {
-        table: parts.next().expect("a table"),
-        trace: parts.next(),
-        known: Some((number, words.to_string())),
-        made: "listed",
-        ..Given::default()
-    }
+    let (table, trace) = (parts.next().expect("a table"), parts.next());
+    let listed = given(&table, trace.as_deref()).made("listed");
+    listed.known(number, words)
 }
 
 fn bytes_with(text: &str, names: &Names) -> Vec<u8> {
@@ -84,21 +76,25 @@ fn bytes_with(text: &str, names: &Names) -> Vec<u8> {
     text.split_whitespace().flat_map(bytes).collect()
 }
 
+/// Two digits for each; spaces and bars do not count.
+fn bytes_of(text: &str) -> Vec<u8> {
+    let digits: String = text.chars().filter(|mark| !" |".contains(*mark)).collect();
+    let byte = |place| u8::from_str_radix(digits.get(place..place + 2)?, 16).ok();
+    let bytes: Option<Vec<u8>> = (0..digits.len()).step_by(2).map(byte).collect();
+    bytes.unwrap_or_else(|| panic!("these are not bytes: {}", text))
+}
+
 /// Each proper prefix of the example, which has this number, while the rest follows in memory; and every other value of every byte.
 fn around(example: &[u8], number: u8, with: impl Fn(&[u8]) -> Given) -> Vec<Given> {
-    let prefix = |place| Given {
-        after: example[place..].to_vec(),
-        known: Some((number, "a prefix of the example".to_string())),
-        made: "a prefix",
-        ..with(&example[..place])
+    let prefix = |place| {
+        let prefix = with(&example[..place]).before(&example[place..]);
+        let prefix = prefix.made("a prefix");
+        prefix.known(number, "a prefix of the example")
     };
     let other = |(place, more): (usize, u8)| {
         let mut bytes = example.to_vec();
         bytes[place] = bytes[place].wrapping_add(more);
-        Given {
-            made: "another byte",
-            ..with(&bytes)
-        }
+        with(&bytes).made("another byte")
     };
     let places = 0..example.len();
     let others = places

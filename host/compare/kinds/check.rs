@@ -1,13 +1,11 @@
 //! Traces, checked against tables: schedules of the second program, as they are, cut and damaged.
 
 use crate::kind::*;
-use crate::make::last_late::last_late;
-use crate::make::lent::{given, Given, Lent, Maker};
-use crate::make::schedule::schedule;
-use crate::make::{damage, many_rows, spoil};
+use crate::make::lent::{given, Given, Maker};
+use crate::make::schedule::{free, last_late, schedule};
+use crate::make::written::add_many_rows;
+use crate::make::{damage, spoil};
 use second::checker::check;
-
-pub type Case = Lent<Checks, false>;
 
 #[derive(Clone)]
 pub struct Checks;
@@ -18,17 +16,13 @@ const SPOILED: usize = 4;
 
 impl Maker for Checks {
     const GROUPS: &'static [Group] = &[
-        group("answer", 140, "0 | 40..47"),
-        group("table refused", 2_000, "10..22"),
-        group("table of length", 300, "0"),
-        group("whole schedule ends", 140, "late | on time | cut short"),
-        group(
-            "passes, has 12 slots or more and both kinds of row",
-            140,
-            "0",
-        ),
-        group("late row", 200, "above 0 | 31"),
-        group("more than 32 rows in a record", 300, "42"),
+        "answer (1 in 140): 0 | 40..47",
+        "table refused (1 in 2000): 10..22",
+        "table of length (1 in 300): 0",
+        "whole schedule ends (1 in 140): late | on time | cut short",
+        "passes, has 12 slots or more and both kinds of row (1 in 140): 0",
+        "late row (1 in 200): above 0 | 31",
+        "more than 32 rows in a record (1 in 300): 42",
     ];
 
     fn wild(random: &mut Random) -> Given {
@@ -78,10 +72,7 @@ fn spoiled(random: &mut Random) -> Vec<Given> {
     let schedule = schedule(random);
     let spoiled = |_| {
         let (trace, after) = spoil::trace(random, &schedule);
-        Given {
-            after,
-            ..given(&schedule.table, Some(&trace))
-        }
+        given(&schedule.table, Some(&trace)).before(&after)
     };
     (0..SPOILED).map(spoiled).collect()
 }
@@ -96,26 +87,18 @@ fn with_damaged_table(random: &mut Random) -> Given {
 
 fn with_many_rows(random: &mut Random) -> Given {
     let mut schedule = schedule(random);
-    let k = random.below(usize::from(schedule.cores) + 1) as u8;
-    many_rows::add(random, &mut schedule.trace, k);
-    Given {
-        made: "many rows",
-        ..given(&schedule.table, Some(&schedule.trace.bytes()))
-    }
+    let k = free(random, 1, schedule.after.table.cores);
+    add_many_rows(random, &mut schedule.trace, k);
+    given(&schedule.table, Some(&schedule.trace.bytes())).made("many rows")
 }
 
 /// The dispatcher has said whether a row is late at the end.
 fn whole(random: &mut Random) -> Given {
     let schedule = schedule(random);
-    let (number, made) = if schedule.late {
-        (45, "late")
-    } else {
-        (0, "on time")
-    };
-    Given {
-        known: Some((number, "a schedule".to_string())),
-        made,
-        ..given(&schedule.table, Some(&schedule.trace.bytes()))
+    let whole = given(&schedule.table, Some(&schedule.trace.bytes()));
+    match schedule.late {
+        true => whole.known(45, "a late schedule").made("late"),
+        false => whole.known(0, "a schedule").made("on time"),
     }
 }
 
@@ -123,11 +106,9 @@ fn whole(random: &mut Random) -> Given {
 fn cut_at_every_byte(random: &mut Random) -> Vec<Given> {
     let schedule = schedule(random);
     let whole = schedule.trace.bytes();
-    let cut = |length| Given {
-        after: whole[length..].to_vec(),
-        known: Some((40, "a schedule cut short".to_string())),
-        made: "cut short",
-        ..given(&schedule.table, Some(&whole[..length]))
+    let cut = |length| {
+        let cut = given(&schedule.table, Some(&whole[..length])).before(&whole[length..]);
+        cut.known(40, "a schedule cut short").made("cut short")
     };
     (0..whole.len()).map(cut).collect()
 }

@@ -1,7 +1,7 @@
 //! Quanta given to marked rows.
 
 use crate::kind::*;
-use crate::make::marks::{self, marks, Marks, MARKED};
+use crate::make::marks::{self, marks, Marks};
 use second::questions::give;
 
 #[derive(Clone)]
@@ -12,9 +12,9 @@ pub struct Case {
 
 impl Kind for Case {
     const GROUPS: &'static [Group] = &[
-        group("marked", 30, MARKED),
-        group("of 2^64 - 1 quanta, a row", 10, "marked | not marked"),
-        group("of 2^64 - 2 quanta, a row", 10, "marked | not marked"),
+        "marked (1 in 30): none | 1 to 8 | 9 to 31 | all",
+        "of 2^64 - 1 quanta, a row (1 in 10): marked | not marked",
+        "of 2^64 - 2 quanta, a row (1 in 10): marked | not marked",
     ];
 
     fn wild(random: &mut Random) -> Case {

@@ -1,26 +1,24 @@
 //! The lowest late row of 32.
 
 use crate::kind::*;
-use crate::make::all_rows::all_rows;
 use crate::make::reach::REACH;
 use crate::make::rows::{rows, Rows};
 use crate::make::rows_seen::{self, count_name, said_but_for_time};
-use crate::make::states;
+use crate::make::{sound, states};
 use second::questions::lowest_late;
 use second::slot::late;
-use second::table::read;
 
 #[derive(Clone)]
 pub struct Case(Rows);
 
 impl Kind for Case {
     const GROUPS: &'static [Group] = &[
-        group("lowest late row", 50, "none | 0 | 1 to 30 | 31"),
+        "lowest late row (1 in 50): none | 0 | 1 to 30 | 31",
         rows_seen::COUNTS,
-        group("some late, n", 200, rows_seen::FAR_COUNTS),
-        group("some late at", 200, "time 2^46"),
-        group("none late, told by", 100, "0 | 1 to 31 | 32"),
-        group("late but for the reach, at", 300, "time 2^46 + 1"),
+        "some late, n (1 in 200): 33 to 256 | 2^32 | above 2^32 | 2^64 - 1",
+        "some late at (1 in 200): time 2^46",
+        "none late, told by (1 in 100): 0 | 1 to 31 | 32",
+        "late but for the reach, at (1 in 300): time 2^46 + 1",
         rows_seen::ROWS,
     ];
 
@@ -46,10 +44,8 @@ impl Kind for Case {
 
     fn answered(&self, to: &mut Message) {
         let Case(rows) = self;
-        to.number(
-            "row",
-            lowest_late(&rows.rows, &rows.quanta, rows.n, rows.time),
-        );
+        let row = lowest_late(&rows.rows, &rows.quanta, rows.n, rows.time);
+        to.number("row", row);
     }
 
     fn count(&self, answer: &[u8], tally: &mut Tally) {
@@ -67,15 +63,11 @@ impl Kind for Case {
         tally.saw_if(rows.n > 32, "some late, n", count_name(rows.n));
         tally.saw_each("some late at", [rows.time == REACH]);
     }
-
-    fn smaller(&self) -> Vec<Case> {
-        self.0.smaller().into_iter().map(Case).collect()
-    }
 }
 
 /// Every row has what is due to it, but the last has less.
 fn last_late(random: &mut Random) -> Rows {
-    let table = read(&all_rows(random).bytes()).expect("a sound table is taken");
+    let table = sound::all_rows(random).value();
     let time = random.between(80_000, 90_000) as u64;
     let mut state = states::inside_shares(random, table, time);
     state.quanta[31] -= 3;

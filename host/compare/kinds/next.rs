@@ -15,33 +15,30 @@ pub struct Case {
 
 impl Kind for Case {
     const GROUPS: &'static [Group] = &[
-        group("answered", 20, "0 | 1"),
-        group("weight", 40, "e = p | heavy | one half | light"),
-        group("bit", 10, "0 | 1"),
+        "answered (1 in 20): 0 | 1",
+        "weight (1 in 40): e = p | heavy | one half | light",
+        "bit (1 in 10): 0 | 1",
         CAUSES,
         LIMITS,
-        group("all of the largest, e", 500, "1 | above half of p"),
+        "all of the largest, e (1 in 500): 1 | above half of p",
     ];
 
     fn wild(random: &mut Random) -> Case {
-        if random.one_in(40) {
-            let (e, p) = widest(random);
-            return Case {
-                e,
-                p,
-                origin: REACH,
-                quanta: REACH,
-            };
-        }
+        let largest = random.one_in(40);
         let (e, p) = match random.below(10) {
+            _ if largest => widest(random),
             0 => whole(random),
             _ => weight(random),
+        };
+        let (origin, quanta) = match largest {
+            true => (REACH, REACH),
+            false => (origin(random), quanta(random, e)),
         };
         Case {
             e,
             p,
-            origin: origin(random),
-            quanta: quanta(random, e),
+            origin,
+            quanta,
         }
     }
 
@@ -56,22 +53,16 @@ impl Kind for Case {
     fn answered(&self, to: &mut Message) {
         let found = next_window(self.e, self.p, self.origin, self.quanta);
         let answered = found.is_some();
-        let window = found.unwrap_or(NextWindow {
-            start: 0,
-            deadline: 0,
-            bit: 0,
-            job_start: 0,
-            group_deadline: 0,
-        });
+        let number = |part: fn(NextWindow) -> u64| found.map_or(0, part);
         to.number("d and b answered", answered)
-            .number("d", window.deadline)
-            .number("b", window.bit)
+            .number("d", number(|window| window.deadline))
+            .number("b", found.map_or(0, |window| window.bit))
             .number("r answered", answered)
-            .number("r", window.start)
+            .number("r", number(|window| window.start))
             .number("job's start answered", answered)
-            .number("job's start", window.job_start)
+            .number("job's start", number(|window| window.job_start))
             .number("D answered", answered)
-            .number("D", window.group_deadline);
+            .number("D", number(|window| window.group_deadline));
     }
 
     fn count(&self, answer: &[u8], tally: &mut Tally) {
@@ -82,10 +73,8 @@ impl Kind for Case {
             tally.saw("weight", name);
             tally.saw("bit", answer[1 + 8]);
             let largest = p == u16::MAX && other == REACH && quanta == REACH;
-            tally.saw_each(
-                "all of the largest, e",
-                [largest && e == 1, largest && e > 1],
-            );
+            let largest = [largest && e == 1, largest && e > 1];
+            tally.saw_each("all of the largest, e", largest);
         }
         reach::count((e, p), quanta, other, tally);
     }

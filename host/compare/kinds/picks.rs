@@ -4,7 +4,7 @@ use crate::kind::*;
 use crate::make::reach::REACH;
 use crate::make::rows::{rows, Rows};
 use crate::make::rows_seen::{self, count_name, said_but_for_quanta, said_but_for_time};
-use crate::make::slot_seen::{rule_name, RULES};
+use crate::make::slot_seen::rule_name;
 use second::questions::{next_window, picks};
 use second::slot::{order, ready, rule_between, Next, Rule};
 
@@ -16,18 +16,14 @@ pub struct Case {
 
 impl Kind for Case {
     const GROUPS: &'static [Group] = &[
-        group("picked", 100, "0..8"),
-        group("decided by", 200, RULES),
+        "picked (1 in 100): 0..8",
+        "decided by (1 in 200): deadline | bit | group deadline | row number",
         rows_seen::COUNTS,
-        group("some picked, n", 200, rows_seen::FAR_COUNTS),
-        group("some picked at", 300, "time 2^46 | 2^46 quanta"),
-        group(
-            "ready but for the reach, at",
-            300,
-            "time 2^46 + 1 | 2^46 + 1 quanta",
-        ),
-        group("k", 25, "0 to 8 | above 8"),
-        group("k above 8, ready rows", 100, "up to 8 | above 8"),
+        "some picked, n (1 in 200): 33 to 256 | 2^32 | above 2^32 | 2^64 - 1",
+        "some picked at (1 in 300): time 2^46 | 2^46 quanta",
+        "ready but for the reach, at (1 in 300): time 2^46 + 1 | 2^46 + 1 quanta",
+        "k (1 in 25): 0 to 8 | above 8",
+        "k above 8, ready rows (1 in 100): up to 8 | above 8",
         rows_seen::ROWS,
     ];
 
@@ -62,11 +58,9 @@ impl Kind for Case {
         tally.saw_each("ready but for the reach, at", past);
         tally.saw_if(n > 32 && picked > 0, "some picked, n", count_name(n));
         let mut given = rows.quanta.iter().zip(answer);
-        let at_limit = given.any(|row| row == (&REACH, &1));
-        tally.saw_each(
-            "some picked at",
-            [picked > 0 && rows.time == REACH, at_limit],
-        );
+        let at_quanta = given.any(|row| row == (&REACH, &1));
+        let at_limit = [picked > 0 && rows.time == REACH, at_quanta];
+        tally.saw_each("some picked at", at_limit);
         let ready = self.ready();
         if let Some(rule) = decided_by(&ready, answer) {
             tally.saw("decided by", rule_name(rule));
@@ -74,11 +68,6 @@ impl Kind for Case {
         let (above, many) = (self.k > 8, ready.len() > 8);
         tally.saw_each("k", [!above, above]);
         tally.saw_each("k above 8, ready rows", [above && !many, above && many]);
-    }
-
-    fn smaller(&self) -> Vec<Case> {
-        let rows = self.rows.smaller().into_iter();
-        rows.map(|rows| Case { rows, k: self.k }).collect()
     }
 }
 

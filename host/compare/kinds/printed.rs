@@ -1,35 +1,72 @@
-//! Schedules, as the slot printer prints them.
+//! Schedules, as the slot printer prints them, of inputs that are right or wrong.
 
 use crate::kind::*;
-use crate::make::input::{input, Input, MOST_BYTES};
+use crate::make::{damage, schedule, sound};
 use second::printer::print;
 
-#[derive(Clone)]
-pub struct Case(Input);
+/// An input as it is written: each count may be wrong by something.
+#[derive(Clone, Default)]
+pub struct Case {
+    table_length_more: u16,
+    table: Vec<u8>,
+    slots: u16,
+    free_count_more: u16,
+    free: Vec<u8>,
+    after: Vec<u8>,
+    /// so many bytes are missing at the end
+    cut: usize,
+}
+
+const MOST_BYTES: usize = 65_536;
 
 impl Kind for Case {
     /// Inputs after the first two would be right but for one slot or one byte.
     const GROUPS: &'static [Group] = &[
-        group("after the header, last", 75, "end | late | refused"),
-        group("alone", 75, "refused | input"),
-        group(
-            "input",
-            150,
-            "right, with a table of length 0 | right, of 65,536 bytes | of 65,537 bytes, each in its place | \
-             right in its first 65,536 bytes, and one more | of 4,097 slots, else right",
-        ),
+        "after the header, last (1 in 75): end | late | refused",
+        "alone (1 in 75): refused | input",
+        "input (1 in 150): right, with a table of length 0 | right, of 65,536 bytes | \
+         of 65,537 bytes, each in its place | right in its first 65,536 bytes, and one more | \
+         of 4,097 slots, else right",
     ];
 
+    /// Mostly one whose counts are right.
     fn wild(random: &mut Random) -> Case {
-        Case(input(random))
+        let sound = sound::short(random).bytes();
+        match random.below(16) {
+            0 => with_counts(random, vec![]),
+            1 => Case {
+                slots: 4_097,
+                ..with_counts(random, sound)
+            },
+            2 => of_length(random, sound, MOST_BYTES),
+            3 => Case {
+                after: random.bytes(1),
+                ..of_length(random, sound, MOST_BYTES)
+            },
+            4 => of_length(random, sound, MOST_BYTES + 1),
+            5 => disturbed(random, sound),
+            6 => {
+                let damaged = damage::table(random).0;
+                with_counts(random, damaged)
+            }
+            _ => with_counts(random, sound),
+        }
     }
 
     fn asked(&mut self, to: &mut Message) {
-        self.0.asked(to);
+        let length = to.shrunk(&mut self.table) as u16;
+        to.number("table length", length.wrapping_add(self.table_length_more))
+            .fixed("table", &self.table)
+            .part("slots", &mut self.slots);
+        let count = to.shrunk(&mut self.free) as u16;
+        to.number("free count", count.wrapping_add(self.free_count_more))
+            .fixed("free", &self.free)
+            .fixed("after", &self.after)
+            .cut(self.cut);
     }
 
     fn answered(&self, to: &mut Message) {
-        to.text("text", &print(&self.0.bytes()));
+        to.text("text", &print(&request(self).bytes));
     }
 
     fn count(&self, answer: &[u8], tally: &mut Tally) {
@@ -41,17 +78,17 @@ impl Kind for Case {
             _ => "after the header, last",
         };
         tally.saw(title, word);
-        tally.saw_each("input", self.0.met());
+        tally.saw_each("input", self.met());
     }
 }
 
-impl Input {
+impl Case {
     /// For each of the inputs that are counted, whether it is this one.
     fn met(&self) -> [bool; 5] {
-        let bytes = self.bytes();
+        let bytes = request(self).bytes;
         let length = bytes.len();
         let placed = (self.table_length_more, self.free_count_more, self.cut) == (0, 0, 0);
-        let fewer_slots = Input {
+        let fewer_slots = Case {
             slots: 4_096,
             ..self.clone()
         };
@@ -60,7 +97,7 @@ impl Input {
             length == MOST_BYTES && right(&bytes),
             length == MOST_BYTES + 1 && placed && self.after.is_empty(),
             length == MOST_BYTES + 1 && right(&bytes[..MOST_BYTES]),
-            self.slots == 4_097 && right(&fewer_slots.bytes()),
+            self.slots == 4_097 && right(&request(&fewer_slots).bytes),
         ]
     }
 }
@@ -68,4 +105,65 @@ impl Input {
 /// Is it judged as more than an input?
 fn right(bytes: &[u8]) -> bool {
     print(bytes) != b"input\n"
+}
+
+/// Slots and a list of k for this table, all counts right.
+fn with_counts(random: &mut Random, table: Vec<u8>) -> Case {
+    let slots = slots(random);
+    let cores = table.get(5).map_or(1, |&cores| cores);
+    Case {
+        table,
+        slots,
+        free: free_cores(random, slots, cores),
+        ..Case::default()
+    }
+}
+
+fn slots(random: &mut Random) -> u16 {
+    match random.below(24) {
+        0 => random.pick(&[4_095, 4_096]),
+        1 => 0,
+        _ => random.between(1, 200) as u16,
+    }
+}
+
+/// A k for no slot, for some or for every one: any number of cores, or mostly all of them, or once too many.
+fn free_cores(random: &mut Random, slots: u16, cores: u8) -> Vec<u8> {
+    let some = random.below(usize::from(slots) + 1);
+    let length = random.pick(&[0, some, usize::from(slots)]);
+    let any_one_in = random.pick(&[1, 8, 64, 10_000]);
+    let mut free = vec![0; length];
+    for k in &mut free {
+        *k = schedule::free(random, any_one_in, cores);
+    }
+    if length > 0 && random.one_in(3) {
+        free[random.below(length)] = random.pick(&[cores.wrapping_add(1), 255]);
+    }
+    free
+}
+
+/// So long by a table with bytes after its last row, every byte in its place.
+fn of_length(random: &mut Random, table: Vec<u8>, length: usize) -> Case {
+    let mut input = with_counts(random, table);
+    input.table.resize(length - 6 - input.free.len(), 0);
+    input
+}
+
+/// A count gets another value, or bytes are missing or too many.
+fn disturbed(random: &mut Random, table: Vec<u8>) -> Case {
+    let mut input = with_counts(random, table);
+    let (length, count) = (input.table.len() as u16, input.free.len() as u16);
+    let most = u16::MAX;
+    match random.below(6) {
+        0 => {
+            let more = [0u16.wrapping_sub(length), most, 1, most - length];
+            input.table_length_more = random.pick(&more);
+        }
+        1 => input.free_count_more = random.pick(&[most, 1, most - count]),
+        2 => input.free = vec![1; usize::from(input.slots) + 1],
+        3 => input.slots = random.pick(&[4_097, 32_768, 65_535]),
+        4 => input.after = random.bytes(1),
+        _ => input.cut = random.between(1, 12),
+    }
+    input
 }

@@ -2,7 +2,8 @@
 
 use crate::kind::*;
 use crate::make::schedule::schedule;
-use crate::make::{many_rows, spoil};
+use crate::make::spoil;
+use crate::make::written::add_many_rows;
 use second::trace::record;
 
 #[derive(Clone)]
@@ -13,17 +14,17 @@ pub struct Case {
 
 impl Kind for Case {
     const GROUPS: &'static [Group] = &[
-        group("record", 15, "found | not found"),
-        group("not found, slot", 300, "right in its low 4 bytes alone"),
-        group("found, of rows", 300, "0 to 32 | 33 to 254 | 255"),
-        group("found, with an equal one", 50, "before it | after it"),
+        "record (1 in 15): found | not found",
+        "not found, slot (1 in 300): right in its low 4 bytes alone",
+        "found, of rows (1 in 300): 0 to 32 | 33 to 254 | 255",
+        "found, with an equal one (1 in 50): before it | after it",
     ];
 
     fn wild(random: &mut Random) -> Case {
         let mut schedule = schedule(random);
         while random.one_in(4) {
             let k = random.byte();
-            many_rows::add(random, &mut schedule.trace, k);
+            add_many_rows(random, &mut schedule.trace, k);
         }
         let trace = match random.below(4) {
             0 => schedule.trace.bytes(),
@@ -57,10 +58,8 @@ impl Kind for Case {
             length => length - 2,
         };
         tally.saw("record", "found");
-        tally.saw_each(
-            "found, of rows",
-            [rows <= 32, rows > 32 && rows < 255, rows == 255],
-        );
+        let counts = [rows <= 32, rows > 32 && rows < 255, rows == 255];
+        tally.saw_each("found, of rows", counts);
         let (before, after) = (0..self.slot, self.slot + 1..);
         let equal = [self.equal_among(before), self.equal_among(after)];
         tally.saw_each("found, with an equal one", equal);

@@ -18,15 +18,13 @@ pub struct Case {
 impl Kind for Case {
     /// A part of the answer is 0, 1 or 2: no, yes, not answered.
     const GROUPS: &'static [Group] = &[
-        group("ready", 20, "0..2"),
-        group("late", 20, "0..2"),
-        group("inside its share", 20, "0..2"),
-        group(
-            "answered with",
-            600,
-            "kind 0 | kind 1 | a kind above 1 | a kind above 1, where early release has another answer | e = p | a phase above 0 | \
-             a time before the phase | p of 65,535, 2^46 quanta, time 0 | p of 65,535, no quanta, time 2^46",
-        ),
+        "ready (1 in 20): 0..2",
+        "late (1 in 20): 0..2",
+        "inside its share (1 in 20): 0..2",
+        "answered with (1 in 600): kind 0 | kind 1 | a kind above 1 | \
+         a kind above 1, where early release has another answer | e = p | a phase above 0 | \
+         a time before the phase | p of 65,535, 2^46 quanta, time 0 | \
+         p of 65,535, no quanta, time 2^46",
         CAUSES,
         LIMITS,
     ];

@@ -1,11 +1,10 @@
 //! Single slots, of wild states.
 
 use crate::kind::*;
-use crate::make::disturb::disturb;
-use crate::make::last_late::last_late;
-use crate::make::room::room;
-use crate::make::{slot_seen, smaller_state, states, values};
-use second::slot::{slot, State};
+use crate::make::damage::damage_value;
+use crate::make::schedule::{last_late, record};
+use crate::make::{slot_seen, states, values};
+use second::slot::{slot, State, LAST_TIME};
 
 #[derive(Clone)]
 pub struct Case {
@@ -36,6 +35,11 @@ impl Kind for Case {
     }
 
     fn asked(&mut self, to: &mut Message) {
+        // where a row less will do, a free core less may have to go with it
+        if let Some(way) = to.turn(values::ways_of_state(&self.state)) {
+            values::make_smaller(&mut self.state, way);
+            self.k = self.k.saturating_sub(1);
+        }
         values::state(to.letter(b'S'), &mut self.state)
             .part("k", &mut self.k)
             .part("place", &mut self.place)
@@ -54,35 +58,30 @@ impl Kind for Case {
     fn count(&self, answer: &[u8], tally: &mut Tally) {
         slot_seen::count(self, answer, tally);
     }
-
-    /// With as many cores free, or one less.
-    fn smaller(&self) -> Vec<Case> {
-        let mut found = Vec::new();
-        for state in smaller_state::states(&self.state) {
-            let as_many = Case {
-                state,
-                ..self.clone()
-            };
-            let k = self.k.saturating_sub(1);
-            found.extend([
-                Case {
-                    k,
-                    ..as_many.clone()
-                },
-                as_many,
-            ]);
-        }
-        found
-    }
 }
 
+/// With a place in a lent buffer: with room for the record of the slot, with a little less, or with none.
 fn with_room(random: &mut Random, state: State, k: u8) -> Case {
-    let (place, buffer) = room(random, &state, k);
+    let length = 2 + record(&mut { state }, k).0.rows.len();
+    let before = random.pick(&[0, 0, 1, 4, 9]);
+    let exact = before + length;
+    let end = exact + random.pick(&[0, 0, 1, 7]);
+    // its low 4 bytes alone would be a place with room
+    let far = before as u64 + (random.pick(&[1, 2, 1 << 31, u64::from(u32::MAX)]) << 32);
+    let past = [end as u64, end as u64 + 1, far, far, u64::MAX - 1, u64::MAX];
+    let near = before as u64;
+    let (place, size) = match random.below(20) {
+        0 => (near, exact - 1),
+        1 => (near, before + random.below(length)),
+        2 => (random.pick(&past), end),
+        3 => (near, 0),
+        _ => (near, end),
+    };
     Case {
         state,
         k,
         place,
-        buffer,
+        buffer: random.bytes(size),
     }
 }
 
@@ -93,4 +92,40 @@ fn free_cores(random: &mut Random, cores: u8) -> u8 {
         2 => cores,
         _ => random.between(1, usize::from(cores).max(1)) as u8,
     }
+}
+
+/// One thing of a state gets another value: often one that breaks it, sometimes one that is only rare.
+fn disturb(random: &mut Random, state: &mut State) {
+    match random.below(12) {
+        0..=2 => state.time = other_time(random, state.time),
+        3..=5 => state.stopped = !state.stopped,
+        6 | 7 => disturb_quanta(random, state),
+        8 => spoil_cost(random, state),
+        _ => damage_value(random, &mut state.table),
+    }
+}
+
+/// A row without a cost and without quanta, or one that costs every slot and has had each: inside its share, were it a row.
+fn spoil_cost(random: &mut Random, state: &mut State) {
+    let n = usize::from(state.table.count).clamp(1, 32);
+    let number = random.below(n);
+    let row = &mut state.table.rows[number];
+    let begun = state.time.saturating_sub(u64::from(row.phase));
+    let (cost, quanta) = random.pick(&[(0, 0), (row.period, begun)]);
+    row.cost = cost;
+    state.quanta[number] = quanta;
+}
+
+fn other_time(random: &mut Random, time: u64) -> u64 {
+    let (less, more) = (time.wrapping_sub(1), time.wrapping_add(1));
+    let (last, past) = (LAST_TIME, LAST_TIME + 1);
+    random.pick(&[less, less, more, more, 0, last, past, u64::MAX])
+}
+
+fn disturb_quanta(random: &mut Random, state: &mut State) {
+    let n = usize::from(state.table.count).clamp(1, 32);
+    let quanta = &mut state.quanta[random.below(n)];
+    let (less, more) = (quanta.wrapping_sub(1), quanta.wrapping_add(1));
+    let wild = random.pick(&[0, state.time, state.time.wrapping_add(1), 1 << 32, u64::MAX]);
+    *quanta = random.pick(&[less, less, more, more, wild]);
 }

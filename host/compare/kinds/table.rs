@@ -2,19 +2,17 @@
 
 use crate::kind::*;
 use crate::make::damage;
-use crate::make::lent::{Given, Lent, Maker};
-
-pub type Case = Lent<Tables, false>;
+use crate::make::lent::{given, Given, Maker};
 
 #[derive(Clone)]
 pub struct Tables;
 
 impl Maker for Tables {
     const GROUPS: &'static [Group] = &[
-        group("answer", 300, "0 | 10..22"),
-        group("length", 300, "0"),
-        group("taken, M", 400, "1..8"),
-        group("taken, n", 2_000, "0..32"),
+        "answer (1 in 300): 0 | 10..22",
+        "length (1 in 300): 0",
+        "taken, M (1 in 400): 1..8",
+        "taken, n (1 in 2000): 0..32",
     ];
 
     fn wild(random: &mut Random) -> Given {
@@ -22,11 +20,7 @@ impl Maker for Tables {
             return Given::default();
         }
         let (table, after) = damage::table(random);
-        Given {
-            table,
-            after,
-            ..Given::default()
-        }
+        given(&table, None).before(&after)
     }
 
     fn count(given: &Given, number: u8, tally: &mut Tally) {

@@ -1,33 +1,69 @@
-//! The faults of table values.
+//! Table values, sound or with a fault or more, as they would be handed to a dispatcher, not read from bytes: their faults, and the states that
+//! are fresh from them.
 
 use crate::kind::*;
-use crate::make::table_values::table_value;
-use crate::make::{smaller_state, values};
-use second::table::{fault, Table};
+use crate::make::states::fill;
+use crate::make::{damage, values};
+use crate::number::Number;
+use second::slot::fresh;
+use second::table::{fault, Row, Table};
 
+/// Asked for its fault, or for the fresh state.
 #[derive(Clone)]
-pub struct Case(Table);
+pub struct Case<const FRESH: bool>(Table);
 
-impl Kind for Case {
-    const GROUPS: &'static [Group] = &[group("fault", 150, "0 | 12..20 | 22")];
+impl<const FRESH: bool> Kind for Case<FRESH> {
+    const GROUPS: &'static [Group] = match FRESH {
+        false => &["fault (1 in 150): 0 | 12..20 | 22"],
+        true => &[
+            "fault of the value (1 in 300): 0 | 12..20 | 22",
+            "past n, all places (1 in 10): 0 | not 0",
+        ],
+    };
 
-    fn wild(random: &mut Random) -> Case {
-        Case(table_value(random))
+    fn wild(random: &mut Random) -> Self {
+        let mut table = match random.below(12) {
+            0 => unfit(random),
+            _ => damage::draft(random).value(),
+        };
+        if random.one_in(2) {
+            fill(random, &mut table);
+        }
+        Case(table)
     }
 
     fn asked(&mut self, to: &mut Message) {
-        values::table_value(to.letter(b'V'), &mut self.0);
+        let letter = if FRESH { b'F' } else { b'V' };
+        values::table_value(to.letter(letter), &mut self.0);
     }
 
     fn answered(&self, to: &mut Message) {
-        to.number("fault", fault(&self.0));
+        match FRESH {
+            false => to.number("fault", fault(&self.0)),
+            true => values::state(to, &mut fresh(self.0)),
+        };
     }
 
-    fn count(&self, answer: &[u8], tally: &mut Tally) {
-        tally.saw("fault", answer[0]);
+    fn count(&self, _answer: &[u8], tally: &mut Tally) {
+        let fault = fault(&self.0);
+        if !FRESH {
+            return tally.saw("fault", fault);
+        }
+        tally.saw("fault of the value", fault);
+        let past = &self.0.rows[self.0.named_rows().len()..];
+        if !past.is_empty() {
+            let zero = past.iter().all(|row| *row == Row::zero());
+            tally.saw_each("past n, all places", [zero, !zero]);
+        }
     }
+}
 
-    fn smaller(&self) -> Vec<Case> {
-        smaller_state::tables(&self.0).map(Case).collect()
-    }
+/// Nothing in it fits anything else.
+fn unfit(random: &mut Random) -> Table {
+    let mut table = Table::zero();
+    fill(random, &mut table);
+    table.cycle = u32::read(&random.bytes(4));
+    table.cores = random.byte();
+    table.count = random.byte();
+    table
 }

@@ -17,14 +17,11 @@ const LAST: u64 = 1_000_000_001;
 impl Kind for Case {
     /// The last i is refused by all of its 8 bytes, and would not be by the lower 4 of them.
     const GROUPS: &'static [Group] = &[
-        group("answer", 20, "0 | 50"),
-        group("weight", 30, "heavy | one half | light"),
-        group("bit", 15, "0 | 1"),
-        group(
-            "of a right row, i",
-            300,
-            "0 | 1,000,000,001 | 1,000,000,002 | right in its low 4 bytes alone",
-        ),
+        "answer (1 in 20): 0 | 50",
+        "weight (1 in 30): heavy | one half | light",
+        "bit (1 in 15): 0 | 1",
+        "of a right row, i (1 in 300): 0 | 1,000,000,001 | 1,000,000,002 | \
+         right in its low 4 bytes alone",
     ];
 
     fn wild(random: &mut Random) -> Case {
@@ -38,6 +35,10 @@ impl Kind for Case {
     }
 
     fn asked(&mut self, to: &mut Message) {
+        let smaller = self.smaller();
+        if let Some(way) = to.turn(smaller.len()) {
+            *self = smaller[way].clone();
+        }
         to.letter(b'W')
             .part("e", &mut self.e)
             .part("p", &mut self.p)
@@ -68,15 +69,21 @@ impl Kind for Case {
             tally.saw_each("of a right row, i", met);
         }
     }
+}
 
+impl Case {
     /// In the first job, or of nearly the same weight.
-    fn smaller(&self) -> Vec<Case> {
+    fn smaller(&self) -> [Case; 4] {
         let first = self.i.saturating_sub(1) % u64::from(self.e).max(1) + 1;
         let i = self.i.min(first);
         let (e, p) = (self.e.saturating_sub(1), self.p.saturating_sub(1));
-        let weights = [(self.e / 2, self.p / 2), (e, p), (e, p.saturating_sub(1))];
-        let lighter = weights.map(|(e, p)| Case { e, p, ..*self });
-        [Case { i, ..*self }].into_iter().chain(lighter).collect()
+        let of_weight = |e, p| Case { e, p, ..*self };
+        [
+            Case { i, ..*self },
+            of_weight(self.e / 2, self.p / 2),
+            of_weight(e, p),
+            of_weight(e, p.saturating_sub(1)),
+        ]
     }
 }
 

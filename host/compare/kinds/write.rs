@@ -1,7 +1,7 @@
 //! The record of marked rows, written at the front of a part.
 
 use crate::kind::*;
-use crate::make::marks::{self, marked, marks, Marks, MARKED};
+use crate::make::marks::{self, marked, marks, Marks};
 use second::questions::write;
 
 #[derive(Clone)]
@@ -13,15 +13,11 @@ pub struct Case {
 
 impl Kind for Case {
     const GROUPS: &'static [Group] = &[
-        group("number", 20, "0 | 34"),
-        group(
-            "room",
-            50,
-            "none | too little | one byte less | exact | more",
-        ),
-        group("k", 10, "0 to 8 | above 8"),
-        group("written, marked", 60, MARKED),
-        group("no room, marked", 100, MARKED),
+        "number (1 in 20): 0 | 34",
+        "room (1 in 50): none | too little | one byte less | exact | more",
+        "k (1 in 10): 0 to 8 | above 8",
+        "written, marked (1 in 60): none | 1 to 8 | 9 to 31 | all",
+        "no room, marked (1 in 100): none | 1 to 8 | 9 to 31 | all",
     ];
 
     fn wild(random: &mut Random) -> Case {
@@ -67,11 +63,9 @@ impl Kind for Case {
         };
         tally.saw("room", room);
         tally.saw_each("k", [self.k <= 8, self.k > 8]);
-        let written = answer[0] == 0;
-        let title = if written {
-            "written, marked"
-        } else {
-            "no room, marked"
+        let title = match answer[0] {
+            0 => "written, marked",
+            _ => "no room, marked",
         };
         marks::count(&self.marks, title, tally);
     }

@@ -1,36 +1,40 @@
 //! Tables for the comparison: sound ones, full ones, and damaged ones that reach every refusal of 01.
 
-use crate::make::draft::Draft;
 use crate::make::sound;
+use crate::make::written::Draft;
 use crate::random::Random;
-use second::table::Row;
+use second::table::{Row, Table};
 
 /// Numbers of two bytes at the borders of something.
 const BORDERS: [u16; 10] = [0, 1, 2, 255, 256, 257, 32_767, 32_768, 65_534, 65_535];
 
+const BOARDS: [u8; 4] = [0, 1, 254, 255];
+
 /// The bytes of a table, and bytes that stand after it in memory.
 pub fn table(random: &mut Random) -> (Vec<u8>, Vec<u8>) {
+    let bytes = draft(random).bytes();
+    if random.one_in(4) {
+        return damage_bytes(random, bytes);
+    }
+    (bytes, random.bytes(9))
+}
+
+/// One table in six stays as it is, and one in four of the others has more than one fault.
+pub fn draft(random: &mut Random) -> Draft {
     let mut draft = match random.below(12) {
         0 => sound::full(random, 0),
         1 => sound::full(random, 1),
         2 => sound::full(random, -1),
         _ => sound::any(random),
     };
-    // one table in eight stays as it is, and one in four has more than one fault
-    let mut faults = if random.one_in(8) { 0 } else { 1 };
-    while faults > 0 && random.one_in(4) {
-        faults += 1;
+    if random.one_in(6) {
+        return draft;
     }
-    for _ in 1..faults {
+    damage(random, &mut draft);
+    while random.one_in(4) {
         damage(random, &mut draft);
     }
-    if faults > 0 && random.one_in(3) {
-        return damage_bytes(random, draft.bytes());
-    }
-    if faults > 0 {
-        damage(random, &mut draft);
-    }
-    (draft.bytes(), random.bytes(9))
+    draft
 }
 
 /// One part of the table gets another value: often one that is wrong, sometimes one that is only rare.
@@ -44,7 +48,7 @@ fn damage(random: &mut Random, draft: &mut Draft) {
                 draft.boards = (0..draft.cores).collect();
             }
         }
-        3 => damage_boards(random, &mut draft.boards),
+        3 => damage_rising(random, &mut draft.boards, &BOARDS),
         4 => {
             draft.count = other_count(random, draft.count, 32);
             if random.one_in(2) && !draft.rows.is_empty() {
@@ -57,6 +61,18 @@ fn damage(random: &mut Random, draft: &mut Draft) {
             draft.after = random.bytes(count);
         }
         _ => damage_rows(random, &mut draft.rows),
+    }
+}
+
+/// The same with a table value.
+pub fn damage_value(random: &mut Random, table: &mut Table) {
+    let n = table.named_rows().len();
+    match random.below(10) {
+        0 => table.cycle = other_cycle(random, table.cycle),
+        1 => table.cores = other_count(random, table.cores, 8),
+        2 => damage_rising(random, &mut table.boards, &BOARDS),
+        3..=5 => table.count = other_count(random, table.count, 32),
+        _ => damage_rows(random, &mut table.rows[..n]),
     }
 }
 
@@ -79,17 +95,19 @@ fn other_count(random: &mut Random, count: u8, most: u8) -> u8 {
     random.pick(&[0, 1, most - 1, most, most + 1, 255, less, more])
 }
 
-fn damage_boards(random: &mut Random, boards: &mut [u8]) {
-    if boards.is_empty() {
+/// One of some numbers that rise gets another place or value, at times one of these.
+pub fn damage_rising(random: &mut Random, numbers: &mut [u8], others: &[u8]) {
+    if numbers.is_empty() {
         return;
     }
-    let one = random.below(boards.len());
-    let other = random.below(boards.len());
-    match random.below(4) {
-        0 => boards.swap(one, other),
-        1 => boards[one] = boards[other],
-        2 => boards[one] = random.pick(&[0, 1, 254, 255]),
-        _ => boards[one] = boards[other].wrapping_sub(1),
+    let one = random.below(numbers.len());
+    let other = random.below(numbers.len());
+    match random.below(6) {
+        0 => numbers.swap(one, other),
+        1 => numbers[one] = numbers[other],
+        2 => numbers[one] = numbers[other].wrapping_sub(1),
+        3 => numbers[one] = numbers[other].wrapping_add(1),
+        _ => numbers[one] = random.pick(others),
     }
 }
 

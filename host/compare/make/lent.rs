@@ -27,6 +27,24 @@ pub fn given(table: &[u8], trace: Option<&[u8]>) -> Given {
     }
 }
 
+impl Given {
+    /// With these bytes after it in memory.
+    pub fn before(mut self, after: &[u8]) -> Given {
+        self.after = after.to_vec();
+        self
+    }
+
+    pub fn made(mut self, made: &'static str) -> Given {
+        self.made = made;
+        self
+    }
+
+    pub fn known(mut self, number: u8, words: &str) -> Given {
+        self.known = Some((number, words.to_string()));
+        self
+    }
+}
+
 /// How they are made and counted.
 pub trait Maker: Clone + 'static {
     const GROUPS: &'static [Group];
@@ -61,7 +79,7 @@ impl<M: Maker, const TO_LIBRARY: bool> Kind for Lent<M, TO_LIBRARY> {
     fn asked(&mut self, to: &mut Message) {
         let given = &mut self.0;
         let letter = if given.trace.is_some() { b'C' } else { b'T' };
-        to.letter(letter).table(&mut given.table);
+        to.letter(letter).counted("table", &mut given.table);
         if let Some(trace) = &mut given.trace {
             to.counted("trace", trace);
         }
@@ -70,12 +88,24 @@ impl<M: Maker, const TO_LIBRARY: bool> Kind for Lent<M, TO_LIBRARY> {
         }
     }
 
+    /// A refusal yields no table: every part of it is 0. Of the library, the number is the same with NULL for what is empty, and no byte is
+    /// changed.
     fn answered(&self, to: &mut Message) {
-        match (TO_LIBRARY, &self.0.trace) {
-            (true, _) => self.0.answered_by_library(to),
-            (_, None) => self.0.table_answered(to),
-            (_, Some(trace)) => self.0.check_answered(trace, to),
-        }
+        let Given { table, trace, .. } = &self.0;
+        let checked = trace.as_ref().map(|trace| check(table, trace));
+        let read = || read(table);
+        let number = match &checked {
+            Some(answer) => answer.number,
+            None => read().err().unwrap_or(0),
+        };
+        to.number("number", number);
+        match checked {
+            _ if TO_LIBRARY => to
+                .number("number with NULL", number)
+                .number("bytes changed", false),
+            Some(answer) => to.number("row", answer.row).number("time", answer.time),
+            None => table_value(to, &mut read().unwrap_or_else(|_| Table::zero())),
+        };
     }
 
     fn known(&self) -> Option<(u8, &str)> {
@@ -85,34 +115,5 @@ impl<M: Maker, const TO_LIBRARY: bool> Kind for Lent<M, TO_LIBRARY> {
 
     fn count(&self, answer: &[u8], tally: &mut Tally) {
         M::count(&self.0, answer[0], tally);
-    }
-}
-
-impl Given {
-    /// The number is the same with NULL for what is empty, and no byte is changed.
-    fn answered_by_library(&self, to: &mut Message) {
-        let number = match &self.trace {
-            None => read(&self.table).map_or_else(|number| number, |_| 0),
-            Some(trace) => check(&self.table, trace).number,
-        };
-        to.number("number", number)
-            .number("number with NULL", number)
-            .number("bytes changed", false);
-    }
-
-    /// A refusal yields no table: every part of it is 0.
-    fn table_answered(&self, to: &mut Message) {
-        let (number, mut table) = match read(&self.table) {
-            Ok(table) => (0, table),
-            Err(number) => (number, Table::zero()),
-        };
-        table_value(to.number("number", number), &mut table);
-    }
-
-    fn check_answered(&self, trace: &[u8], to: &mut Message) {
-        let answer = check(&self.table, trace);
-        to.number("number", answer.number)
-            .number("row", answer.row)
-            .number("time", answer.time);
     }
 }

@@ -22,8 +22,6 @@ pub fn marked(marks: &Marks) -> usize {
     marks.iter().filter(|&&mark| mark).count()
 }
 
-pub const MARKED: &str = "none | 1 to 8 | 9 to 31 | all";
-
 pub fn count(marks: &Marks, title: &str, tally: &mut Tally) {
     let name = match marked(marks) {
         0 => "none",

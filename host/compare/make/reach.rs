@@ -1,7 +1,7 @@
 //! How far the questions reach: a question about a row is answered if its weight is right and its numbers are at or below 2^46.
 
 use crate::random::Random;
-use crate::tally::{group, Group, Tally};
+use crate::tally::{Group, Tally};
 
 pub const REACH: u64 = 1 << 46;
 
@@ -18,18 +18,12 @@ pub fn widest(random: &mut Random) -> (u16, u16) {
 }
 
 /// The causes for which a question is not answered, where no other is met.
-pub const CAUSES: Group = group(
-    "not answered only by",
-    150,
-    "e of 0 | e above p | quanta | origin or time",
-);
+pub const CAUSES: Group = "not answered only by (1 in 150): e of 0 | e above p | quanta | \
+    origin or time";
 
 /// The numbers that are met at the limit: answered with the first two, not with the others, for this cause alone.
-pub const LIMITS: Group = group(
-    "limit",
-    200,
-    "quanta of 2^46 | origin or time of 2^46 | quanta of 2^46 + 1 | origin or time of 2^46 + 1",
-);
+pub const LIMITS: Group = "limit (1 in 200): quanta of 2^46 | origin or time of 2^46 | \
+    quanta of 2^46 + 1 | origin or time of 2^46 + 1";
 
 /// Counts why a question about a row of this weight is not answered, and which of its numbers are at the limit.
 pub fn count((e, p): (u16, u16), quanta: u64, other: u64, tally: &mut Tally) {
@@ -42,8 +36,6 @@ pub fn count((e, p): (u16, u16), quanta: u64, other: u64, tally: &mut Tally) {
         met == 1 && other == REACH + 1,
     ];
     tally.saw_each("limit", limits);
-    tally.saw_each(
-        "not answered only by",
-        causes.map(|cause| cause && met == 1),
-    );
+    let only = causes.map(|cause| cause && met == 1);
+    tally.saw_each("not answered only by", only);
 }

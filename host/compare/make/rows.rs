@@ -121,18 +121,4 @@ impl Rows {
     pub fn ask(&self, row: usize) -> Option<RowAnswer> {
         ask_row(&self.rows[row], self.quanta[row], self.time)
     }
-
-    /// No row past the 32, nothing in those that are not asked, no quanta at all, or a row wholly 0.
-    pub fn smaller(&self) -> Vec<Rows> {
-        let mut found = vec![self.clone(); 3 + 32];
-        found[0].n = self.n.min(32);
-        let asked = self.numbers().end;
-        found[1].rows[asked..].fill(Row::zero());
-        found[1].quanta[asked..].fill(0);
-        found[2].quanta.fill(0);
-        for (number, other) in found[3..].iter_mut().enumerate() {
-            other.rows[number] = Row::zero();
-        }
-        found
-    }
 }

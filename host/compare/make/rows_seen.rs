@@ -2,24 +2,15 @@
 
 use crate::make::reach::REACH;
 use crate::make::rows::Rows;
-use crate::tally::{group, Group, Tally};
+use crate::tally::{Group, Tally};
 use second::table::Row;
 
-pub const COUNTS: Group = group(
-    "n",
-    200,
-    "0 | 1 to 31 | 32 | 33 to 256 | 2^32 | above 2^32 | 2^64 - 1",
-);
-
-/// Those that stand for 32.
-pub const FAR_COUNTS: &str = "33 to 256 | 2^32 | above 2^32 | 2^64 - 1";
+pub const COUNTS: Group = "n (1 in 200): 0 | 1 to 31 | 32 | 33 to 256 | 2^32 | above 2^32 | \
+    2^64 - 1";
 
 /// The first five of rows whose question is answered, the others of rows whose question is not.
-pub const ROWS: Group = group(
-    "a row",
-    200,
-    "of kind 0 | of kind 1 | of a kind above 1 | of e = p | answered at time 2^46 | of e = 0 | of e above p | of too many quanta",
-);
+pub const ROWS: Group = "a row (1 in 200): of kind 0 | of kind 1 | of a kind above 1 | of e = p | \
+    answered at time 2^46 | of e = 0 | of e above p | of too many quanta";
 
 pub fn count(rows: &Rows, tally: &mut Tally) {
     tally.saw("n", count_name(rows.n));

@@ -1,31 +1,24 @@
 //! What is met in single slots.
 
 use crate::kinds::slot::Case;
-use crate::make::broken::{only_cause, CAUSES};
-use crate::tally::{group, Group, Tally};
-use second::slot::{deciding_rule, ready_rows, slot, Rule};
-use second::table::Row;
+use crate::tally::{Group, Tally};
+use second::share::inside;
+use second::slot::{deciding_rule, ready_rows, slot, Rule, State, LAST_TIME};
+use second::table::{fault, Row};
 
 pub const GROUPS: [Group; 8] = [
-    group("answer", 100, "0 | 1 | 30..34"),
-    CAUSES,
-    group("decided by", 150, RULES),
-    group("picked", 50, "plain | early release | phase above 0"),
-    group("done at a time", 60, "below 1,000 | above 900,000,000"),
-    group(
-        "done with",
-        100,
-        "k of 0 | M of 8 | n of 32 | a row not yet begun",
-    ),
-    group("late row", 200, "above 0 | 31"),
-    group(
-        "refused by",
-        500,
-        "k of M + 1 | a place right in its low 4 bytes alone",
-    ),
+    "answer (1 in 100): 0 | 1 | 30..34",
+    "the only cause of 30 (1 in 2000): table fault 12 | table fault 13 | \
+    table fault 14 | table fault 15 | table fault 16 | table fault 17 | table fault 18 | \
+    table fault 19 | table fault 20 | table fault 22 | time above the limit | quanta above time | \
+    outside the share",
+    "decided by (1 in 150): deadline | bit | group deadline | row number",
+    "picked (1 in 50): plain | early release | phase above 0",
+    "done at a time (1 in 60): below 1,000 | above 900,000,000",
+    "done with (1 in 100): k of 0 | M of 8 | n of 32 | a row not yet begun",
+    "late row (1 in 200): above 0 | 31",
+    "refused by (1 in 500): k of M + 1 | a place right in its low 4 bytes alone",
 ];
-
-pub const RULES: &str = "deadline | bit | group deadline | row number";
 
 /// A slot whose answer has these bytes.
 pub fn count(case: &Case, answer: &[u8], tally: &mut Tally) {
@@ -42,6 +35,23 @@ pub fn count(case: &Case, answer: &[u8], tally: &mut Tally) {
     tally.saw_each("refused by", [one_more, low_right]);
     let late = |met| number == 1 && met;
     tally.saw_each("late row", [late(answer[1] > 0), late(answer[1] == 31)]);
+}
+
+/// The name of the cause for which a state is broken, if there is one alone: a slot answers 30 for each, so a cause shows only without another.
+fn only_cause(state: &State) -> Option<String> {
+    let number = fault(&state.table);
+    let rows = || state.table.named_rows().iter().zip(&state.quanta);
+    let outside = |(row, &quanta)| !inside(row, state.time, quanta);
+    let table = format!("table fault {}", number);
+    let causes = [
+        (&table[..], number != 0),
+        ("time above the limit", state.time > LAST_TIME),
+        ("quanta above time", rows().any(|(_, &q)| q > state.time)),
+        ("outside the share", !state.stopped && rows().any(outside)),
+    ];
+    let mut met = causes.iter().filter(|(_, met)| *met);
+    let first = met.next().filter(|_| met.next().is_none());
+    first.map(|(name, _)| name.to_string())
 }
 
 fn count_done(case: &Case, tally: &mut Tally) {

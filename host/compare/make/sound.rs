@@ -1,6 +1,6 @@
 //! Random tables without a fault, of all sizes: from empty boxes to full ones.
 
-use crate::make::draft::{draft, row, Draft};
+use crate::make::written::{draft, Draft};
 use crate::random::Random;
 use second::table::Row;
 
@@ -8,6 +8,9 @@ const LONGEST_CYCLE: usize = 1_000_000;
 const BORDERS: [usize; 11] = [
     1, 2, 3, 4, 6, 12, 65_535, 65_536, 720_720, 999_999, 1_000_000,
 ];
+
+/// Cycles in which rows have several jobs within a few slots.
+const SHORT_CYCLES: [usize; 12] = [2, 3, 4, 5, 6, 8, 10, 12, 24, 30, 60, 120];
 
 /// A cycle: a border, a number with many divisors, or any.
 fn cycle(random: &mut Random) -> usize {
@@ -53,9 +56,11 @@ fn boards(random: &mut Random) -> Vec<u8> {
 fn rows(random: &mut Random, weights: &[(usize, usize)]) -> Vec<Row> {
     let tanks = random.rising(weights.len(), 65_535).into_iter();
     let of_tank = |(tank, &(e, p)): (usize, &(usize, usize))| Row {
+        tank: tank as u16,
+        cost: e as u16,
+        period: p as u16,
         phase: random.pick(&[0, 0, 1, p as u16, 65_535]),
         kind: random.below(2) as u8,
-        ..row(tank as u16, e as u16, p as u16)
     };
     tanks.zip(weights).map(of_tank).collect()
 }
@@ -67,30 +72,85 @@ pub fn any(random: &mut Random) -> Draft {
 }
 
 /// The same with this cycle.
-pub fn any_of(random: &mut Random, cycle: usize) -> Draft {
-    let boards = boards(random);
+fn any_of(random: &mut Random, cycle: usize) -> Draft {
     let wanted = random.between(0, 32);
-    of_rows(random, cycle, &boards, wanted)
+    of_rows(random, cycle, wanted)
 }
 
-/// The same with these boards and so many rows, or fewer where the cycle has no room for them.
-pub fn of_rows(random: &mut Random, cycle: usize, boards: &[u8], wanted: usize) -> Draft {
+/// With a short cycle, and in half of them full.
+pub fn short(random: &mut Random) -> Draft {
+    let cycle = random.pick(&SHORT_CYCLES);
+    match random.below(2) {
+        0 => full_of(random, cycle, 0).expect("a short cycle can be filled"),
+        _ => any_of(random, cycle),
+    }
+}
+
+/// So many rows, or fewer where the cycle has no room for them.
+fn of_rows(random: &mut Random, cycle: usize, wanted: usize) -> Draft {
     let periods = periods(cycle);
-    let mut room = boards.len() * cycle;
-    let mut weights = Vec::new();
-    while weights.len() < wanted && !periods.is_empty() {
+    of_weights(random, cycle, |random, rows, room| {
+        if rows == wanted || periods.is_empty() {
+            return None;
+        }
         let p = random.pick(&periods);
         let most = (p - 1).min(room / (cycle / p));
-        if most == 0 {
-            break;
-        }
         // about twice its part of the room, so that the rows after it find some
-        let part = 2 * room / (wanted - weights.len()) / (cycle / p);
-        let e = random.between(1, most.min(part.max(1)));
+        let part = 2 * room / (wanted - rows) / (cycle / p);
+        let e = random.between(1, most.min(part).max(1));
+        Some((e, p)).filter(|_| most > 0)
+    })
+}
+
+/// Mostly of heavy rows, as many as M cores take: their windows often end together, and then the group deadline decides.
+pub fn heavy(random: &mut Random) -> Draft {
+    let cycle = random.pick(&[12, 20, 24, 30, 60, 120]);
+    let periods = periods(cycle);
+    of_weights(random, cycle, |random, _, room| {
+        // no weight above one half has a period of 2
+        let p = random.pick(&periods[1..]);
+        let least = if random.one_in(4) { 1 } else { p / 2 + 1 };
+        let e = random.between(least, p - 1);
+        Some((e, p)).filter(|_| e * (cycle / p) <= room)
+    })
+}
+
+/// Rows one after another until there is no next weight (e, p), which is said of how many there are and of the room that is left.
+fn of_weights(
+    random: &mut Random,
+    cycle: usize,
+    next: impl Fn(&mut Random, usize, usize) -> Option<(usize, usize)>,
+) -> Draft {
+    let boards = boards(random);
+    let mut room = boards.len() * cycle;
+    let mut weights = Vec::new();
+    while let Some((e, p)) = next(random, weights.len(), room) {
         room -= e * (cycle / p);
         weights.push((e, p));
     }
-    draft(cycle as u32, boards, &rows(random, &weights))
+    draft(cycle as u32, &boards, &rows(random, &weights))
+}
+
+/// Of 32 rows, the most that a table may have.
+pub fn all_rows(random: &mut Random) -> Draft {
+    loop {
+        let cycle = random.pick(&[60, 120, 720]);
+        let table = of_rows(random, cycle, 32);
+        if table.rows.len() == 32 {
+            return table;
+        }
+    }
+}
+
+/// The last of 32 rows has its windows within a few slots; every other row has one as long as the cycle. One core takes them all.
+pub fn last_row_first(random: &mut Random) -> Draft {
+    let mut weights = [(1, 120); 32];
+    weights[31] = random.pick(&[(1, 2), (1, 3), (2, 3), (2, 4), (3, 5)]);
+    let (boards, mut rows) = (boards(random), rows(random, &weights));
+    for row in &mut rows {
+        row.phase = random.pick(&[0, 0, 1, 7]);
+    }
+    draft(120, &boards, &rows)
 }
 
 /// A table whose sum of e·(L/p) is exactly M·L, or one less or one more as asked for (`by` is 0, -1 or 1).
@@ -104,7 +164,7 @@ pub fn full(random: &mut Random, by: isize) -> Draft {
 }
 
 /// The same with this cycle, if it can be had.
-pub fn full_of(random: &mut Random, cycle: usize, by: isize) -> Option<Draft> {
+fn full_of(random: &mut Random, cycle: usize, by: isize) -> Option<Draft> {
     let periods = periods(cycle);
     if periods.is_empty() {
         return None;

@@ -1,6 +1,6 @@
 //! Damaged traces that reach every number that 01 gives to a trace.
 
-use crate::make::damage::damage_bytes;
+use crate::make::damage::{damage_bytes, damage_rising};
 use crate::make::schedule::Schedule;
 use crate::make::written::{Record, Written};
 use crate::random::Random;
@@ -91,7 +91,7 @@ fn give(record: &mut Record, row: u8) {
 }
 
 fn spoil_record(random: &mut Random, schedule: &Schedule, record: &mut Record) {
-    let (cores, n) = (schedule.cores, schedule.rows);
+    let (cores, n) = (schedule.after.table.cores, schedule.after.table.count);
     let (k, c) = (record.k, record.c);
     match random.below(8) {
         0 => record.k = random.pick(&[0, cores, cores + 1, 255, k.wrapping_sub(1)]),
@@ -102,21 +102,10 @@ fn spoil_record(random: &mut Random, schedule: &Schedule, record: &mut Record) {
             take(random, record);
         }
         5 => give(record, random.below(usize::from(n) + 1) as u8),
-        _ => spoil_rows(random, n, &mut record.rows),
-    }
-}
-
-fn spoil_rows(random: &mut Random, n: u8, rows: &mut [u8]) {
-    if rows.is_empty() {
-        return;
-    }
-    let one = random.below(rows.len());
-    let other = random.below(rows.len());
-    match random.below(5) {
-        0 => rows.swap(one, other),
-        1 => rows[one] = rows[other],
-        2 => rows[one] = rows[other].wrapping_add(1),
-        3 => rows[one] = random.below(usize::from(n).max(1)) as u8,
-        _ => rows[one] = random.pick(&[n, n.wrapping_sub(1), n + 1, 32, 128, 255]),
+        _ => {
+            let any = random.below(usize::from(n).max(1)) as u8;
+            let others = [any, any, any, n, n.wrapping_sub(1), n + 1, 32, 128, 255];
+            damage_rising(random, &mut record.rows, &others);
+        }
     }
 }

@@ -1,13 +1,10 @@
 //! States that are not broken: a broken one shows no more of a slot than its 30.
 
-use crate::make::all_rows::all_rows;
-use crate::make::heavy::heavy;
-use crate::make::schedule::CYCLES;
-use crate::make::sound;
-use crate::make::unused;
+use crate::make::rows::wild_row;
+use crate::make::{schedule, sound};
 use crate::random::Random;
-use second::slot::{fresh, slot, State, LAST_TIME};
-use second::table::{read, Row, Table};
+use second::slot::{fresh, State, LAST_TIME};
+use second::table::{write, Row, Table};
 
 const MOST_SLOTS: usize = 40;
 
@@ -28,35 +25,23 @@ pub fn state(random: &mut Random) -> State {
 
 /// A table without a fault.
 pub fn table(random: &mut Random) -> Table {
-    let cycle = random.pick(&CYCLES);
     let draft = match random.below(12) {
         0 => sound::any(random),
-        1..=3 => sound::full_of(random, cycle, 0).expect("a short cycle can be filled"),
-        4 | 5 => sound::any_of(random, cycle),
-        6 | 7 => all_rows(random),
-        _ => heavy(random),
+        1..=5 => sound::short(random),
+        6 | 7 => sound::all_rows(random),
+        _ => sound::heavy(random),
     };
-    read(&draft.bytes()).expect("a sound table is taken")
+    draft.value()
 }
 
 /// The state that the second program itself has after some slots; one that is stopped by them only at times.
 fn after_slots(random: &mut Random, table: Table) -> State {
-    let mut state = fresh(table);
-    let any_one_in = random.pick(&[1, 4, 16]);
-    for _ in 0..random.below(MOST_SLOTS) {
-        let any = random.below(usize::from(table.cores) + 1) as u8;
-        let k = if random.one_in(any_one_in) {
-            any
-        } else {
-            table.cores
-        };
-        let before = state;
-        let answer = slot(&mut state, k, &mut [0; 2 + 8], 0);
-        if answer.number == 1 && !random.one_in(4) {
-            return before;
-        }
+    let slots = random.below(MOST_SLOTS);
+    let ran = schedule::of_table(random, write(&table), slots);
+    match ran.late && !random.one_in(4) {
+        true => ran.before,
+        false => ran.after,
     }
-    state
 }
 
 /// A state at this time, in which every row is inside its share: most of these no run of slots comes to.
@@ -98,8 +83,16 @@ fn quanta(random: &mut Random, row: &Row, time: u64) -> u64 {
 
 /// What no rule asks for: rows and quanta past n, boards past M.
 fn fill_unused(random: &mut Random, state: &mut State) {
-    unused::fill(random, &mut state.table);
+    fill(random, &mut state.table);
     for quanta in &mut state.quanta[usize::from(state.table.count)..] {
         *quanta = random.pick(&[0, 1, state.time, LAST_TIME + 1, u64::MAX]);
     }
+}
+
+/// Those of a table.
+pub fn fill(random: &mut Random, table: &mut Table) {
+    let cores = usize::from(table.cores).min(table.boards.len());
+    table.boards[cores..].fill_with(|| random.byte());
+    let n = table.named_rows().len();
+    table.rows[n..].fill_with(|| wild_row(random));
 }

@@ -1,11 +1,14 @@
-//! Table values, states and their parts in messages.
+//! Table values, states and their parts in messages, and how several numbers of them are made smaller together.
 
 use crate::message::Message;
-use second::slot::State;
+use second::slot::{fresh, State};
 use second::table::{Row, Table};
 
 /// L (4), M (1), 8 board numbers (1 each), n (1), 32 rows of 9 bytes as in 01.
 pub fn table_value<'a>(to: &'a mut Message, table: &mut Table) -> &'a mut Message {
+    if let Some(row) = to.turn(table.named_rows().len()) {
+        drop_row(table, row);
+    }
     to.part("L", &mut table.cycle)
         .part("M", &mut table.cores)
         .each("board of core", &mut table.boards)
@@ -27,8 +30,58 @@ pub fn rows_value<'a>(to: &'a mut Message, rows: &mut [Row]) -> &'a mut Message 
 
 /// A table value, time (8), stopped (1), 32 quanta (8 each).
 pub fn state<'a>(to: &'a mut Message, state: &mut State) -> &'a mut Message {
+    if let Some(way) = to.turn(ways_of_state(state)) {
+        make_smaller(state, way);
+    }
     table_value(to, &mut state.table)
         .part("time of the state", &mut state.time)
         .part("stopped", &mut state.stopped)
         .each("quanta of row", &mut state.quanta)
+}
+
+/// In how many ways several numbers of a state can be made smaller together.
+pub fn ways_of_state(state: &State) -> usize {
+    3 + state.table.named_rows().len()
+}
+
+/// A fresh state, earlier by all cycles or by one, a row less.
+pub fn make_smaller(state: &mut State, way: usize) {
+    match way {
+        0 => *state = fresh(state.table),
+        1 => cycles_earlier(state, u64::MAX),
+        2 => cycles_earlier(state, 1),
+        _ => {
+            drop_row(&mut state.table, way - 3);
+            state.quanta[way - 3..].rotate_left(1);
+            state.quanta[31] = 0;
+        }
+    }
+}
+
+/// The rows after it get the number before their own.
+fn drop_row(table: &mut Table, row: usize) {
+    table.rows[row..].rotate_left(1);
+    table.rows[31] = Row::zero();
+    table.count -= 1;
+}
+
+/// Windows come again after each cycle: as many cycles as every row has had whole are taken away, up to so many.
+fn cycles_earlier(state: &mut State, most: u64) {
+    let cycle = u64::from(state.table.cycle).max(1);
+    let table = state.table;
+    let rows = table.named_rows().iter();
+    let in_cycle: Vec<u64> = rows.map(|row| quanta_in_cycle(row, cycle)).collect();
+    let whole = state.quanta.iter().zip(&in_cycle);
+    let whole = whole.map(|(quanta, in_cycle)| quanta / in_cycle).min();
+    let cycles = most.min(state.time / cycle).min(whole.unwrap_or(most));
+    state.time -= cycles * cycle;
+    for (quanta, in_cycle) in state.quanta.iter_mut().zip(&in_cycle) {
+        *quanta -= cycles * in_cycle;
+    }
+}
+
+/// Of a row without a fault; at least 1 of any other.
+fn quanta_in_cycle(row: &Row, cycle: u64) -> u64 {
+    let jobs = cycle / u64::from(row.period).max(1);
+    (u64::from(row.cost) * jobs).max(1)
 }
