@@ -1,4 +1,4 @@
-//! The kinds of case. A new one is a file in kinds/, which is named below, and a line of the list.
+//! The kinds of case. A new one is a file in kinds/ and a line here.
 
 use crate::compare::compare;
 use crate::kind::*;
@@ -27,10 +27,10 @@ pub struct Line {
     pub any: fn(&mut Random) -> (Message, Message),
 }
 
-/// Each file is a module, and each line a part of the list.
+/// Each line is a part of the list; the first that needs a file names it as a module.
 macro_rules! kinds {
-    ($($file:ident)*; $($case:ty: $name:literal, $ours:expr, $short:expr;)*) => {
-        $(pub mod $file;)*
+    ($($(mod $file:ident,)? $case:ty: $name:literal, $ours:expr, $short:expr;)*) => {
+        $($(pub mod $file;)?)*
 
         pub const KINDS: &[Line] = &[$(Line {
             name: $name,
@@ -43,27 +43,25 @@ macro_rules! kinds {
 }
 
 kinds! {
-    by_hand check cut give late next picks printed record row slot table value window write;
-
-    // case                       what is said of it              asked of        cases
-    window::Case:                 "windows",                      PROBE,          40_000;
-    Lent<table::Tables, false>:   "tables",                       PROBE,          10_000;
-    value::Case<false>:           "table values",                 PROBE,          5_000;
-    slot::Case:                   "slots",                        PROBE,          20_000;
-    record::Case:                 "records",                      PROBE,          5_000;
-    Lent<check::Checks, false>:   "checks",                       PROBE,          14_000;
-    Lent<by_hand::ByHand, false>: "made by hand, of the probe",   PROBE,          ALL;
-    value::Case<true>:            "questions of fresh states",    QUESTIONS,      2_000;
-    next::Case:                   "questions of next windows",    QUESTIONS,      10_000;
-    row::Case:                    "questions of rows",            QUESTIONS,      10_000;
-    picks::Case:                  "questions of picks",           QUESTIONS,      4_000;
-    late::Case:                   "questions of late rows",       QUESTIONS,      3_000;
-    give::Case:                   "questions of quanta given",    QUESTIONS,      2_000;
-    write::Case:                  "questions of records",         QUESTIONS,      4_000;
-    cut::Case<false>:             "cut requests of the probe",    PROBE_ONCE,     60;
-    cut::Case<true>:              "cut questions",                QUESTIONS_ONCE, 60;
-    printed::Case:                "printed schedules",            PRINTER,        200;
-    Lent<by_hand::ByHand, true>:  "made by hand, of the library", LIBRARY,        ALL;
-    Lent<table::Tables, true>:    "tables of the library",        LIBRARY,        200_000;
-    Lent<check::Checks, true>:    "traces of the library",        LIBRARY,        200_000;
+    // file      case                          what is said of it              asked of        cases
+    mod window,  window::Case:                 "windows",                      PROBE,          40_000;
+    mod table,   Lent<table::Tables, false>:   "tables",                       PROBE,          10_000;
+    mod value,   value::Case<false>:           "table values",                 PROBE,          5_000;
+    mod slot,    slot::Case:                   "slots",                        PROBE,          20_000;
+    mod record,  record::Case:                 "records",                      PROBE,          5_000;
+    mod check,   Lent<check::Checks, false>:   "checks",                       PROBE,          14_000;
+    mod by_hand, Lent<by_hand::ByHand, false>: "made by hand, of the probe",   PROBE,          ALL;
+                 value::Case<true>:            "questions of fresh states",    QUESTIONS,      2_000;
+    mod next,    next::Case:                   "questions of next windows",    QUESTIONS,      10_000;
+    mod row,     row::Case:                    "questions of rows",            QUESTIONS,      10_000;
+    mod picks,   picks::Case:                  "questions of picks",           QUESTIONS,      4_000;
+    mod late,    late::Case:                   "questions of late rows",       QUESTIONS,      3_000;
+    mod give,    give::Case:                   "questions of quanta given",    QUESTIONS,      2_000;
+    mod write,   write::Case:                  "questions of records",         QUESTIONS,      4_000;
+    mod cut,     cut::Case<false>:             "cut requests of the probe",    PROBE_ONCE,     60;
+                 cut::Case<true>:              "cut questions",                QUESTIONS_ONCE, 60;
+    mod printed, printed::Case:                "printed schedules",            PRINTER,        200;
+                 Lent<by_hand::ByHand, true>:  "made by hand, of the library", LIBRARY,        ALL;
+                 Lent<table::Tables, true>:    "tables of the library",        LIBRARY,        200_000;
+                 Lent<check::Checks, true>:    "traces of the library",        LIBRARY,        200_000;
 }
