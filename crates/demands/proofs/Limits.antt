@@ -6,7 +6,7 @@ use mathlib.Core.Logic.{_↔_}
 use Rattle.table.specs.declared.Row.{Row}
 use Rattle.pd2.specs.Ready.{isEarlyRelease}
 use Rattle.pd2.specs.Share.{upper, within, CanBe}
-use Rattle.pd2.proofs.Share.{jobsReleased, upper-means-share-rounded-up, upper-means-cost-of-jobs-released, plain-within-means-share, early-within-means-share}
+use Rattle.pd2.proofs.Share.{jobsReleased, upper-means-share-rounded-up, upper-means-cost-of-jobs-released, plain-within-means-share, early-release-within-means-share}
 use Rattle.demands.specs.Limits.{upperLimit, InLimits}
 
 -- The limits of a row that can be, in the demand's words: by its kind.
@@ -17,7 +17,7 @@ module _ (row : Row) (can : CanBe row) (q t : ℕ) where
     where
       go : (kind : Bool) → isEarlyRelease row ≡ kind → (within row q t ≡ true) ↔ InLimits row q t
       go true e =
-          let means = early-within-means-share row can e q t in
+          let means = early-release-within-means-share row can e q t in
           (λ h. record { at-least = means .0 h .0; at-most = rw e (means .0 h .1) }, λ l. means .1 (l .at-least, rw e at (l .at-most)))
       go false e =
           let means = plain-within-means-share row can e q t in

@@ -80,10 +80,10 @@ row-means row q t =
     let p = row .period in
     let f = row .phase in
     let plain : f + (q + 1 - 1) * p / e ≡ f + q * p / e = ap (λ x. f + x * p / e) {x = q + 1 - 1} {y = q} (omega arith) in
-    let early : f + (q + 1 - 1) / e * p ≡ f + q / e * p = ap (λ x. f + x / e * p) {x = q + 1 - 1} {y = q} (omega arith) in
+    let released : f + (q + 1 - 1) / e * p ≡ f + q / e * p = ap (λ x. f + x / e * p) {x = q + 1 - 1} {y = q} (omega arith) in
     record {
       ready-plain = λ kind. rw (kind, plain) (at-most (f + q * p / e) t);
-      ready-early = λ kind. rw (kind, early) (at-most (f + q / e * p) t);
+      ready-early-release = λ kind. rw (kind, released) (at-most (f + q / e * p) t);
       late-is = at-most (f + ((q + 1) * p + (e - 1)) / e) t;
     }
 

@@ -25,7 +25,7 @@ pub data Law : Type 0 where
   -- reading these bytes as a table: the number
   reads : (bytes : List ℕ) (number : ℕ) → Law
   -- the table that is handed back for these bytes: its L, M and n, its row at place i, its board number at place j
-  has-sizes : (bytes : List ℕ) (cycle cores count : ℕ) → Law
+  has-sizes : (bytes : List ℕ) (cycle cores n : ℕ) → Law
   has-row : (bytes : List ℕ) (i : ℕ) (row : Row) → Law
   has-board : (bytes : List ℕ) (j board : ℕ) → Law
   -- the fault of a table value
@@ -63,9 +63,9 @@ lawHolds (window e p f i number r d b D) =
     let reply = windowReply e p f i in
     eqb (reply .number) number && eqb (reply .r) r && eqb (reply .d) d && eqb (reply .b) b && eqb (reply .D) D
 lawHolds (reads bytes number) = eqb (reading bytes .number) number
-lawHolds (has-sizes bytes cycle cores count) =
+lawHolds (has-sizes bytes cycle cores n) =
     let table = reading bytes .table in
-    eqb (table .cycle) cycle && eqb (table .cores) cores && eqb (table .n) count
+    eqb (table .cycle) cycle && eqb (table .cores) cores && eqb (table .n) n
 lawHolds (has-row bytes i row) = sameRow (getD (reading bytes .table .rows) i noSuchRow) row
 lawHolds (has-board bytes j board) = eqb (getD (reading bytes .table .boards) j 256) board
 lawHolds (faulty table number) = eqb (faultOf table) number

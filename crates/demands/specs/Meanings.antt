@@ -67,7 +67,7 @@ pub record ValueMeans (t : Table) : Type 0 where
 -- "late at time t if its next subtask has d at or before t". With q quanta the next subtask is q + 1.
 pub record RowMeans (row : Row) (q t : ℕ) : Type 0 where
   pub ready-plain : eqb (row .kind) 1 ≡ false → (ready row q t ≡ true) ↔ (row .phase + q * row .period / row .cost ≤ t)
-  pub ready-early : eqb (row .kind) 1 ≡ true → (ready row q t ≡ true) ↔ (row .phase + q / row .cost * row .period ≤ t)
+  pub ready-early-release : eqb (row .kind) 1 ≡ true → (ready row q t ≡ true) ↔ (row .phase + q / row .cost * row .period ≤ t)
   pub late-is : (late row q t ≡ true) ↔ (row .phase + ((q + 1) * row .period + (row .cost - 1)) / row .cost ≤ t)
 
 -- "Share": pd2 tests whole numbers; they are demand 3's limits, for every row with 0 < e ≤ p.

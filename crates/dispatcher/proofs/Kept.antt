@@ -88,7 +88,7 @@ module _ (s : State) (k : ℕ) (buffer : List ℕ) (place : ℕ) where
     where
       go : NoneFound (slotTests s k buffer place) → Goes
       go (NoneFound.later whole (NoneFound.later runs (NoneFound.later limit (NoneFound.later cores (NoneFound.later lacks NoneFound.end))))) =
-          let early : timeOf s ≡ timeLimit → ⊥ = eqb-false (timeOf s) timeLimit limit in
+          let slot-left : timeOf s ≡ timeLimit → ⊥ = eqb-false (timeOf s) timeLimit limit in
           let room = neither-holds (ltb (length buffer) place) _ lacks in
           record {
             whole = whole;

@@ -151,8 +151,8 @@ module _ (table : Table) (free : ℕ → ℕ) (buffer : List ℕ) (place : ℕ) 
         let st = step m e h in
         let r = at m in
         let agree = agrees-before (r .bytes) (r .place) (free m) (picksIn (r .state) (free m)) (st .goes .room) place in
-        let early : placeOf (r .bytes) place t ≤ r .place = omega (arith, places-rise (r .bytes) place t m l, written-going m e .place) in
-        rw (st .bytes) (count-agrees place (r .place) _ (r .bytes) agree i t early)
+        let there : placeOf (r .bytes) place t ≤ r .place = omega (arith, places-rise (r .bytes) place t m l, written-going m e .place) in
+        rw (st .bytes) (count-agrees place (r .place) _ (r .bytes) agree i t there)
 
     -- each row is within its share at the end, by the records written,
     shares-now : (m : ℕ) → at m .said .number ≡ 0 → (i : ℕ) → i < length (rowsOf table) → within (rowAt (rowsOf table) i) (timesNamedFrom (at m .bytes) place i m) m ≡ true

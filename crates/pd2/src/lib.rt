@@ -113,7 +113,7 @@ fn is_under_upper(row: Row, given: Quanta, time: Slot) -> bool
     ensures { λ r. ⌜ r ≡ upper row (given .0) (time .0) ⌝ }
 {
     if row.kind == 1 {
-        return is_under_upper_early(row, given, time);
+        return is_under_upper_early_release(row, given, time);
     }
     is_under_upper_plain(row, given, time)
 }
@@ -129,7 +129,7 @@ fn is_under_upper_plain(row: Row, given: Quanta, time: Slot) -> bool
 }
 
 // At most the cost of all jobs released.
-fn is_under_upper_early(row: Row, given: Quanta, time: Slot) -> bool
+fn is_under_upper_early_release(row: Row, given: Quanta, time: Slot) -> bool
     requires { ⌜ Near row (given .0) (time .0) ⌝ }
     ensures { λ r. ⌜ r ≡ upperEarlyRelease row (given .0) (time .0) ⌝ }
 {

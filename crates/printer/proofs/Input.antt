@@ -35,9 +35,9 @@ module _ (s : List ℕ) where
       slots-unfit h = rw (eq-eqb (length s) (listPlace s + listLength s) long, le-ltb inputLimit (length s) few, lt-ltb runLimit (slotsAsked s) h)
 
       -- and the count of k values.
-      pub count-unfit : slotsAsked s ≤ runLimit → ltb (slotsAsked s) (listLength s) ≡ unfit s
+      pub listed-unfit : slotsAsked s ≤ runLimit → ltb (slotsAsked s) (listLength s) ≡ unfit s
       unfolding unfit
-      count-unfit h = rw (eq-eqb (length s) (listPlace s + listLength s) long, le-ltb inputLimit (length s) few, le-ltb runLimit (slotsAsked s) h)
+      listed-unfit h = rw (eq-eqb (length s) (listPlace s + listLength s) long, le-ltb inputLimit (length s) few, le-ltb runLimit (slotsAsked s) h)
 
   -- What is known where all have passed.
   pub is-fit : unfit s ≡ false → Fit s

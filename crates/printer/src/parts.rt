@@ -1,4 +1,4 @@
-// The parts of the input: the table with its length, the slots to run, and the k list with its count.
+// The parts of the input: the table with its length, the slots to run, and the k list with its listed.
 use counts::Slot;
 ghost use mathlib.Core.Path.{_≡_};
 ghost use Prim.Native.Nat.{_<_};
@@ -15,8 +15,8 @@ pub(crate) fn is_unfit(input: &[u8]) -> bool
 {
     let at = slots_place(input);
     let slots = fields::half(input, at);
-    let count = fields::half(input, at + 2);
-    if input.len() != at + 4 + count as usize {
+    let listed = fields::half(input, at + 2);
+    if input.len() != at + 4 + listed as usize {
         return true;
     }
     if INPUT_LIMIT < input.len() {
@@ -25,7 +25,7 @@ pub(crate) fn is_unfit(input: &[u8]) -> bool
     if SLOT_LIMIT < slots {
         return true;
     }
-    slots < count
+    slots < listed
 }
 
 // How many slots are to be run.
@@ -41,9 +41,9 @@ pub(crate) fn free(input: &[u8], cores: u8, slot: Slot) -> u8
     ensures { λ r. ⌜ r ≡ freeIn (now (input .entry)) cores (slot .0) ⌝ }
 {
     let at = slots_place(input);
-    let count = fields::half(input, at + 2) as usize;
+    let listed = fields::half(input, at + 2) as usize;
     let number = slot.time() as usize;
-    if count <= number {
+    if listed <= number {
         return cores;
     }
     fields::byte(input, at + 4 + number)

@@ -39,7 +39,7 @@ boardAbove board = board + 1
 
 -- "n above 32"
 abbrev pub rowCountTest : ℕ → Test
-rowCountTest count = ltb rowLimit count says 15
+rowCountTest n = ltb rowLimit n says 15
 
 -- The tests of a row, "in the order of the numbers". `least` is the lowest tank that may stand here.
 abbrev pub rowTests : ℕ → ℕ → Row → List Test

@@ -18,22 +18,22 @@ pub fn write(part: &mut [u8], free: u8, marks: [bool; 32]) -> Stored
     ensures { λ r. ⌜ storedNumber r ≡ writeNumber (now (part .entry)) (recordOf free (marked marks)) ⌝ }
     ensures { λ _. ⌜ now (part .exit) ≡ partAfter (now (part .entry)) (recordOf free (marked marks)) ⌝ }
 {
-    let count = how_many(marks);
-    let length = record_length(count);
+    let picked = how_many(marks);
+    let length = record_length(picked);
     if part.len() < length {
         return Stored::NoRoom;
     }
     part[0] = free;
-    part[1] = count;
+    part[1] = picked;
     put_rows(&mut part[2..], marks);
     Stored::Written
 }
 
 // How many bytes a record of so many rows has.
-fn record_length(count: u8) -> usize
-    ensures { λ r. ⌜ r ≡ 2 + count ⌝ }
+fn record_length(picked: u8) -> usize
+    ensures { λ r. ⌜ r ≡ 2 + picked ⌝ }
 {
-    2 + count as usize
+    2 + picked as usize
 }
 
 // How many marks are set.
@@ -141,7 +141,7 @@ fn length_inside(trace: &[u8], start: usize) -> usize
     if rest < 2 {
         return 0;
     }
-    let count = trace[start + 1];
-    let whole = record_length(count);
+    let picked = trace[start + 1];
+    let whole = record_length(picked);
     if rest < whole { 0 } else { whole }
 }

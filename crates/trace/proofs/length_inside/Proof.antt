@@ -13,11 +13,11 @@ sub-rest c = omega arith
 returns-2 : tie.Need-returns-2
 returns-2 c = is-cut _ _ (omega arith)
 
-add-count : tie.Need-add-count
-add-count c = omega arith
+add-picked : tie.Need-add-picked
+add-picked c = omega arith
 
-shared-slice-read-count : tie.Need-shared-slice-read-count
-shared-slice-read-count c = search needs
+shared-slice-read-picked : tie.Need-shared-slice-read-picked
+shared-slice-read-picked c = search needs
 
 record-length-requires : tie.Need-record-length-requires
 record-length-requires c κs = search needs
@@ -35,8 +35,8 @@ length-inside-spec =
     returns
     sub-rest
     returns-2
-    add-count
-    shared-slice-read-count
+    add-picked
+    shared-slice-read-picked
     record-length-requires
     returns-3
     returns-4)

@@ -16,8 +16,8 @@ add-half c = omega arith
 half-requires : tie.Need-half-requires
 half-requires c κs = search needs
 
-cast-count : tie.Need-cast-count
-cast-count c = omega arith
+cast-listed : tie.Need-cast-listed
+cast-listed c = omega arith
 
 time-requires : tie.Need-time-requires
 time-requires c κs = search needs
@@ -26,8 +26,8 @@ returns : tie.Need-returns
 returns c =
     let a = c .before in
     let s = a .before .before .before .before .args .input .now in
-    let count = a .before .half .ensures ∙ ap (λ k. half s (k + 2)) (a .before .before .slots-place .ensures .0) in
-    free-past s (a .before .before .before .before .args .cores) (omega (arith, c .if1 .taken, count, a .time .ensures))
+    let listed = a .before .half .ensures ∙ ap (λ k. half s (k + 2)) (a .before .before .slots-place .ensures .0) in
+    free-past s (a .before .before .before .before .args .cores) (omega (arith, c .if1 .taken, listed, a .time .ensures))
 
 add-byte : tie.Need-add-byte
 add-byte c = omega arith
@@ -43,10 +43,10 @@ returns-2 c =
     let a = c .before .before in
     let s = a .before .before .before .before .args .input .now in
     let place = a .before .before .slots-place .ensures .0 in
-    let count = a .before .half .ensures ∙ ap (λ k. half s (k + 2)) place in
+    let listed = a .before .half .ensures ∙ ap (λ k. half s (k + 2)) place in
     c .byte .ensures
     ∙ (ap (byte s) (omega (arith, place, a .time .ensures))
-    ∙ free-listed s (a .before .before .before .before .args .cores) (omega (arith, c .before .if1 .left, count, a .time .ensures)))
+    ∙ free-listed s (a .before .before .before .before .args .cores) (omega (arith, c .before .if1 .left, listed, a .time .ensures)))
 
 pub free-spec : {M : Type 1} → statement M
 free-spec =
@@ -55,7 +55,7 @@ free-spec =
     slots-place-requires
     add-half
     half-requires
-    cast-count
+    cast-listed
     time-requires
     returns
     add-byte
