@@ -22,7 +22,6 @@ mod hurried;
 #[path = "compare/make"]
 #[allow(dead_code)]
 mod make {
-    pub mod draft;
     pub mod hex;
     pub mod schedule;
     pub mod sound;

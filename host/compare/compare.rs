@@ -2,7 +2,7 @@
 
 use crate::difference::difference;
 use crate::find::{batch, find, Asked};
-use crate::kind::Kind;
+use crate::kind::{answer, Kind};
 use crate::program::Program;
 use crate::random::Random;
 use crate::shown::shown;
@@ -21,12 +21,12 @@ pub fn compare<C: Kind>(program: &Program, seed: u64, count: usize) -> Result<St
         if batch.is_empty() {
             return seen.words();
         }
-        batch.iter().try_for_each(as_known)?;
         if let Some(place) = find(program, &batch)? {
             FOUND.store(true, Ordering::SeqCst);
             return Err(difference(program, &batch[place].case)?);
         }
-        // not before: what is no answer at all cannot be counted
+        // not before: a difference says more, and what is no answer at all cannot be counted
+        batch.iter().try_for_each(as_known)?;
         for asked in &batch {
             seen.case();
             asked.case.count(&asked.answer, &mut seen);
@@ -34,16 +34,19 @@ pub fn compare<C: Kind>(program: &Program, seed: u64, count: usize) -> Result<St
     }
 }
 
-/// The second program is held to what is known beforehand. An answer begins with 01's number.
+/// The second program is held to what is known beforehand.
 fn as_known<C: Kind>(asked: &Asked<C>) -> Result<(), String> {
     match asked.case.known() {
-        Some((number, words)) if number != asked.answer[0] => Err(format!(
-            "{}: the second program answers {}, 01 says {}: {}",
-            words,
-            asked.answer[0],
-            number,
-            shown(&asked.request)
-        )),
+        Some((begin, words)) if !asked.answer.starts_with(begin) => {
+            let mut second = answer(&asked.case);
+            second.cut(second.bytes.len().saturating_sub(begin.len()));
+            Err(format!(
+                "{}: 01, unlike the second program, has {}: {}",
+                words,
+                second.unlike(begin).join("; "),
+                shown(&asked.request)
+            ))
+        }
         _ => Ok(()),
     }
 }

@@ -22,8 +22,8 @@ pub fn difference<C: Kind>(program: &Program, found: &C) -> Result<String, Strin
     let (asked, answered) = (request(&small), answer(&small));
     let output = program.run(asked.bytes.clone())?;
     let (name, said) = (program.ours.0, &output.stdout);
-    let known = found.known().map_or(String::new(), |(number, words)| {
-        format!(", of which 01 says {}: {}", number, words)
+    let known = found.known().map_or(String::new(), |(begin, words)| {
+        format!(", of which 01 says {}: {}", begin[0], words)
     });
     let lines = [
         format!("{} differs from the second program", name),

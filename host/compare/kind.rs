@@ -23,8 +23,8 @@ pub trait Kind: Clone + 'static {
     /// The second program's answer.
     fn answered(&self, to: &mut Message);
 
-    /// What is known beforehand: the number that 01 gives, and of what.
-    fn known(&self) -> Option<(u8, &str)> {
+    /// What is known beforehand: how the answer begins, first the number that 01 gives, and of what.
+    fn known(&self) -> Option<(&[u8], &str)> {
         None
     }
 

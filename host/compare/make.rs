@@ -1,8 +1,11 @@
 //! What cases are made of, and what several kinds of case have in common.
 
+pub mod cores_seen;
 pub mod damage;
+pub mod hex;
 pub mod lent;
 pub mod marks;
+pub mod memory;
 pub mod reach;
 pub mod rows;
 pub mod rows_seen;

@@ -20,7 +20,7 @@ pub struct Message {
 
 struct Field {
     name: &'static str,
-    /// of which row or board, where a name stands for several
+    /// of which row, board or place, where a name stands for several
     of: Option<usize>,
     shape: Shape,
     place: Range<usize>,
@@ -46,7 +46,7 @@ impl Message {
         self.part_of(None, name, number)
     }
 
-    /// One of each row or board.
+    /// One of each row, board or place.
     pub fn each<N: Number>(&mut self, name: &'static str, numbers: &mut [N]) -> &mut Message {
         for (of, number) in numbers.iter_mut().enumerate() {
             self.part_of(Some(of), name, number);

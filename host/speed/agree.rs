@@ -3,9 +3,10 @@
 use crate::cases::{program, Entry, NAMES};
 use crate::make::sound;
 use crate::make::written::{written, Record};
+use crate::plain::cores::{first, Placement};
 use crate::random::Random;
 use crate::{boxes, hurried, ours, plain};
-use second::slot::{fresh, slot};
+use second::slot::{fresh, slot_on, State};
 
 const SLOTS: u32 = 2_000;
 /// In a box of long walks: the second program walks for every row, with a step for each time.
@@ -35,26 +36,52 @@ fn all_boxes() -> Vec<(Vec<u8>, u32)> {
     tables
 }
 
-/// With all cores free, and with one less.
+/// With all cores free, and with one less; and without ours, which is told only their number, with other cores free in each slot.
 pub fn run() -> Result<String, String> {
     let tables = all_boxes();
-    let mut slots = 0;
+    let mut random = Random::seeded(0xC04E);
+    let (mut slots, mut slots_of_sets) = (0, 0);
     for (table, most) in &tables {
         let cores = table[5];
         for k in [cores, cores - 1] {
             let compared = one(table, k, *most);
             slots += compared.map_err(|what| format!("{}: {:02X?}, k {}", what, table, k))?;
         }
+        let lacks_one_in = random.pick(&[4, 20, 100]);
+        let compared = by_rust(table, *most, || some(&mut random, cores, lacks_one_in));
+        let (_, state) = compared.map_err(|what| format!("{}: {:02X?}, sets", what, table))?;
+        slots_of_sets += state.time;
     }
     Ok(format!(
-        "all programs agree on {} slots of {} boxes",
+        "all programs agree on {} slots of {} boxes, and all but ours on {} with any cores free",
         slots,
-        tables.len()
+        tables.len(),
+        slots_of_sets
     ))
+}
+
+/// A set of cores, each of which is lacking one time of so many.
+fn some(random: &mut Random, cores: u8, lacks_one_in: usize) -> u32 {
+    let free = (0..cores).filter(|_| !random.one_in(lacks_one_in));
+    free.fold(0, |set, core| set | 1 << core)
 }
 
 /// How many slots were compared: up to the first late one.
 fn one(table: &[u8], k: u8, most: u32) -> Result<u64, String> {
+    let (records, state) = by_rust(table, most, || first(k))?;
+    by_ours(table, k, &records)?;
+    times(table, k, most, state.time)?;
+    checks(table, &trace(&records), state.stopped)?;
+    Ok(state.time)
+}
+
+/// The records with these cores free from slot to slot, up to the first late one, and the state at the end: of the second program, and the
+/// same of plain and hurried; in each slot plain has the same rows on the same cores.
+fn by_rust(
+    table: &[u8],
+    most: u32,
+    mut free: impl FnMut() -> u32,
+) -> Result<(Vec<Entry>, State), String> {
     let mut state =
         fresh(second::table::read(table).map_err(|number| format!("refused {}", number))?);
     let mut plain = plain::slot::State::fresh(plain::table::read(table).unwrap_or_default());
@@ -62,9 +89,10 @@ fn one(table: &[u8], k: u8, most: u32) -> Result<u64, String> {
     let mut records = Vec::new();
     while state.time < most.into() && !state.stopped {
         let [mut by_second, mut by_plain, mut by_hurried] = [[0; 10]; 3];
-        slot(&mut state, k, &mut by_second, 0);
-        plain.slot(k, &mut by_plain, 0);
-        hurried.slot(k, &mut by_hurried);
+        let free = free();
+        let (_, placed) = slot_on(&mut state, free, &mut by_second, 0);
+        plain.slot(free, &mut by_plain, 0);
+        hurried.slot(free.count_ones() as u8, &mut by_hurried);
         if [by_plain, by_hurried] != [by_second; 2] {
             let picks = [by_second, by_plain, by_hurried];
             return Err(format!(
@@ -72,12 +100,16 @@ fn one(table: &[u8], k: u8, most: u32) -> Result<u64, String> {
                 state.time, picks
             ));
         }
+        let Placement { count, rows, cores } = plain.last;
+        if (count, rows, cores) != (placed.count, placed.rows, placed.cores) {
+            return Err(format!(
+                "the cores at time {} are {:?}, not {:?}",
+                state.time, cores, placed
+            ));
+        }
         records.push(by_second);
     }
-    by_ours(table, k, &records)?;
-    times(table, k, most, state.time)?;
-    checks(table, &trace(&records), state.stopped)?;
-    Ok(state.time)
+    Ok((records, state))
 }
 
 /// The records of the proved code are these.

@@ -1,9 +1,8 @@
 //! The boxes that are measured, and the trace of a million slots.
 
-use crate::make::draft::{draft, row};
 use crate::make::hex::bytes_of;
 use crate::make::schedule::record;
-use crate::make::written::written;
+use crate::make::written::{draft, written};
 use second::table::Row;
 
 /// A full box: 8 cores, and 32 rows whose sum is exactly 8·L. 18 rows are plain and 14 early release, 6 heavy and 26 light; periods 7 to
@@ -20,6 +19,16 @@ const FULL: &str = "01 50FF0A00 08 0001020308090A0B 20\
 
 pub fn full() -> Vec<u8> {
     bytes_of(FULL)
+}
+
+/// A plain row of phase 0.
+fn row(tank: u16, cost: u16, period: u16) -> Row {
+    Row {
+        tank,
+        cost,
+        period,
+        ..Row::zero()
+    }
 }
 
 /// Rows of these weights (e, p), plain and with phase 0, on 8 cores.

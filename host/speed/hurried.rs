@@ -1,5 +1,6 @@
 //! The fastest plain Rust that the same numbers could be had with: it keeps each row's next window between slots, finds rows by their time
-//! instead of asking each, and tests nothing that these inputs do not need. Not fit for a board: a wild table or state is not noticed.
+//! instead of asking each, and tests nothing that these inputs do not need. It places nobody: no row gets a core, and none is remembered. Not
+//! fit for a board: a wild table or state is not noticed.
 
 #[path = "hurried/check.rs"]
 mod check;

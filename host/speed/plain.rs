@@ -3,6 +3,8 @@
 
 #[path = "plain/check.rs"]
 pub mod check;
+#[path = "plain/cores.rs"]
+pub mod cores;
 #[path = "plain/picks.rs"]
 mod picks;
 #[path = "plain/slot.rs"]
@@ -43,12 +45,12 @@ pub fn trace_check(table: &[u8], trace: &[u8]) -> u8 {
     }
 }
 
-/// So many slots with k cores free, and the time at the end, as `zb_slots` gives it.
+/// So many slots with the first k cores free, and the time at the end, as `zb_slots` gives it.
 #[inline(never)]
 pub fn slots(bytes: &[u8], k: u8, slots: u32, entry: &mut Entry) -> u64 {
     let mut state = State::fresh(table::read(bytes).unwrap_or_default());
     for _ in 0..slots {
-        state.slot(k, entry, 0);
+        state.slot(cores::first(k), entry, 0);
     }
     state.time
 }

@@ -2,6 +2,7 @@
 //! those of its cut class.
 
 use crate::boxes::plain_rows;
+use crate::plain::cores::first;
 use crate::plain::slot::State;
 use crate::plain::table::{read, Row};
 use crate::random::Random;
@@ -46,7 +47,7 @@ fn most_walked(table: &[u8], k: u8) -> (u64, usize) {
     let mut most = (0, 0);
     for slot in 0..SLOTS {
         most = most.max((walked_in_slot(&state, k), slot));
-        state.slot(k, &mut [0; 10], 0);
+        state.slot(first(k), &mut [0; 10], 0);
     }
     most
 }

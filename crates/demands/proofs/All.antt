@@ -11,6 +11,7 @@ use Rattle.demands.proofs.Laws.{laws-hold}
 use Rattle.demands.proofs.Confession.{confession}
 use Rattle.demands.proofs.ShutOut.{shut-out}
 use Rattle.demands.proofs.NeverLate.{never-late}
+use Rattle.demands.proofs.Cores.{cores}
 
 pub all : All
 all =
@@ -26,4 +27,5 @@ all =
       confession = confession;
       shut-out = shut-out;
       never-late = never-late;
+      cores = cores;
     }

@@ -19,6 +19,8 @@ use Rattle.pd2.specs.Picks.{picked}
 use Rattle.pd2.specs.Choice.{given}
 use Rattle.trace.specs.Record.{withFront, withRecord}
 use Rattle.trace.specs.Records.{placeOf, names}
+use Rattle.cores.specs.Fault.{misremembers}
+use Rattle.cores.specs.Cores.{wanted, leftOver, inTurn, coresFor}
 use Rattle.dispatcher.specs.Broken.{broken}
 use Rattle.dispatcher.specs.Slot.{refusal, slotOf}
 use Rattle.dispatcher.specs.Run.{run}
@@ -28,5 +30,5 @@ use Rattle.demands.specs.RunPasses.{wordBytes}
 use Rattle.demands.specs.Bench.{same, allHold, BenchHolds}
 
 pub bench-holds : BenchHolds
-unfolding ceilDiv atFirst howMany those firstFound rising places padded start deadline bit windowLength jobStart heavy stops stopTime groupDeadline windowReply load faultOf tableNumber ready late lower upper before picked given withFront withRecord placeOf names broken refusal slotOf run badRows recordsFindings traceSaid checkOf wordBytes same allHold
+unfolding ceilDiv atFirst howMany those firstFound rising places padded start deadline bit windowLength jobStart heavy stops stopTime groupDeadline windowReply load faultOf tableNumber ready late lower upper before picked given withFront withRecord placeOf names misremembers wanted leftOver inTurn coresFor broken refusal slotOf run badRows recordsFindings traceSaid checkOf wordBytes same allHold
 bench-holds = refl

@@ -16,7 +16,7 @@ slot-cases =
       broken = refl;
       stopped = refl;
       at-limit = refl;
-      too-many-cores = refl;
+      no-such-core = refl;
       no-room = refl;
     }
 

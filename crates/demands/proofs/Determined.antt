@@ -54,9 +54,16 @@ every-promise-determines =
       trace-record-but-for-its-name = λ trace at slot name. record-is-determined-but-for-its-name (record { ptr = at; name = 0; now = trace }) (slot .0) name;
       trace-begins = λ trace slot. by-value;
       choice-picks = λ rows quanta n time k. picks-are-determined (chosen (take n rows) (numbersOf quanta) (time .0) (min k 8));
+      cores-Placement-nobody = by-value;
+      cores-Placement-is-faulty = λ self cores n. by-value;
+      cores-how-many = λ free a b p q. p .0 ∙ sym (q .0);
+      cores-names-past = λ free cores. by-value;
+      cores-first = λ k. by-value;
+      cores-place = λ rows free last. by-value;
       dispatcher-Answer-told = λ self. dispatcher.told-is-determined self;
       dispatcher-State-fresh = λ table. dispatcher.fresh-is-determined table;
-      dispatcher-State-slot = λ self k buffer place a b p q. dispatcher.slot-is-determined self k buffer place a b (p .0, (p .1, p .2)) (q .0, (q .1, q .2));
+      dispatcher-State-slot = λ self free buffer place a b p q.
+          dispatcher.slot-is-determined self free buffer place a b (p .0, (p .1, (p .2, p .3))) (q .0, (q .1, (q .2, q .3)));
       checker-check = λ table trace. check-is-determined table trace;
       checker-number = λ answer. by-value;
       firmware-zb-table-check = λ table. by-value;

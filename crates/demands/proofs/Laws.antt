@@ -22,6 +22,8 @@ use Rattle.pd2.specs.Choice.{given}
 use Rattle.trace.specs.Record.{withFront, withRecord}
 use Rattle.trace.specs.Records.{placeOf, names}
 use Rattle.trace.specs.Found.{isFound}
+use Rattle.cores.specs.Fault.{misremembers}
+use Rattle.cores.specs.Cores.{wanted, leftOver, inTurn, coresFor}
 use Rattle.dispatcher.specs.Broken.{broken}
 use Rattle.dispatcher.specs.Slot.{refusal, slotOf}
 use Rattle.checker.specs.Causes.{badRows}
@@ -37,6 +39,7 @@ use Rattle.demands.specs.LawInputs.{alikeRows, risingRows}
 use Rattle.demands.specs.TableLaws.{tableLaws}
 use Rattle.demands.specs.ReadingLaws.{readingOrder, valueLaws}
 use Rattle.demands.specs.SlotLaws.{slotLaws}
+use Rattle.demands.specs.CoreLaws.{coreLaws}
 use Rattle.demands.specs.TraceLaws.{partLaws, traceLaws}
 use Rattle.demands.specs.PrinterLaws.{idleSlots, printerLaws}
 use Rattle.demands.specs.Laws.{windowLaws, LawsHold}
@@ -49,35 +52,39 @@ both-hold (law ∷ a) b p q = let x = both (lawHolds law) (allLawsHold a) p in h
 
 -- Each part is computed.
 window-laws : allLawsHold windowLaws ≡ true
-unfolding ceilDiv atFirst howMany those firstFound rising places padded start deadline bit windowLength jobStart heavy stops stopTime groupDeadline windowReply load faultOf tableNumber reading ready late lower upper before picked given withFront withRecord placeOf names isFound broken refusal slotOf badRows recordsFindings traceSaid checkOf freeIn unfit digitsBy decimal spaced slotsText textOf wordBytes same allLawsHold alikeRows risingRows idleSlots
+unfolding ceilDiv atFirst howMany those firstFound rising places padded start deadline bit windowLength jobStart heavy stops stopTime groupDeadline windowReply load faultOf tableNumber reading ready late lower upper before picked given withFront withRecord placeOf names isFound misremembers wanted leftOver inTurn coresFor broken refusal slotOf badRows recordsFindings traceSaid checkOf freeIn unfit digitsBy decimal spaced slotsText textOf wordBytes same allLawsHold alikeRows risingRows idleSlots
 window-laws = refl
 
 table-laws : allLawsHold tableLaws ≡ true
-unfolding ceilDiv atFirst howMany those firstFound rising places padded start deadline bit windowLength jobStart heavy stops stopTime groupDeadline windowReply load faultOf tableNumber reading ready late lower upper before picked given withFront withRecord placeOf names isFound broken refusal slotOf badRows recordsFindings traceSaid checkOf freeIn unfit digitsBy decimal spaced slotsText textOf wordBytes same allLawsHold alikeRows risingRows idleSlots
+unfolding ceilDiv atFirst howMany those firstFound rising places padded start deadline bit windowLength jobStart heavy stops stopTime groupDeadline windowReply load faultOf tableNumber reading ready late lower upper before picked given withFront withRecord placeOf names isFound misremembers wanted leftOver inTurn coresFor broken refusal slotOf badRows recordsFindings traceSaid checkOf freeIn unfit digitsBy decimal spaced slotsText textOf wordBytes same allLawsHold alikeRows risingRows idleSlots
 table-laws = refl
 
 reading-laws : allLawsHold readingOrder ≡ true
-unfolding ceilDiv atFirst howMany those firstFound rising places padded start deadline bit windowLength jobStart heavy stops stopTime groupDeadline windowReply load faultOf tableNumber reading ready late lower upper before picked given withFront withRecord placeOf names isFound broken refusal slotOf badRows recordsFindings traceSaid checkOf freeIn unfit digitsBy decimal spaced slotsText textOf wordBytes same allLawsHold alikeRows risingRows idleSlots
+unfolding ceilDiv atFirst howMany those firstFound rising places padded start deadline bit windowLength jobStart heavy stops stopTime groupDeadline windowReply load faultOf tableNumber reading ready late lower upper before picked given withFront withRecord placeOf names isFound misremembers wanted leftOver inTurn coresFor broken refusal slotOf badRows recordsFindings traceSaid checkOf freeIn unfit digitsBy decimal spaced slotsText textOf wordBytes same allLawsHold alikeRows risingRows idleSlots
 reading-laws = refl
 
 value-laws : allLawsHold valueLaws ≡ true
-unfolding ceilDiv atFirst howMany those firstFound rising places padded start deadline bit windowLength jobStart heavy stops stopTime groupDeadline windowReply load faultOf tableNumber reading ready late lower upper before picked given withFront withRecord placeOf names isFound broken refusal slotOf badRows recordsFindings traceSaid checkOf freeIn unfit digitsBy decimal spaced slotsText textOf wordBytes same allLawsHold alikeRows risingRows idleSlots
+unfolding ceilDiv atFirst howMany those firstFound rising places padded start deadline bit windowLength jobStart heavy stops stopTime groupDeadline windowReply load faultOf tableNumber reading ready late lower upper before picked given withFront withRecord placeOf names isFound misremembers wanted leftOver inTurn coresFor broken refusal slotOf badRows recordsFindings traceSaid checkOf freeIn unfit digitsBy decimal spaced slotsText textOf wordBytes same allLawsHold alikeRows risingRows idleSlots
 value-laws = refl
 
 slot-laws : allLawsHold slotLaws ≡ true
-unfolding ceilDiv atFirst howMany those firstFound rising places padded start deadline bit windowLength jobStart heavy stops stopTime groupDeadline windowReply load faultOf tableNumber reading ready late lower upper before picked given withFront withRecord placeOf names isFound broken refusal slotOf badRows recordsFindings traceSaid checkOf freeIn unfit digitsBy decimal spaced slotsText textOf wordBytes same allLawsHold alikeRows risingRows idleSlots
+unfolding ceilDiv atFirst howMany those firstFound rising places padded start deadline bit windowLength jobStart heavy stops stopTime groupDeadline windowReply load faultOf tableNumber reading ready late lower upper before picked given withFront withRecord placeOf names isFound misremembers wanted leftOver inTurn coresFor broken refusal slotOf badRows recordsFindings traceSaid checkOf freeIn unfit digitsBy decimal spaced slotsText textOf wordBytes same allLawsHold alikeRows risingRows idleSlots
 slot-laws = refl
 
+core-laws : allLawsHold coreLaws ≡ true
+unfolding ceilDiv atFirst howMany those firstFound rising places padded start deadline bit windowLength jobStart heavy stops stopTime groupDeadline windowReply load faultOf tableNumber reading ready late lower upper before picked given withFront withRecord placeOf names isFound misremembers wanted leftOver inTurn coresFor broken refusal slotOf badRows recordsFindings traceSaid checkOf freeIn unfit digitsBy decimal spaced slotsText textOf wordBytes same allLawsHold alikeRows risingRows idleSlots
+core-laws = refl
+
 part-laws : allLawsHold partLaws ≡ true
-unfolding ceilDiv atFirst howMany those firstFound rising places padded start deadline bit windowLength jobStart heavy stops stopTime groupDeadline windowReply load faultOf tableNumber reading ready late lower upper before picked given withFront withRecord placeOf names isFound broken refusal slotOf badRows recordsFindings traceSaid checkOf freeIn unfit digitsBy decimal spaced slotsText textOf wordBytes same allLawsHold alikeRows risingRows idleSlots
+unfolding ceilDiv atFirst howMany those firstFound rising places padded start deadline bit windowLength jobStart heavy stops stopTime groupDeadline windowReply load faultOf tableNumber reading ready late lower upper before picked given withFront withRecord placeOf names isFound misremembers wanted leftOver inTurn coresFor broken refusal slotOf badRows recordsFindings traceSaid checkOf freeIn unfit digitsBy decimal spaced slotsText textOf wordBytes same allLawsHold alikeRows risingRows idleSlots
 part-laws = refl
 
 trace-laws : allLawsHold traceLaws ≡ true
-unfolding ceilDiv atFirst howMany those firstFound rising places padded start deadline bit windowLength jobStart heavy stops stopTime groupDeadline windowReply load faultOf tableNumber reading ready late lower upper before picked given withFront withRecord placeOf names isFound broken refusal slotOf badRows recordsFindings traceSaid checkOf freeIn unfit digitsBy decimal spaced slotsText textOf wordBytes same allLawsHold alikeRows risingRows idleSlots
+unfolding ceilDiv atFirst howMany those firstFound rising places padded start deadline bit windowLength jobStart heavy stops stopTime groupDeadline windowReply load faultOf tableNumber reading ready late lower upper before picked given withFront withRecord placeOf names isFound misremembers wanted leftOver inTurn coresFor broken refusal slotOf badRows recordsFindings traceSaid checkOf freeIn unfit digitsBy decimal spaced slotsText textOf wordBytes same allLawsHold alikeRows risingRows idleSlots
 trace-laws = refl
 
 printer-laws : allLawsHold printerLaws ≡ true
-unfolding ceilDiv atFirst howMany those firstFound rising places padded start deadline bit windowLength jobStart heavy stops stopTime groupDeadline windowReply load faultOf tableNumber reading ready late lower upper before picked given withFront withRecord placeOf names isFound broken refusal slotOf badRows recordsFindings traceSaid checkOf freeIn unfit digitsBy decimal spaced slotsText textOf wordBytes same allLawsHold alikeRows risingRows idleSlots
+unfolding ceilDiv atFirst howMany those firstFound rising places padded start deadline bit windowLength jobStart heavy stops stopTime groupDeadline windowReply load faultOf tableNumber reading ready late lower upper before picked given withFront withRecord placeOf names isFound misremembers wanted leftOver inTurn coresFor broken refusal slotOf badRows recordsFindings traceSaid checkOf freeIn unfit digitsBy decimal spaced slotsText textOf wordBytes same allLawsHold alikeRows risingRows idleSlots
 printer-laws = refl
 
 pub laws-hold : LawsHold
@@ -85,4 +92,4 @@ laws-hold =
     both-hold windowLaws _ window-laws
     (both-hold tableLaws _ table-laws
     (both-hold readingOrder _ reading-laws
-    (both-hold valueLaws _ value-laws (both-hold slotLaws _ slot-laws (both-hold partLaws _ part-laws (both-hold traceLaws _ trace-laws printer-laws))))))
+    (both-hold valueLaws _ value-laws (both-hold slotLaws _ slot-laws (both-hold coreLaws _ core-laws (both-hold partLaws _ part-laws (both-hold traceLaws _ trace-laws printer-laws)))))))

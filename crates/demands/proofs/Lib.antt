@@ -13,4 +13,5 @@ pub mod Laws
 pub mod Confession
 pub mod ShutOut
 pub mod NeverLate
+pub mod Cores
 pub mod All

@@ -28,6 +28,7 @@ use Rattle.trace.proofs.Found.{next-begins}
 use Rattle.dispatcher.specs.declared.State.{State}
 use Rattle.checker.specs.WellFormed.{WellFormed}
 use Rattle.checker.proofs.Sound.{rising-exactly}
+use Rattle.cores.proofs.Means.{ran-on-means, ran-before-means, moves-are}
 use Rattle.slots_run.specs.Slots.{slotsFrom}
 use Rattle.printer.specs.Text.{textOf}
 use Rattle.printer.specs.Buffer.{printedOf, outAfter}
@@ -174,5 +175,6 @@ meanings =
       write = write-means;
       print = print-means;
       fresh = λ t. refl;
+      memory = λ last. record { ran-on = ran-on-means last; ran-before = ran-before-means last; moves = moves-are last };
       slots = slots-mean;
     }

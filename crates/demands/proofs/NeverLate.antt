@@ -36,15 +36,21 @@ use Rattle.trace.proofs.Names.{listed-are-named}
 use Rattle.optimal.specs.Box.{Box}
 use Rattle.optimal.proofs.Box.{sum-is-load, table-is-box}
 use Rattle.optimal.proofs.NeverLate.{pd2-never-late}
+use Rattle.cores.specs.Sets.{size, namesPast, firstCores}
+use Rattle.cores.specs.Fault.{misremembers}
+use Rattle.cores.specs.Cores.{wanted, leftOver, inTurn, coresFor}
+use Rattle.cores.proofs.Sets.{size-within}
+use Rattle.cores.proofs.Past.{there-exactly}
 use Rattle.dispatcher.specs.declared.State.{State}
 use Rattle.dispatcher.specs.State.{quantaIn, timeOf}
 use Rattle.dispatcher.specs.Broken.{broken}
-use Rattle.dispatcher.specs.Run.{run}
-use Rattle.dispatcher.specs.Slot.{picksIn, refusal, slotOf}
+use Rattle.dispatcher.specs.Run.{Step, run}
+use Rattle.dispatcher.specs.Slot.{picksIn, placedIn, refusal, slotOf}
 use Rattle.dispatcher.proofs.Whole.{is-whole}
 use Rattle.dispatcher.proofs.Ran.{places-stay}
+use Rattle.dispatcher.proofs.Placing.{picks-are-few}
 use Rattle.dispatcher.proofs.Kept.{Goes, goes-back, not-refused-is-done, refusal-changes-nothing, done-makes-the-step, quanta-after, done-keeps-whole}
-use Rattle.dispatcher.proofs.Places.{picks-are-few, bare-unless-late}
+use Rattle.dispatcher.proofs.Places.{bare-unless-late}
 use Rattle.demands.proofs.Three.{done-with-0, Running, fresh-runs, still-runs}
 use Rattle.demands.specs.NeverLate.{WithCores, NeverLateWith, NeverLate}
 
@@ -112,25 +118,25 @@ module _ (table : Table) (c : ℕ) (sound : faultOf table ≡ 0) (few : load (ta
     course : Course (timeOf s) (quantaIn s)
 
   -- A slot that is done goes on with the course,
-  course-after : (s : State) (k : ℕ) (buffer : List ℕ) (place : ℕ) → Kept s → c ≤ k → slotOf s k buffer place .said .number < 2 →
-      Course (timeOf (slotOf s k buffer place .state)) (quantaIn (slotOf s k buffer place .state))
-  course-after s k buffer place so more done =
-      rw (ap (λ x. x .state) (done-makes-the-step s k buffer place done))
-      (goes-on (timeOf s) (quantaIn s) _ k (so .course) more
-      (λ i l. quanta-after s k (is-whole s (so .known .whole)) (so .long) i ∙ ap (λ b. quantaAt (quantaIn s) i + cond b 1 0) (named i l)))
+  course-after : (s : State) (free : List Bool) (buffer : List ℕ) (place : ℕ) → Kept s → c ≤ size free → slotOf s free buffer place .said .number < 2 →
+      Course (timeOf (slotOf s free buffer place .state)) (quantaIn (slotOf s free buffer place .state))
+  course-after s free buffer place so more done =
+      rw (ap (λ x. x .state) (done-makes-the-step s free buffer place done))
+      (goes-on (timeOf s) (quantaIn s) _ (size free) (so .course) more
+      (λ i l. quanta-after s free (is-whole s (so .known .whole)) (so .long) i ∙ ap (λ b. quantaAt (quantaIn s) i + cond b 1 0) (named i l)))
     where
-      named : (i : ℕ) → i < length (rowsOf table) → names (picksIn s k) i ≡ isPicked (quantaIn s) (timeOf s) k i
+      named : (i : ℕ) → i < length (rowsOf table) → names (picksIn s (size free)) i ≡ isPicked (quantaIn s) (timeOf s) (size free) i
       named i l = rw (so .known .same) (listed-are-named _ _ i ∙ rw (lt-ltb i (length (rowsOf table)) l) refl)
 
   -- so it does not answer 1,
-  not-late : (s : State) (k : ℕ) (buffer : List ℕ) (place : ℕ) → Kept s → c ≤ k → slotOf s k buffer place .said .number ≡ 1 → ⊥
-  not-late s k buffer place so more is-1 =
-      let done : slotOf s k buffer place .said .number < 2 = omega (arith, is-1) in
-      let after = done-keeps-whole s k buffer place done in
-      let same : slotOf s k buffer place .state .table ≡ table = ap (λ x. x .state .table) (done-makes-the-step s k buffer place done) ∙ so .known .same in
-      let row = slotOf s k buffer place .said .row in
+  not-late : (s : State) (free : List Bool) (buffer : List ℕ) (place : ℕ) → Kept s → c ≤ size free → slotOf s free buffer place .said .number ≡ 1 → ⊥
+  not-late s free buffer place so more is-1 =
+      let done : slotOf s free buffer place .said .number < 2 = omega (arith, is-1) in
+      let after = done-keeps-whole s free buffer place done in
+      let same : slotOf s free buffer place .state .table ≡ table = ap (λ x. x .state .table) (done-makes-the-step s free buffer place done) ∙ so .known .same in
+      let row = slotOf s free buffer place .said .row in
       let is-late = after .names-row is-1 .passes (after .is-row is-1) in
-      let nobody = nobody-late _ _ (course-after s k buffer place so more done) row (rw same at (after .is-row is-1)) in
+      let nobody = nobody-late _ _ (course-after s free buffer place so more done) row (rw same at (after .is-row is-1)) in
       true≢false (sym (rw same at is-late) ∙ nobody)
 
   -- and what is known of the state is known of the next.
@@ -141,38 +147,38 @@ module _ (table : Table) (c : ℕ) (sound : faultOf table ≡ 0) (few : load (ta
         long = refl;
         course = begins _;
       }
-  kept _ (WithCores.slot s k buffer place from more) = go (decLt (slotOf s k buffer place .said .number) 2) (kept s from)
+  kept _ (WithCores.step s (Step.slot free) buffer place from more) = go (decLt (slotOf s free buffer place .said .number) 2) (kept s from)
     where
-      go : Dec (slotOf s k buffer place .said .number < 2) → Kept s → Kept (slotOf s k buffer place .state)
+      go : Dec (slotOf s free buffer place .said .number < 2) → Kept s → Kept (slotOf s free buffer place .state)
       go (yes done) so =
-          let step = ap (λ x. x .state) (done-makes-the-step s k buffer place done) in
+          let step = ap (λ x. x .state) (done-makes-the-step s free buffer place done) in
           record {
-            known = still-runs table s k buffer place (so .known) (not-late s k buffer place so more);
-            long = ap (λ x. length (x .quanta)) step ∙ (places-stay s (picksIn s k) ∙ so .long);
-            course = course-after s k buffer place so more done;
+            known = still-runs table s free buffer place (so .known) (not-late s free buffer place so more);
+            long = ap (λ x. length (x .quanta)) step ∙ (places-stay s (picksIn s (size free)) (placedIn s free) ∙ so .long);
+            course = course-after s free buffer place so more done;
           }
-      go (no refused) so = subst Kept (sym (refusal-changes-nothing s k buffer place (omega arith) .0)) so
+      go (no refused) so = subst Kept (sym (refusal-changes-nothing s free buffer place (omega arith) .0)) so
 
-  -- A slot that meets none of the causes of 30 to 34 is done, and does not answer 1.
+  -- A slot that meets none of the causes of a refusal is done, and does not answer 1.
   never-late-with : NeverLateWith table c
   never-late-with =
       record {
-        never-1 = λ s from k buffer place more. not-late s k buffer place (kept s from) more;
-        always-0 = λ s from k buffer place more cores time room. answers-0 s k buffer place (kept s from) more cores time room;
+        never-1 = λ s from free buffer place more. not-late s free buffer place (kept s from) more;
+        always-0 = λ s from free buffer place more there time room. answers-0 s free buffer place (kept s from) more (there-exactly (table .cores) free .1 there) time room;
       }
     where
-      answers-0 : (s : State) (k : ℕ) (buffer : List ℕ) (place : ℕ) → Kept s → c ≤ k → k ≤ table .cores → timeOf s < timeLimit → place + 10 ≤ length buffer →
-          slotOf s k buffer place .said ≡ bare 0
-      answers-0 s k buffer place so more cores time room =
-          let few : length (picksIn s k) ≤ 8 = omega (arith, picks-are-few s k, sizes-are-within table sound .1 .1) in
-          let going : Goes s k buffer place = record { whole = so .known .whole; runs = so .known .runs; time = time; cores = rw (so .known .same) cores; room = omega arith } in
-          let done : slotOf s k buffer place .said .number < 2 = not-refused-is-done s k buffer place (goes-back s k buffer place going) in
-          let late = not-late s k buffer place so more in
-          bare-unless-late s k buffer place late ∙ ap bare (done-with-0 done late)
+      answers-0 : (s : State) (free : List Bool) (buffer : List ℕ) (place : ℕ) → Kept s → c ≤ size free → namesPast (table .cores) free ≡ false → timeOf s < timeLimit → place + 10 ≤ length buffer →
+          slotOf s free buffer place .said ≡ bare 0
+      answers-0 s free buffer place so more there time room =
+          let few : length (picksIn s (size free)) ≤ 8 = omega (arith, picks-are-few s (size free), size-within (table .cores) free there, sizes-are-within table sound .1 .1) in
+          let going : Goes s free buffer place = record { whole = so .known .whole; runs = so .known .runs; time = time; there = rw (so .known .same) there; room = omega arith } in
+          let done : slotOf s free buffer place .said .number < 2 = not-refused-is-done s free buffer place (goes-back s free buffer place going) in
+          let late = not-late s free buffer place so more in
+          bare-unless-late s free buffer place late ∙ ap bare (done-with-0 done late)
 
 -- The second slot of 01's example with one core free answers 1.
-late-with-one : run (tableIn example) (λ s. 1) (replicate 100 0) 0 2 .said ≡ named 1 2 2
-unfolding ceilDiv howMany those firstFound rising places padded start deadline bit windowLength jobStart heavy stops stopTime atFirst groupDeadline load faultOf tableNumber ready late lower upper before picked given withFront withRecord names broken refusal slotOf run
+late-with-one : run (tableIn example) (λ s. Step.slot (firstCores 1)) (replicate 100 0) 0 2 .said ≡ named 1 2 2
+unfolding ceilDiv howMany those firstFound rising places padded start deadline bit windowLength jobStart heavy stops stopTime atFirst groupDeadline load faultOf tableNumber ready late lower upper before picked given withFront withRecord names misremembers wanted leftOver inTurn coresFor broken refusal slotOf run
 late-with-one = refl
 
 pub never-late : NeverLate

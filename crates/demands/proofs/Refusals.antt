@@ -6,15 +6,20 @@ use mathlib.Core.Bool.{Bool, true, false, true≢false}
 use mathlib.Core.Logic.{_↔_}
 use native.Mathlib.Decide.{decLt}
 use native.Mathlib.Omega.{arith}
-use lib.ListN.{length}
+use borrow.Author.Tests.{lt-ltb, ltb-true}
+use lib.ListN.{length, getD}
 use Rattle.pd2.specs.Choice.{rowAt, quantaAt}
 use Rattle.pd2.proofs.Share.{row-can-be}
+use Rattle.cores.specs.Sets.{size, namesPast}
+use Rattle.cores.specs.Fault.{Remembers}
+use Rattle.cores.proofs.Fault.{misremembers-or-remembers}
+use Rattle.cores.proofs.Past.{past-exactly, there-exactly}
 use Rattle.dispatcher.specs.declared.State.{State}
-use Rattle.dispatcher.specs.State.{rowsIn, quantaIn, timeOf}
+use Rattle.dispatcher.specs.State.{rowsIn, isRow, quantaIn, timeOf}
 use Rattle.dispatcher.specs.Broken.{broken}
 use Rattle.dispatcher.specs.Slot.{picksIn, refusal, slotOf}
-use Rattle.dispatcher.proofs.Whole.{is-whole, is-not-broken}
-use Rattle.dispatcher.proofs.Refused.{lacks-room, has-room-for, first-30, first-31, first-32, first-33, by-room}
+use Rattle.dispatcher.proofs.Whole.{Whole, is-whole, is-not-broken}
+use Rattle.dispatcher.proofs.Refused.{lacks-room, has-room-for, first-30, first-31, first-32, first-35, by-room}
 use Rattle.dispatcher.proofs.Kept.{refused-number, not-refused-is-done}
 use Rattle.demands.specs.One.{NotBroken, BrokenExactly, SlotExactly}
 use Rattle.demands.proofs.Limits.{in-limits}
@@ -29,6 +34,11 @@ broken-exactly s = (
         time = w .time;
         quanta = w .quanta;
         shares = λ runs i l. in-limits (rowAt (rowsIn s) i) (row-can-be (s .table) (w .table) i l) (quantaAt (quantaIn s) i) (timeOf s) .0 (w .shares runs i l);
+        remembered = remembers w .few;
+        cores-there = λ i l. remembers w .core i (omega (arith, l, remembers w .few));
+        cores-apart = λ i j l m. remembers w .apart .cores i j l (omega (arith, m, remembers w .few));
+        rows-there = λ i l. ltb-true (getD (s .last .rows) i 0) (length (rowsIn s)) (remembers w .row i (omega (arith, l, remembers w .few)));
+        rows-apart = λ i j l m. remembers w .apart .rows i j l (omega (arith, m, remembers w .few));
       },
   λ n.
       is-not-broken s
@@ -37,8 +47,19 @@ broken-exactly s = (
         time = n .time;
         quanta = n .quanta;
         shares = λ runs i l. in-limits (rowAt (rowsIn s) i) (row-can-be (s .table) (n .table) i l) (quantaAt (quantaIn s) i) (timeOf s) .1 (n .shares runs i l);
+        memory =
+            misremembers-or-remembers (s .last) (isRow s) (s .table .cores) .1
+            (record {
+              few = n .remembered;
+              apart = record { rows = λ i j l m. n .rows-apart i j l (omega arith); cores = λ i j l m. n .cores-apart i j l (omega arith) };
+              core = λ i l. n .cores-there i (omega arith);
+              row = λ i l. lt-ltb (getD (s .last .rows) i 0) (length (rowsIn s)) (n .rows-there i (omega arith));
+            });
       },
 )
+  where
+    remembers : Whole s → Remembers (s .last) (isRow s) (s .table .cores)
+    remembers w = misremembers-or-remembers (s .last) (isRow s) (s .table .cores) .0 (w .memory)
 
 -- A number that is another one, and a cause that is not there.
 neither-is : {P : Type 0} {number other : ℕ} → (number ≡ other → ⊥) → (P → ⊥) → (number ≡ other) ↔ P
@@ -49,96 +70,103 @@ both-are : {P : Type 0} {number other : ℕ} → number ≡ other → P → (num
 both-are same there = (λ _. there, λ _. same)
 
 -- The causes are gone through in 01's order: each decides the number, or is not there.
-module _ (s : State) (k : ℕ) (buffer : List ℕ) (place : ℕ) where
+module _ (s : State) (free : List Bool) (buffer : List ℕ) (place : ℕ) where
   abbrev number : ℕ
-  number = slotOf s k buffer place .said .number
+  number = slotOf s free buffer place .said .number
 
   abbrev room : ℕ
-  room = place + 2 + length (picksIn s k)
+  room = place + 2 + length (picksIn s (size free))
 
   -- the number is the refusal's
-  says : {n : ℕ} → 1 < n → refusal s k buffer place ≡ n → number ≡ n
-  says {n} above e = refused-number s k buffer place n above .1 e
+  says : {n : ℕ} → 1 < n → refusal s free buffer place ≡ n → number ≡ n
+  says {n} above e = refused-number s free buffer place n above .1 e
 
-  module _ (whole : broken s ≡ false) (runs : s .stopped ≡ false) (slot-left : timeOf s < 1_000_000_000) (enough : k ≤ s .table .cores) where
+  module _ (whole : broken s ≡ false) (runs : s .stopped ≡ false) (slot-left : timeOf s < 1_000_000_000) (there : namesPast (s .table .cores) free ≡ false) where
     fits : NotBroken s
     fits = broken-exactly s .0 whole
 
-    by-place : Dec (length buffer < room) → SlotExactly s k buffer place number
+    below : (core : ℕ) → getD free core false ≡ true → core < s .table .cores
+    below = there-exactly (s .table .cores) free .0 there
+
+    none-past : (core : ℕ) × (getD free core false ≡ true) × (s .table .cores ≤ core) → ⊥
+    none-past f = omega (arith, below (f .0) (f .1), f .2)
+
+    by-place : Dec (length buffer < room) → SlotExactly s free buffer place number
     by-place (yes short) =
-        let lacks = lacks-room buffer place (length (picksIn s k)) short in
-        let said = says (omega arith) (by-room s k buffer place whole runs slot-left enough {lacks = true} lacks) in
+        let lacks = lacks-room buffer place (length (picksIn s (size free))) short in
+        let said = says (omega arith) (by-room s free buffer place whole runs slot-left there {lacks = true} lacks) in
         record {
           is-30 = neither-is (λ e. omega (arith, said, e)) (λ n. n fits);
           is-31 = neither-is (λ e. omega (arith, said, e)) (λ h. true≢false (sym (h .1) ∙ runs));
           is-32 = neither-is (λ e. omega (arith, said, e)) (λ h. omega (arith, h .2, slot-left));
-          is-33 = neither-is (λ e. omega (arith, said, e)) (λ h. omega (arith, h .3, enough));
-          is-34 = both-are said (fits, runs, slot-left, enough, short);
+          is-35 = neither-is (λ e. omega (arith, said, e)) (λ h. none-past (h .3));
+          is-34 = both-are said (fits, runs, slot-left, below, short);
         }
     by-place (no long) =
-        let lacks = has-room-for buffer place (length (picksIn s k)) (omega arith) in
-        let done = not-refused-is-done s k buffer place (by-room s k buffer place whole runs slot-left enough {lacks = false} lacks) in
+        let lacks = has-room-for buffer place (length (picksIn s (size free))) (omega arith) in
+        let done = not-refused-is-done s free buffer place (by-room s free buffer place whole runs slot-left there {lacks = false} lacks) in
         record {
           is-30 = neither-is (λ e. omega (arith, done, e)) (λ n. n fits);
           is-31 = neither-is (λ e. omega (arith, done, e)) (λ h. true≢false (sym (h .1) ∙ runs));
           is-32 = neither-is (λ e. omega (arith, done, e)) (λ h. omega (arith, h .2, slot-left));
-          is-33 = neither-is (λ e. omega (arith, done, e)) (λ h. omega (arith, h .3, enough));
+          is-35 = neither-is (λ e. omega (arith, done, e)) (λ h. none-past (h .3));
           is-34 = neither-is (λ e. omega (arith, done, e)) (λ h. long (h .4));
         }
 
   module _ (whole : broken s ≡ false) (runs : s .stopped ≡ false) where
-    by-cores : timeOf s < 1_000_000_000 → Dec (s .table .cores < k) → SlotExactly s k buffer place number
-    by-cores slot-left (yes many) =
+    by-cores : timeOf s < 1_000_000_000 → (past : Bool) → namesPast (s .table .cores) free ≡ past → SlotExactly s free buffer place number
+    by-cores slot-left true past =
         let fit = broken-exactly s .0 whole in
-        let said = says (omega arith) (first-33 s k buffer place whole runs slot-left many) in
+        let found = past-exactly (s .table .cores) free .0 past in
+        let said = says (omega arith) (first-35 s free buffer place whole runs slot-left past) in
         record {
           is-30 = neither-is (λ e. omega (arith, said, e)) (λ n. n fit);
           is-31 = neither-is (λ e. omega (arith, said, e)) (λ h. true≢false (sym (h .1) ∙ runs));
           is-32 = neither-is (λ e. omega (arith, said, e)) (λ h. omega (arith, h .2, slot-left));
-          is-33 = both-are said (fit, runs, slot-left, many);
-          is-34 = neither-is (λ e. omega (arith, said, e)) (λ h. omega (arith, h .3, many));
+          is-35 = both-are said (fit, runs, slot-left, found);
+          is-34 = neither-is (λ e. omega (arith, said, e)) (λ h. omega (arith, h .3 (found .0) (found .1), found .2));
         }
-    by-cores slot-left (no few) = by-place whole runs slot-left (omega arith) (decLt (length buffer) room)
+    by-cores slot-left false there = by-place whole runs slot-left there (decLt (length buffer) room)
 
-    by-time : Dec (timeOf s < 1_000_000_000) → SlotExactly s k buffer place number
-    by-time (yes slot-left) = by-cores slot-left (decLt (s .table .cores) k)
+    by-time : Dec (timeOf s < 1_000_000_000) → SlotExactly s free buffer place number
+    by-time (yes slot-left) = by-cores slot-left (namesPast (s .table .cores) free) refl
     by-time (no at) =
         let fit = broken-exactly s .0 whole in
         let limit : timeOf s ≡ 1_000_000_000 = omega (arith, fit .time) in
-        let said = says (omega arith) (first-32 s k buffer place whole runs limit) in
+        let said = says (omega arith) (first-32 s free buffer place whole runs limit) in
         record {
           is-30 = neither-is (λ e. omega (arith, said, e)) (λ n. n fit);
           is-31 = neither-is (λ e. omega (arith, said, e)) (λ h. true≢false (sym (h .1) ∙ runs));
           is-32 = both-are said (fit, runs, limit);
-          is-33 = neither-is (λ e. omega (arith, said, e)) (λ h. at (h .2));
+          is-35 = neither-is (λ e. omega (arith, said, e)) (λ h. at (h .2));
           is-34 = neither-is (λ e. omega (arith, said, e)) (λ h. at (h .2));
         }
 
-  by-mark : broken s ≡ false → (stopped : Bool) → s .stopped ≡ stopped → SlotExactly s k buffer place number
+  by-mark : broken s ≡ false → (stopped : Bool) → s .stopped ≡ stopped → SlotExactly s free buffer place number
   by-mark whole false runs = by-time whole runs (decLt (timeOf s) 1_000_000_000)
   by-mark whole true stopped =
       let fit = broken-exactly s .0 whole in
-      let said = says (omega arith) (first-31 s k buffer place whole stopped) in
+      let said = says (omega arith) (first-31 s free buffer place whole stopped) in
       record {
         is-30 = neither-is (λ e. omega (arith, said, e)) (λ n. n fit);
         is-31 = both-are said (fit, stopped);
         is-32 = neither-is (λ e. omega (arith, said, e)) (λ h. true≢false (sym stopped ∙ h .1));
-        is-33 = neither-is (λ e. omega (arith, said, e)) (λ h. true≢false (sym stopped ∙ h .1));
+        is-35 = neither-is (λ e. omega (arith, said, e)) (λ h. true≢false (sym stopped ∙ h .1));
         is-34 = neither-is (λ e. omega (arith, said, e)) (λ h. true≢false (sym stopped ∙ h .1));
       }
 
-  pub slot-exactly : SlotExactly s k buffer place number
+  pub slot-exactly : SlotExactly s free buffer place number
   slot-exactly = go (broken s) refl
     where
-      go : (b : Bool) → broken s ≡ b → SlotExactly s k buffer place number
+      go : (b : Bool) → broken s ≡ b → SlotExactly s free buffer place number
       go false whole = by-mark whole (s .stopped) refl
       go true is-broken =
-          let said = says (omega arith) (first-30 s k buffer place is-broken) in
+          let said = says (omega arith) (first-30 s free buffer place is-broken) in
           let unfit : NotBroken s → ⊥ = λ n. true≢false (sym is-broken ∙ broken-exactly s .1 n) in
           record {
             is-30 = both-are said unfit;
             is-31 = neither-is (λ e. omega (arith, said, e)) (λ h. unfit (h .0));
             is-32 = neither-is (λ e. omega (arith, said, e)) (λ h. unfit (h .0));
-            is-33 = neither-is (λ e. omega (arith, said, e)) (λ h. unfit (h .0));
+            is-35 = neither-is (λ e. omega (arith, said, e)) (λ h. unfit (h .0));
             is-34 = neither-is (λ e. omega (arith, said, e)) (λ h. unfit (h .0));
           }

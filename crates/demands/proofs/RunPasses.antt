@@ -21,7 +21,7 @@ use Rattle.trace.specs.Said.{bare, named}
 use Rattle.trace.proofs.Records.{counted-if-named}
 use Rattle.dispatcher.specs.State.{quantaIn, timeOf, freshOf}
 use Rattle.dispatcher.specs.Slot.{slotOf}
-use Rattle.dispatcher.specs.Run.{Run, run, oneMore}
+use Rattle.dispatcher.specs.Run.{Step, stepOf, Run, run, oneMore}
 use Rattle.dispatcher.proofs.Whole.{is-whole}
 use Rattle.dispatcher.proofs.Kept.{done-is-not-refused, goes, fault-answers-30}
 use Rattle.dispatcher.proofs.RunKept.{going, one-on, first-late, first-late-is-lowest, quanta-are-records}
@@ -50,9 +50,9 @@ module _ (table : Table) (r : Run) (n : ℕ) (clock : timeOf (r .state) ≡ n) (
         checked-by-bytes = λ bytes e t. rw (checked-as-table table (traceOf r) bytes e t) said;
       }
 
-module _ (table : Table) (free : ℕ → ℕ) (buffer : List ℕ) (sound : faultOf table ≡ 0) (starts : firstPlace ≤ length buffer) where
+module _ (table : Table) (steps : ℕ → Step) (buffer : List ℕ) (sound : faultOf table ≡ 0) (starts : firstPlace ≤ length buffer) where
   abbrev at : ℕ → Run
-  at = run table free buffer firstPlace
+  at = run table steps buffer firstPlace
 
   -- A run of m slots that all answered 0.
   module _ (m : ℕ) (e : at m .said .number ≡ 0) where
@@ -62,17 +62,17 @@ module _ (table : Table) (free : ℕ → ℕ) (buffer : List ℕ) (sound : fault
     -- the time is m, and within the limit
     going-clock : (timeOf (at m .state) ≡ m) × (m ≤ slotLimit)
     going-clock =
-        let g = going table free buffer firstPlace sound m e in
+        let g = going table steps buffer firstPlace sound m e in
         (g .clock, omega (arith, g .clock, is-whole (at m .state) (g .whole) .time))
 
     going-written : Written table firstPlace m (at m .bytes) (at m .place)
-    going-written = written-going table free buffer firstPlace sound starts m e
+    going-written = written-going table steps buffer firstPlace sound starts m e
 
     -- every row is within its share at each time, by the records of the trace
     going-shares : (t row : ℕ) → t ≤ m → row < length (rowsOf table) → within (rowAt (rowsOf table) row) (timesNamed going-trace row t) t ≡ true
     going-shares t row k l =
         rw (count-is table m (at m .bytes) (at m .place) going-written (going-clock .1) row t k)
-        (shares-written table free buffer firstPlace sound starts m e row t l k)
+        (shares-written table steps buffer firstPlace sound starts m e row t l k)
 
     -- So the trace passes.
     passes-going : IsTrace table (at m)
@@ -96,17 +96,17 @@ module _ (table : Table) (free : ℕ → ℕ) (buffer : List ℕ) (sound : fault
     -- the time is m + 1, and within the limit
     late-clock : (timeOf (last .state) ≡ m + 1) × (m + 1 ≤ slotLimit)
     late-clock =
-        let on = one-on table free buffer firstPlace m (going table free buffer firstPlace sound m e) e (omega (arith, is-late)) in
+        let on = one-on table steps buffer firstPlace m (going table steps buffer firstPlace sound m e) e (omega (arith, is-late)) in
         (on .2, omega (arith, on .2, is-whole (last .state) (on .0 .whole) .time))
 
     late-written : Written table firstPlace (m + 1) (last .bytes) (last .place)
-    late-written = written-last table free buffer firstPlace sound starts m e (omega (arith, is-late))
+    late-written = written-last table steps buffer firstPlace sound starts m e (omega (arith, is-late))
 
     -- every row is within its share at each time up to m,
     late-shares : (t row : ℕ) → t ≤ m → row < length (rowsOf table) → within (rowAt (rowsOf table) row) (timesNamed late-trace row t) t ≡ true
     late-shares t row k l =
         rw (count-is table (m + 1) (last .bytes) (last .place) late-written (late-clock .1) row t (omega arith))
-        (shares-before table free buffer firstPlace sound starts m e (omega (arith, is-late)) row t l k)
+        (shares-before table steps buffer firstPlace sound starts m e (omega (arith, is-late)) row t l k)
 
     -- so the slots before the last are in time;
     in-time-before : (t : ℕ) → t < m → InTime table late-trace t
@@ -119,7 +119,7 @@ module _ (table : Table) (free : ℕ → ℕ) (buffer : List ℕ) (sound : fault
     -- the trace counts the quanta that the run gave,
     quanta-counted : (i : ℕ) → quantaAt (quantaIn (last .state)) i ≡ timesNamed late-trace i (m + 1)
     quanta-counted i =
-        quanta-are-records table free buffer firstPlace (suc m) i
+        quanta-are-records table steps buffer firstPlace (suc m) i
         ∙ (ap (timesNamedFrom (last .bytes) firstPlace i) (late-clock .0)
         ∙ sym (count-is table (m + 1) (last .bytes) (last .place) late-written (late-clock .1) i (m + 1) (omega arith)))
 
@@ -128,7 +128,7 @@ module _ (table : Table) (free : ℕ → ℕ) (buffer : List ℕ) (sound : fault
     last-readied i l named-there =
         let row = rowAt (rowsOf table) i in
         let one-more = quanta-counted i ∙ counted-if-named late-trace firstPlace i m named-there in
-        let high = first-late table free buffer firstPlace sound m e is-late .2 i l in
+        let high = first-late table steps buffer firstPlace sound m e is-late .2 i l in
         sym (upper-after-quantum-means-ready row (row-can-be table sound i l) (timesNamed late-trace i m) m)
         ∙ subst (λ q. upper row q (m + 1) ≡ true) one-more high
 
@@ -137,12 +137,12 @@ module _ (table : Table) (free : ℕ → ℕ) (buffer : List ℕ) (sound : fault
     lowest-counted =
         same-lowest (λ i. late (rowAt (rowsOf table) i) (quantaAt (quantaIn (last .state)) i) (m + 1)) (tooLate table late-trace (m + 1)) (length (rowsOf table)) (last .said .row)
         (λ i l. ap (λ q. late (rowAt (rowsOf table) i) q (m + 1)) (quanta-counted i))
-        (first-late-is-lowest table free buffer firstPlace sound m e is-late)
+        (first-late-is-lowest table steps buffer firstPlace sound m e is-late)
 
     -- So the check names the same row and time.
     named-late : IsTrace table last
     named-late =
-        let first = first-late table free buffer firstPlace sound m e is-late in
+        let first = first-late table steps buffer firstPlace sound m e is-late in
         let slots = slots-are table (m + 1) (last .bytes) (last .place) late-written (late-clock .1) in
         let well = is-well-formed table (m + 1) (last .bytes) (last .place) late-written (late-clock .1) in
         let said = late-is-said table late-trace m (last .said .row) lowest-counted (first .1) well (slots ∙ add-one m) in-time-before last-readied in
@@ -153,15 +153,15 @@ module _ (table : Table) (free : ℕ → ℕ) (buffer : List ℕ) (sound : fault
         }
 
 -- So of a table without fault, in a buffer with a place for the first record.
-run-of-sound-passes : (table : Table) (free : ℕ → ℕ) (buffer : List ℕ) → faultOf table ≡ 0 → firstPlace ≤ length buffer → (m : ℕ) →
-    run table free buffer firstPlace m .said .number < 2 → IsTrace table (run table free buffer firstPlace m)
-run-of-sound-passes table free buffer sound starts m h = go (run table free buffer firstPlace m .said .number) refl h
+run-of-sound-passes : (table : Table) (steps : ℕ → Step) (buffer : List ℕ) → faultOf table ≡ 0 → firstPlace ≤ length buffer → (m : ℕ) →
+    run table steps buffer firstPlace m .said .number < 2 → IsTrace table (run table steps buffer firstPlace m)
+run-of-sound-passes table steps buffer sound starts m h = go (run table steps buffer firstPlace m .said .number) refl h
   where
-    go : (number : ℕ) → run table free buffer firstPlace m .said .number ≡ number → number < 2 → IsTrace table (run table free buffer firstPlace m)
-    go zero e l = passes-going table free buffer sound starts m e
+    go : (number : ℕ) → run table steps buffer firstPlace m .said .number ≡ number → number < 2 → IsTrace table (run table steps buffer firstPlace m)
+    go zero e l = passes-going table steps buffer sound starts m e
     go (suc zero) e l =
-        let ends = ends-late table free buffer firstPlace m e in
-        rw (ends .same) (named-late table free buffer sound starts (ends .slots) (ends .before) (ends .late))
+        let ends = ends-late table steps buffer firstPlace m e in
+        rw (ends .same) (named-late table steps buffer sound starts (ends .slots) (ends .before) (ends .late))
     go (suc (suc number)) e l = absurd (omega arith)
 
 -- A run of no slots has the empty trace, which passes for every table.
@@ -185,9 +185,9 @@ module _ (table : Table) where
   nothing-is-found : traceSaid table no-records ≡ bare 0
   nothing-is-found = passes-exactly table no-records .1 (empty-is-well-formed, λ t l. absurd (omega arith))
 
-  empty-is-trace : (free : ℕ → ℕ) (buffer : List ℕ) → IsTrace table (run table free buffer firstPlace 0)
+  empty-is-trace : (steps : ℕ → Step) (buffer : List ℕ) → IsTrace table (run table steps buffer firstPlace 0)
   unfolding run
-  empty-is-trace free buffer =
+  empty-is-trace steps buffer =
       let same = no-slots buffer in
       let said : SaysTheSame (bare 0) (traceSaid table no-records) = record { passes = λ z. nothing-is-found; late = λ z. absurd (omega (arith, z)) } in
       record {
@@ -198,38 +198,39 @@ module _ (table : Table) where
         checked-by-bytes = λ bytes e t. rw (same, checked-as-table table no-records bytes e t) said;
       }
 
--- The first slot is refused if the table has a fault, or if the place lies past the buffer,
-module _ (table : Table) (free : ℕ → ℕ) (buffer : List ℕ) where
-  first-refused : (faultOf table ≡ 0 → ⊥) ⊎ (length buffer < firstPlace) → 1 < slotOf (freshOf table) (free 0) buffer firstPlace .said .number
-  first-refused (inl bad) = omega (arith, ap (λ x. x .number) (fault-answers-30 table bad (free 0) buffer firstPlace))
-  first-refused (inr short) = go (decLt (slotOf (freshOf table) (free 0) buffer firstPlace .said .number) 2)
+-- The first step is refused if the table has a fault, or if the place lies past the buffer,
+module _ (table : Table) (buffer : List ℕ) where
+  first-refused : (faultOf table ≡ 0 → ⊥) ⊎ (length buffer < firstPlace) → (step : Step) → 1 < stepOf (freshOf table) step buffer firstPlace .said .number
+  first-refused (inl bad) (Step.slot free) = omega (arith, ap (λ x. x .number) (fault-answers-30 table bad free buffer firstPlace))
+  first-refused (inr short) (Step.slot free) = go (decLt (slotOf (freshOf table) free buffer firstPlace .said .number) 2)
     where
-      go : Dec (slotOf (freshOf table) (free 0) buffer firstPlace .said .number < 2) → 1 < slotOf (freshOf table) (free 0) buffer firstPlace .said .number
-      go (yes done) = absurd (omega (arith, goes (freshOf table) (free 0) buffer firstPlace (done-is-not-refused (freshOf table) (free 0) buffer firstPlace done) .room))
+      go : Dec (slotOf (freshOf table) free buffer firstPlace .said .number < 2) → 1 < slotOf (freshOf table) free buffer firstPlace .said .number
+      go (yes done) = absurd (omega (arith, goes (freshOf table) free buffer firstPlace (done-is-not-refused (freshOf table) free buffer firstPlace done) .room))
       go (no refused) = omega arith
 
-  -- and then so is the last answer of every run with a slot.
-  all-refused : 1 < slotOf (freshOf table) (free 0) buffer firstPlace .said .number → (m : ℕ) → 1 < run table free buffer firstPlace (suc m) .said .number
+module _ (table : Table) (steps : ℕ → Step) (buffer : List ℕ) where
+  -- and then so is the last answer of every run with a step.
+  all-refused : 1 < stepOf (freshOf table) (steps 0) buffer firstPlace .said .number → (m : ℕ) → 1 < run table steps buffer firstPlace (suc m) .said .number
   unfolding run
   all-refused h zero = h
-  all-refused h (suc m) = go (run table free buffer firstPlace (suc m)) (all-refused h m)
+  all-refused h (suc m) = go (run table steps buffer firstPlace (suc m)) (all-refused h m)
     where
-      go : (r : Run) → 1 < r .said .number → 1 < oneMore (r .said .number) r (free (suc m)) .said .number
+      go : (r : Run) → 1 < r .said .number → 1 < oneMore (r .said .number) r (steps (suc m)) .said .number
       go r l = stays (r .said .number) refl l
         where
-          stays : (number : ℕ) → r .said .number ≡ number → 1 < number → 1 < oneMore number r (free (suc m)) .said .number
+          stays : (number : ℕ) → r .said .number ≡ number → 1 < number → 1 < oneMore number r (steps (suc m)) .said .number
           stays zero e l = absurd (omega arith)
           stays (suc number) e l = rw e l
 
 -- D5: the trace of a run passes the check, or the check names the row and the time that the run named.
 pub run-passes : RunPasses
-run-passes table free buffer m h = go m h (ℕ-discrete (faultOf table) 0) (decLe firstPlace (length buffer))
+run-passes table steps buffer m h = go m h (ℕ-discrete (faultOf table) 0) (decLe firstPlace (length buffer))
   where
-    refused : (m : ℕ) → (faultOf table ≡ 0 → ⊥) ⊎ (length buffer < firstPlace) → run table free buffer firstPlace m .said .number < 2 → IsTrace table (run table free buffer firstPlace m)
-    refused zero why l = empty-is-trace table free buffer
-    refused (suc m) why l = absurd (omega (arith, all-refused table free buffer (first-refused table free buffer why) m))
+    refused : (m : ℕ) → (faultOf table ≡ 0 → ⊥) ⊎ (length buffer < firstPlace) → run table steps buffer firstPlace m .said .number < 2 → IsTrace table (run table steps buffer firstPlace m)
+    refused zero why l = empty-is-trace table steps buffer
+    refused (suc m) why l = absurd (omega (arith, all-refused table steps buffer (first-refused table buffer why (steps 0)) m))
 
-    go : (m : ℕ) → run table free buffer firstPlace m .said .number < 2 → Dec (faultOf table ≡ 0) → Dec (firstPlace ≤ length buffer) → IsTrace table (run table free buffer firstPlace m)
-    go m l (yes sound) (yes starts) = run-of-sound-passes table free buffer sound starts m l
+    go : (m : ℕ) → run table steps buffer firstPlace m .said .number < 2 → Dec (faultOf table ≡ 0) → Dec (firstPlace ≤ length buffer) → IsTrace table (run table steps buffer firstPlace m)
+    go m l (yes sound) (yes starts) = run-of-sound-passes table steps buffer sound starts m l
     go m l (no bad) starts = refused m (inl bad) l
     go m l (yes sound) (no short) = refused m (inr (omega arith)) l

@@ -2,9 +2,9 @@
 use Prim.Native.Nat.{ℕ}
 use mathlib.Core.Path.{_≡_, refl, sym, ap, _∙_}
 use mathlib.Core.List.{List, [], _∷_}
-use mathlib.Core.Bool.{true}
+use mathlib.Core.Bool.{Bool, true}
 use native.Mathlib.Omega.{arith}
-use lib.ListN.{getD, replicate}
+use lib.ListN.{length, getD, take, replicate}
 use Rattle.facts.specs.Rounding.{ceilDiv}
 use Rattle.facts.specs.First.{atFirst}
 use Rattle.facts.specs.Counting.{howMany, those}
@@ -22,12 +22,16 @@ use Rattle.pd2.specs.Share.{lower, upper}
 use Rattle.pd2.specs.Order.{before}
 use Rattle.pd2.specs.Picks.{picked}
 use Rattle.pd2.specs.Choice.{given}
-use Rattle.trace.specs.Record.{withFront, withRecord}
+use Rattle.trace.specs.Record.{marked, withFront, withRecord}
 use Rattle.trace.specs.Records.{placeOf, rowsAt, names}
 use Rattle.trace.specs.Said.{bare, named}
 use Rattle.trace.proofs.Names.{named-at}
+use Rattle.cores.specs.Sets.{firstCores}
+use Rattle.cores.specs.Placement.{coresPlaced, placement}
 use Rattle.dispatcher.specs.declared.State.{State}
 use Rattle.dispatcher.specs.State.{timeOf, freshOf}
+use Rattle.cores.specs.Fault.{misremembers}
+use Rattle.cores.specs.Cores.{wanted, leftOver, inTurn, coresFor}
 use Rattle.dispatcher.specs.Broken.{broken}
 use Rattle.dispatcher.specs.Slot.{SlotReply, refusal, slotOf}
 use Rattle.checker.specs.Causes.{badRows}
@@ -41,11 +45,23 @@ use Rattle.demands.proofs.Two.{picks-are-pd2s}
 abbrev blank : List ℕ
 blank = replicate 10 0
 
+abbrev both-cores : List Bool
+both-cores = firstCores 2
+
 abbrev slot0 : SlotReply
-slot0 = slotOf (freshOf (tableIn example)) 2 blank 0
+slot0 = slotOf (freshOf (tableIn example)) both-cores blank 0
 
 abbrev slot1 : SlotReply
-slot1 = slotOf (slot0 .state) 2 blank 0
+slot1 = slotOf (slot0 .state) both-cores blank 0
+
+-- slot 1 once more, if in slot 0 rows 0 and 1 had run on cores 1 and 0: row 0 stays on core 1
+abbrev afterSwap : State
+afterSwap =
+    let s = slot0 .state in
+    record { table = s .table; time = s .time; stopped = s .stopped; quanta = s .quanta; last = placement (0 ∷ 1 ∷ []) (1 ∷ 0 ∷ []) }
+
+abbrev swapped : SlotReply
+swapped = slotOf afterSwap both-cores blank 0
 
 -- its trace with rows 0 and 1 again in slot 1: then row 2 has had nothing by time 2
 abbrev lateTrace : List ℕ
@@ -57,20 +73,26 @@ record Computed : Type 0 where
   said0 : slot0 .said ≡ bare 0
   rows0 : rowsAt (slot0 .bytes) 0 ≡ 0 ∷ 1 ∷ []
   time0 : timeOf (slot0 .state) ≡ 1
-  again : slotOf (freshOf (slot0 .state .table)) 2 blank 0 .bytes ≡ slot0 .bytes
+  again : slotOf (freshOf (slot0 .state .table)) both-cores blank 0 .bytes ≡ slot0 .bytes
   said1 : slot1 .said ≡ bare 0
   rows1 : rowsAt (slot1 .bytes) 0 ≡ 0 ∷ 2 ∷ []
+  cores0 : coresPlaced (slot0 .placed) ≡ 0 ∷ 1 ∷ []
+  remembered0 : slot0 .state .last .count ≡ 2
+  cores-swapped : coresPlaced (swapped .placed) ≡ 1 ∷ 0 ∷ []
+  said-swapped : swapped .said ≡ bare 0
+  can-swapped : Possible afterSwap both-cores blank 0
+  lowest-two : take (length (rowsAt (swapped .bytes) 0)) (marked both-cores) ≡ 0 ∷ 1 ∷ []
   passes : checkOf example exampleTrace ≡ bare 0
   late : checkOf example lateTrace ≡ named 45 2 2
   bytes : Bytes example
   trace-bytes : Bytes exampleTrace
   late-bytes : Bytes lateTrace
-  can0 : Possible (freshOf (tableIn example)) 2 blank 0
-  can1 : Possible (slot0 .state) 2 blank 0
-  can-again : Possible (freshOf (slot0 .state .table)) 2 blank 0
+  can0 : Possible (freshOf (tableIn example)) both-cores blank 0
+  can1 : Possible (slot0 .state) both-cores blank 0
+  can-again : Possible (freshOf (slot0 .state .table)) both-cores blank 0
 
 computed : Computed
-unfolding allBelow rowsFit ceilDiv atFirst howMany those firstFound rising places padded start deadline bit windowLength jobStart heavy stops stopTime groupDeadline load faultOf tableNumber reading ready late lower upper before picked given withFront withRecord placeOf names broken refusal slotOf badRows recordsFindings traceSaid checkOf
+unfolding allBelow rowsFit ceilDiv atFirst howMany those firstFound rising places padded start deadline bit windowLength jobStart heavy stops stopTime groupDeadline load faultOf tableNumber reading ready late lower upper before picked given withFront withRecord placeOf names misremembers wanted leftOver inTurn coresFor broken refusal slotOf badRows recordsFindings traceSaid checkOf
 computed =
     record {
       taken = refl;
@@ -81,14 +103,20 @@ computed =
       again = refl;
       said1 = refl;
       rows1 = refl;
+      cores0 = refl;
+      remembered0 = refl;
+      cores-swapped = refl;
+      said-swapped = refl;
+      can-swapped = record { boards = refl; rows = refl; quanta = refl; table = refl; counts = refl; last-rows = refl; last-cores = refl; remembered = refl; marks = refl; bytes = refl };
+      lowest-two = refl;
       passes = refl;
       late = refl;
       bytes = refl;
       trace-bytes = refl;
       late-bytes = refl;
-      can0 = record { boards = refl; rows = refl; quanta = refl; table = refl; counts = refl; free = refl; bytes = refl };
-      can1 = record { boards = refl; rows = refl; quanta = refl; table = refl; counts = refl; free = refl; bytes = refl };
-      can-again = record { boards = refl; rows = refl; quanta = refl; table = refl; counts = refl; free = refl; bytes = refl };
+      can0 = record { boards = refl; rows = refl; quanta = refl; table = refl; counts = refl; last-rows = refl; last-cores = refl; remembered = refl; marks = refl; bytes = refl };
+      can1 = record { boards = refl; rows = refl; quanta = refl; table = refl; counts = refl; last-rows = refl; last-cores = refl; remembered = refl; marks = refl; bytes = refl };
+      can-again = record { boards = refl; rows = refl; quanta = refl; table = refl; counts = refl; last-rows = refl; last-cores = refl; remembered = refl; marks = refl; bytes = refl };
     }
 
 -- A dispatcher answers and writes in the example's slots 0 and 1 what the definition says.
@@ -96,21 +124,34 @@ module _ (slot : Dispatcher) (is : IsDispatcher slot) where
   abbrev fresh : State
   fresh = freshOf (tableIn example)
 
-  number0 : numberOf (slot fresh 2 blank 0) ≡ 0
-  number0 = ap (λ x. x .number) (is fresh 2 blank 0 (computed .can0) .0 ∙ computed .said0)
+  number0 : numberOf (slot fresh both-cores blank 0) ≡ 0
+  number0 = ap (λ x. x .number) (is fresh both-cores blank 0 (computed .can0) .0 ∙ computed .said0)
 
-  rows0 : rowsWritten (slot fresh 2 blank 0) 0 ≡ 0 ∷ 1 ∷ []
-  rows0 = ap (λ b. rowsAt b 0) (is fresh 2 blank 0 (computed .can0) .2) ∙ computed .rows0
+  rows0 : rowsWritten (slot fresh both-cores blank 0) 0 ≡ 0 ∷ 1 ∷ []
+  rows0 = ap (λ b. rowsAt b 0) (is fresh both-cores blank 0 (computed .can0) .3) ∙ computed .rows0
 
-  number1 : numberOf (slot (slot0 .state) 2 blank 0) ≡ 0
-  number1 = ap (λ x. x .number) (is (slot0 .state) 2 blank 0 (computed .can1) .0 ∙ computed .said1)
+  number1 : numberOf (slot (slot0 .state) both-cores blank 0) ≡ 0
+  number1 = ap (λ x. x .number) (is (slot0 .state) both-cores blank 0 (computed .can1) .0 ∙ computed .said1)
 
-  rows1 : rowsWritten (slot (slot0 .state) 2 blank 0) 0 ≡ 0 ∷ 2 ∷ []
-  rows1 = ap (λ b. rowsAt b 0) (is (slot0 .state) 2 blank 0 (computed .can1) .2) ∙ computed .rows1
+  rows1 : rowsWritten (slot (slot0 .state) both-cores blank 0) 0 ≡ 0 ∷ 2 ∷ []
+  rows1 = ap (λ b. rowsAt b 0) (is (slot0 .state) both-cores blank 0 (computed .can1) .3) ∙ computed .rows1
 
   -- slot 0 once more, from a fresh state of the table that slot 0 gave back
-  rows-again : rowsWritten (slot (freshOf (slot0 .state .table)) 2 blank 0) 0 ≡ 0 ∷ 1 ∷ []
-  rows-again = ap (λ b. rowsAt b 0) (is (freshOf (slot0 .state .table)) 2 blank 0 (computed .can-again) .2 ∙ computed .again) ∙ computed .rows0
+  rows-again : rowsWritten (slot (freshOf (slot0 .state .table)) both-cores blank 0) 0 ≡ 0 ∷ 1 ∷ []
+  rows-again = ap (λ b. rowsAt b 0) (is (freshOf (slot0 .state .table)) both-cores blank 0 (computed .can-again) .3 ∙ computed .again) ∙ computed .rows0
+
+  cores0 : coresPlaced (slot fresh both-cores blank 0 .0 .placed) ≡ coresPlaced (slot0 .placed)
+  cores0 = ap coresPlaced (is fresh both-cores blank 0 (computed .can0) .1)
+
+  number-swapped : numberOf (slot afterSwap both-cores blank 0) ≡ 0
+  number-swapped = ap (λ x. x .number) (is afterSwap both-cores blank 0 (computed .can-swapped) .0 ∙ computed .said-swapped)
+
+  cores-swapped : coresPlaced (slot afterSwap both-cores blank 0 .0 .placed) ≡ 1 ∷ 0 ∷ []
+  cores-swapped = ap coresPlaced (is afterSwap both-cores blank 0 (computed .can-swapped) .1) ∙ computed .cores-swapped
+
+  -- two rows run then, and the two lowest free cores are 0 and 1
+  lowest : take (length (rowsWritten (slot afterSwap both-cores blank 0) 0)) (marked both-cores) ≡ 0 ∷ 1 ∷ []
+  lowest = ap (λ b. take (length (rowsAt b 0)) (marked both-cores)) (is afterSwap both-cores blank 0 (computed .can-swapped) .3) ∙ computed .lowest-two
 
   names1 : names (0 ∷ 1 ∷ []) 1 ≡ true
   names1 = named-at (0 ∷ 1 ∷ []) 1 (omega arith)
@@ -120,23 +161,32 @@ module _ (slot : Dispatcher) (is : IsDispatcher slot) where
   second rows = getD rows 1 7
 
   gives-as-recorded : GivesAsRecorded slot
-  gives-as-recorded s k buffer place can done i =
-      let so = is s k buffer place can in
-      let picks = picks-are-pd2s s k buffer place (omega (arith, done, ap (λ x. x .number) (so .0))) in
-      rw (so .1, so .2) (picks .quanta (can .quanta) i)
+  gives-as-recorded s free buffer place can done i =
+      let so = is s free buffer place can in
+      let picks = picks-are-pd2s s free buffer place (omega (arith, done, ap (λ x. x .number) (so .0))) in
+      rw (so .2, so .3) (picks .quanta (can .quanta) i)
 
   shut-out-of : ShutOutOf slot
   unfolding second
   shut-out-of =
       record {
-        refuses-all = λ h. omega (arith, number0, h fresh 2 blank 0 (computed .can0));
-        picks-nobody = λ h. let z : _≡_ {A = ℕ} 1 7 = ap second (sym rows0 ∙ h fresh 2 blank 0 (computed .can0) (omega (arith, number0))) in omega arith;
-        always-row-0 = λ h. let z : _≡_ {A = ℕ} 1 0 = h fresh 2 blank 0 (computed .can0) (omega (arith, number0)) 1 (ap (λ rows. names rows 1) rows0 ∙ names1) in omega arith;
+        refuses-all = λ h. omega (arith, number0, h fresh both-cores blank 0 (computed .can0));
+        picks-nobody = λ h. let z : _≡_ {A = ℕ} 1 7 = ap second (sym rows0 ∙ h fresh both-cores blank 0 (computed .can0) (omega (arith, number0))) in omega arith;
+        always-row-0 = λ h. let z : _≡_ {A = ℕ} 1 0 = h fresh both-cores blank 0 (computed .can0) (omega (arith, number0)) 1 (ap (λ rows. names rows 1) rows0 ∙ names1) in omega arith;
         changes-nothing = λ h.
-            let z : _≡_ {A = ℕ} 1 0 = sym (ap timeOf (is fresh 2 blank 0 (computed .can0) .1) ∙ computed .time0) ∙ ap timeOf (h fresh 2 blank 0 (computed .can0) number0 .0) in
+            let z : _≡_ {A = ℕ} 1 0 = sym (ap timeOf (is fresh both-cores blank 0 (computed .can0) .2) ∙ computed .time0) ∙ ap timeOf (h fresh both-cores blank 0 (computed .can0) number0 .0) in
             omega arith;
-        repeats-slot-0 = λ h. let z : _≡_ {A = ℕ} 2 1 = ap second (sym rows1 ∙ (h (slot0 .state) 2 blank 0 (computed .can1) (omega (arith, number1)) ∙ rows-again)) in omega arith;
+        repeats-slot-0 = λ h. let z : _≡_ {A = ℕ} 2 1 = ap second (sym rows1 ∙ (h (slot0 .state) both-cores blank 0 (computed .can1) (omega (arith, number1)) ∙ rows-again)) in omega arith;
         gives-as-recorded = gives-as-recorded;
+        places-nobody = λ h.
+            let z : _≡_ {A = ℕ} 1 7 = ap second (sym (cores0 ∙ computed .cores0) ∙ h fresh both-cores blank 0 (computed .can0) (omega (arith, number0))) in
+            omega arith;
+        lowest-in-turn = λ h.
+            let z : _≡_ {A = ℕ} 0 1 = ap second (sym cores-swapped ∙ (h afterSwap both-cores blank 0 (computed .can-swapped) (omega (arith, number-swapped)) ∙ lowest)) in
+            omega arith;
+        remembers-nothing = λ h.
+            let z : _≡_ {A = ℕ} 2 0 = sym (ap (λ x. x .last .count) (is fresh both-cores blank 0 (computed .can0) .2) ∙ computed .remembered0) ∙ h fresh both-cores blank 0 (computed .can0) (omega (arith, number0)) in
+            omega arith;
       }
 
 -- What the definitions say of the example and of the two traces, said of a number that is equal.

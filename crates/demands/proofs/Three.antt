@@ -2,7 +2,7 @@
 use Prim.Native.Nat.{ℕ, _*_, _<_, zero-le}
 use mathlib.Core.Path.{_≡_, refl, sym, ap, _∙_, subst}
 use mathlib.Core.List.{List}
-use mathlib.Core.Bool.{true, false, true≢false}
+use mathlib.Core.Bool.{Bool, true, false, true≢false}
 use mathlib.Core.Logic.{_↔_}
 use native.Mathlib.Decide.{decLt, ℕ-discrete}
 use native.Mathlib.Nat.{mul-zero, div-le-self}
@@ -23,6 +23,7 @@ use Rattle.dispatcher.specs.declared.State.{State}
 use Rattle.dispatcher.specs.State.{rowsIn, quantaIn, timeOf, freshOf}
 use Rattle.dispatcher.specs.Broken.{broken}
 use Rattle.dispatcher.specs.Slot.{slotOf}
+use Rattle.dispatcher.specs.Run.{Step}
 use Rattle.dispatcher.proofs.Whole.{is-whole, nothing-given}
 use Rattle.dispatcher.proofs.Kept.{After, refusal-changes-nothing, done-makes-the-step, done-keeps-whole, fresh-is-whole, fault-answers-30}
 use Rattle.dispatcher.proofs.RunKept.{one-when-late, quanta-are-records, records-stand-in-turn}
@@ -65,33 +66,33 @@ pub fresh-runs : (table : Table) → faultOf table ≡ 0 → Running table (fres
 fresh-runs table sound = record { same = refl; whole = fresh-is-whole table .1 sound; runs = refl }
 
 -- and a slot that does not report a row late keeps it: it is done with 0, or refused and changes nothing.
-pub still-runs : (table : Table) (s : State) (k : ℕ) (buffer : List ℕ) (place : ℕ) → Running table s → (slotOf s k buffer place .said .number ≡ 1 → ⊥) →
-    Running table (slotOf s k buffer place .state)
-still-runs table s k buffer place so not-late = go (decLt (slotOf s k buffer place .said .number) 2)
+pub still-runs : (table : Table) (s : State) (free : List Bool) (buffer : List ℕ) (place : ℕ) → Running table s → (slotOf s free buffer place .said .number ≡ 1 → ⊥) →
+    Running table (slotOf s free buffer place .state)
+still-runs table s free buffer place so not-late = go (decLt (slotOf s free buffer place .said .number) 2)
   where
-    go : Dec (slotOf s k buffer place .said .number < 2) → Running table (slotOf s k buffer place .state)
+    go : Dec (slotOf s free buffer place .said .number < 2) → Running table (slotOf s free buffer place .state)
     go (yes done) =
-        let after = done-keeps-whole s k buffer place done in
+        let after = done-keeps-whole s free buffer place done in
         record {
-          same = ap (λ x. x .state .table) (done-makes-the-step s k buffer place done) ∙ so .same;
+          same = ap (λ x. x .state .table) (done-makes-the-step s free buffer place done) ∙ so .same;
           whole = after .whole;
           runs = after .runs-on (done-with-0 done not-late);
         }
-    go (no refused) = subst (Running table) (sym (refusal-changes-nothing s k buffer place (omega arith) .0)) so
+    go (no refused) = subst (Running table) (sym (refusal-changes-nothing s free buffer place (omega arith) .0)) so
 
 -- So it is known as long as no row is reported late.
 running : (table : Table) (s : State) → faultOf table ≡ 0 → FromFresh table s → Running table s
 running table _ sound FromFresh.start = fresh-runs table sound
-running table _ sound (FromFresh.slot s k buffer place from not-late) = still-runs table s k buffer place (running table s sound from) not-late
+running table _ sound (FromFresh.step s (Step.slot free) buffer place from not-late) = still-runs table s free buffer place (running table s sound from) not-late
 
 -- A table with a fault stays fresh: each slot answers 30.
 stays-fresh : (table : Table) (s : State) → (faultOf table ≡ 0 → ⊥) → FromFresh table s → s ≡ freshOf table
 stays-fresh table _ bad FromFresh.start = refl
-stays-fresh table _ bad (FromFresh.slot s k buffer place from not-late) =
+stays-fresh table _ bad (FromFresh.step s (Step.slot free) buffer place from not-late) =
     let same = stays-fresh table s bad from in
-    let said : slotOf s k buffer place .said .number ≡ 30 =
-    ap (λ x. slotOf x k buffer place .said .number) same ∙ ap (λ x. x .number) (fault-answers-30 table bad k buffer place) in
-    refusal-changes-nothing s k buffer place (omega (arith, said)) .0 ∙ same
+    let said : slotOf s free buffer place .said .number ≡ 30 =
+    ap (λ x. slotOf x free buffer place .said .number) same ∙ ap (λ x. x .number) (fault-answers-30 table bad free buffer place) in
+    refusal-changes-nothing s free buffer place (omega (arith, said)) .0 ∙ same
 
 -- and at time 0 nothing is more or less than any row's limits.
 nothing-in-limits : (row : Row) → InLimits row 0 0
@@ -143,9 +144,9 @@ module _ (said : Said) (s : State) (after : After s said) (done : said .number <
 
 -- And so of the table that it began with.
 reports-late : ReportsLate
-reports-late s k buffer place done =
-    subst (λ x. Reports x (slotOf s k buffer place .said) (slotOf s k buffer place .state)) (ap (λ x. x .state .table) (done-makes-the-step s k buffer place done))
-    (reports (slotOf s k buffer place .said) (slotOf s k buffer place .state) (done-keeps-whole s k buffer place done) done)
+reports-late s free buffer place done =
+    subst (λ x. Reports x (slotOf s free buffer place .said) (slotOf s free buffer place .state)) (ap (λ x. x .state .table) (done-makes-the-step s free buffer place done))
+    (reports (slotOf s free buffer place .said) (slotOf s free buffer place .state) (done-keeps-whole s free buffer place done) done)
 
 pub demand-three : DemandThree
 demand-three =

@@ -19,6 +19,7 @@ use Rattle.trace.specs.Records.{freeAt, rowsAt, names}
 use Rattle.trace.specs.Said.{bare}
 use Rattle.trace.proofs.Names.{listed-are-named}
 use Rattle.trace.proofs.Agree.{still-as-long, agrees-before, agrees-behind, free-written, rows-written}
+use Rattle.cores.specs.Sets.{size}
 use Rattle.dispatcher.specs.State.{rowsIn, quantaIn, timeOf}
 use Rattle.dispatcher.specs.Slot.{picksIn}
 use Rattle.dispatcher.proofs.Whole.{is-whole}
@@ -32,9 +33,10 @@ use Rattle.demands.specs.Two.{PicksArePd2s, PassesExactly, DemandTwo}
 
 -- A slot that is done was not refused: its state is whole and its record has room.
 pub picks-are-pd2s : PicksArePd2s
-picks-are-pd2s s k buffer place done =
-    let so = goes s k buffer place (done-is-not-refused s k buffer place done) in
-    let step = done-makes-the-step s k buffer place done in
+picks-are-pd2s s free buffer place done =
+    let k = size free in
+    let so = goes s free buffer place (done-is-not-refused s free buffer place done) in
+    let step = done-makes-the-step s free buffer place done in
     let bytes = ap (λ x. x .bytes) step in
     let state = ap (λ x. x .state) step in
     let rows = ap (λ b. rowsAt b place) bytes ∙ rows-written buffer place k (picksIn s k) (so .room) in
@@ -50,11 +52,11 @@ picks-are-pd2s s k buffer place done =
       free = ap (λ b. freeAt b place) bytes ∙ free-written buffer place k (picksIn s k) (so .room);
       rows = rows;
       best = picks-are-best (readyIn (rowsIn s) (quantaIn s) (timeOf s)) (goesBeforeBy before (rowsIn s) (quantaIn s)) (length (rowsIn s)) k (pd2-is-strict (rowsIn s) (quantaIn s) (timeOf s) (length (rowsIn s)));
-      quanta = λ long i. ap (λ x. quantaAt (quantaIn x) i) state ∙ rw rows (quanta-after s k (is-whole s (so .whole)) long i);
+      quanta = λ long i. ap (λ x. quantaAt (quantaIn x) i) state ∙ rw rows (quanta-after s free (is-whole s (so .whole)) long i);
       time = ap timeOf state;
-      ready = λ i h. named-is-ready s k i (sym (ap (λ l. names l i) rows) ∙ h);
-      stops = done-keeps-whole s k buffer place done .stops;
-      runs-on = done-keeps-whole s k buffer place done .runs-on;
+      ready = λ i h. named-is-ready s free i (sym (ap (λ l. names l i) rows) ∙ h);
+      stops = done-keeps-whole s free buffer place done .stops;
+      runs-on = done-keeps-whole s free buffer place done .runs-on;
     }
 
 -- The bytes of a table that is taken are checked as the table is; where it is not taken, nothing passes.

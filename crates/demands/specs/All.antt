@@ -11,6 +11,7 @@ use Rattle.demands.specs.Laws.{LawsHold}
 use Rattle.demands.specs.Confession.{Confession}
 use Rattle.demands.specs.ShutOut.{ShutOut}
 use Rattle.demands.specs.NeverLate.{NeverLate}
+use Rattle.demands.specs.Cores.{Cores}
 
 pub record All : Type 0 where
   -- "any two results allowed are equal", of every public function
@@ -32,3 +33,5 @@ pub record All : Type 0 where
   pub shut-out : ShutOut
   -- what a planner may count on
   pub never-late : NeverLate
+  -- "a core for each picked row, with as few moves as can be"
+  pub cores : Cores

@@ -15,7 +15,8 @@ use Rattle.table.specs.Bytes.{tableNumber, tableIn}
 use Rattle.table.specs.Example.{example}
 use Rattle.trace.specs.Records.{rowsAt, namedIn, firstPlace}
 use Rattle.trace.specs.Said.{Said, bare, named}
-use Rattle.dispatcher.specs.Run.{Run, run}
+use Rattle.cores.specs.Sets.{firstCores}
+use Rattle.dispatcher.specs.Run.{Step, Run, run}
 use Rattle.checker.specs.Check.{checkOf}
 use Rattle.demands.specs.RunPasses.{traceOf}
 
@@ -37,9 +38,13 @@ box cycle cores rows =
       rows = rows ++ replicate (rowLimit - length rows) zeroRow;
     }
 
+-- a slot with the first k cores free
+abbrev pub slotWith : ℕ → Step
+slotWith k = Step.slot (firstCores k)
+
 -- slots from a fresh state, with these numbers of cores free one after the other, in a buffer of 100 bytes
 abbrev pub runOf : Table → List ℕ → Run
-runOf table free = run table (λ s. getD free s 0) (replicate 100 0) 0 (length free)
+runOf table free = run table (λ s. slotWith (getD free s 0)) (replicate 100 0) 0 (length free)
 
 -- "Its trace is `03000000 02020001 02020002 02020102`."
 abbrev pub exampleTrace : List ℕ
@@ -91,7 +96,7 @@ holds (runs table m slots) =
     let row : ℕ = 0 in
     sameSaid (r .said) (bare 0) && same (those (namedIn (r .bytes) place row) m) slots
 holds (traced bytes k m trace) =
-    same (traceOf (run (tableIn bytes) (λ s. k) (replicate 100 0) firstPlace m)) trace && sameSaid (checkOf bytes trace) (bare 0)
+    same (traceOf (run (tableIn bytes) (λ s. slotWith k) (replicate 100 0) firstPlace m)) trace && sameSaid (checkOf bytes trace) (bare 0)
 holds (table-read bytes number) = eqb (tableNumber bytes) number
 
 unfoldable pub allHold : List Line → Bool

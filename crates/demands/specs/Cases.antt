@@ -37,7 +37,7 @@ pub record SlotCases : Type 0 where
   pub broken : saidOf slot.Broken ≡ bare 30
   pub stopped : saidOf slot.Stopped ≡ bare 31
   pub at-limit : saidOf slot.AtLimit ≡ bare 32
-  pub too-many-cores : saidOf slot.TooManyCores ≡ bare 33
+  pub no-such-core : saidOf slot.NoSuchCore ≡ bare 35
   pub no-room : saidOf slot.NoRoom ≡ bare 34
 
 -- a check: the table's refusals,

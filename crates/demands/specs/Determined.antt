@@ -11,12 +11,13 @@ use Rattle.table.specs.declared.Row.{Row}
 use Rattle.table.specs.declared.Table.{Table}
 use Rattle.pd2.specs.declared.Verdict.{Verdict}
 use Rattle.trace.specs.declared.Stored.{Stored}
+use Rattle.cores.specs.declared.Placement.{Placement}
 use Rattle.dispatcher.specs.declared.State.{State}
 use Rattle.dispatcher.specs.declared.Answer.{Answer}
 use Rattle.dispatcher.specs.declared.Outcome.{Outcome}
 use Rattle.checker.specs.declared.Answer.{Answer as Checked}
 use Rattle.printer.specs.declared.Printed.{Printed}
-use Rattle.demands.specs.Promises.{counts·Slot·at, counts·Slot·time, counts·Slot·later, counts·Slot·before, counts·Slot·since, counts·Quanta·of, counts·Quanta·count, counts·Quanta·one-more, counts·Quanta·next-subtask, counts·Subtask·numbered, counts·Subtask·number, counts·Subtask·next, counts·Subtask·quanta-before, fields·byte, fields·half, fields·word, windows·window, windows·next-due, windows·next-start, windows·next-job-start, windows·next-group-deadline, table·read, table·fault, pd2·Verdict·is-yes, pd2·origin, pd2·ready, pd2·late, pd2·within, pd2·give, pd2·lowest-late, trace·write, trace·record, trace·begins, choice·picks, dispatcher·Answer·told, dispatcher·State·fresh, dispatcher·State·slot, checker·check, checker·number, firmware·zb-table-check, firmware·zb-trace-check, printer·Printed·length, printer·print, slots-run·zb-slots}
+use Rattle.demands.specs.Promises.{counts·Slot·at, counts·Slot·time, counts·Slot·later, counts·Slot·before, counts·Slot·since, counts·Quanta·of, counts·Quanta·count, counts·Quanta·one-more, counts·Quanta·next-subtask, counts·Subtask·numbered, counts·Subtask·number, counts·Subtask·next, counts·Subtask·quanta-before, fields·byte, fields·half, fields·word, windows·window, windows·next-due, windows·next-start, windows·next-job-start, windows·next-group-deadline, table·read, table·fault, pd2·Verdict·is-yes, pd2·origin, pd2·ready, pd2·late, pd2·within, pd2·give, pd2·lowest-late, trace·write, trace·record, trace·begins, choice·picks, cores·Placement·nobody, cores·Placement·is-faulty, cores·how-many, cores·names-past, cores·first, cores·place, dispatcher·Answer·told, dispatcher·State·fresh, dispatcher·State·slot, checker·check, checker·number, firmware·zb-table-check, firmware·zb-trace-check, printer·Printed·length, printer·print, slots-run·zb-slots}
 
 pub record EveryPromiseDetermines : Type 0 where
   pub counts-Slot-at : (time : ℕ) → Determined (counts·Slot·at time)
@@ -54,9 +55,15 @@ pub record EveryPromiseDetermines : Type 0 where
   pub trace-record-but-for-its-name : (trace : List ℕ) (trace-ptr : ℕ × ℕ) (slot : Slot) (name : ℕ) → Determined (λ r. (r .name ≡ name) × trace·record trace trace-ptr slot r)
   pub trace-begins : (trace : List ℕ) (slot : Slot) → Determined (trace·begins trace slot)
   pub choice-picks : (rows : List Row) (quanta : List Quanta) (n : ℕ) (time : Slot) (k : ℕ) → Determined (choice·picks rows quanta n time k)
+  pub cores-Placement-nobody : Determined cores·Placement·nobody
+  pub cores-Placement-is-faulty : (self : Placement) (cores n : ℕ) → Determined (cores·Placement·is-faulty self cores n)
+  pub cores-how-many : (free : List Bool) → Determined (cores·how-many free)
+  pub cores-names-past : (free : List Bool) (cores : ℕ) → Determined (cores·names-past free cores)
+  pub cores-first : (k : ℕ) → Determined (cores·first k)
+  pub cores-place : (rows : List ℕ) (free : List Bool) (last : Placement) → Determined (cores·place rows free last)
   pub dispatcher-Answer-told : (self : Answer) → Determined (dispatcher·Answer·told self)
   pub dispatcher-State-fresh : (table : Table) → Determined (dispatcher·State·fresh table)
-  pub dispatcher-State-slot : (self : State) (k : ℕ) (buffer : List ℕ) (place : ℕ) → Determined {R = Outcome × List ℕ} (λ r. dispatcher·State·slot self k buffer place (r .0) (r .1))
+  pub dispatcher-State-slot : (self : State) (free : List Bool) (buffer : List ℕ) (place : ℕ) → Determined {R = Outcome × List ℕ} (λ r. dispatcher·State·slot self free buffer place (r .0) (r .1))
   pub checker-check : (table trace : List ℕ) → Determined (checker·check table trace)
   pub checker-number : (answer : Checked) → Determined (checker·number answer)
   pub firmware-zb-table-check : (table : List ℕ) → Determined (firmware·zb-table-check table)

@@ -2,7 +2,7 @@
 -- can be: a byte is below 256, a slice has fewer than 2 to the 63 of them, an array has its length, and each number fits its type.
 use Prim.Native.Nat.{ℕ, _^_}
 use mathlib.Core.Path.{_≡_}
-use mathlib.Core.List.{List, [], _∷_}
+use mathlib.Core.List.{List, [], _∷_, _++_}
 use mathlib.Core.Bool.{Bool, true, _&&_}
 use lib.Dec.{ltb}
 use lib.ListN.{length}
@@ -31,12 +31,16 @@ rowsFit (row ∷ rows) = rowFits row && rowsFit rows
 abbrev pub tableFits : Table → Bool
 tableFits t = ltb (t .cycle) (2 ^ 32) && allBelow 256 (t .cores ∷ t .n ∷ t .boards) && rowsFit (t .rows)
 
--- A slot can be asked so: the state holds 8 board numbers, 32 rows and 32 quanta; time, quanta and place are numbers of 64 bits, and k is a byte.
-pub record Possible (s : State) (k : ℕ) (buffer : List ℕ) (place : ℕ) : Type 0 where
+-- A slot can be asked so: the state holds 8 board numbers, 32 rows, 32 quanta, and a memory of 8 places in bytes; time, quanta and place are numbers of 64
+-- bits, and a set has 32 marks.
+pub record Possible (s : State) (free : List Bool) (buffer : List ℕ) (place : ℕ) : Type 0 where
   pub boards : length (s .table .boards) ≡ 8
   pub rows : length (s .table .rows) ≡ 32
   pub quanta : length (s .quanta) ≡ 32
   pub table : tableFits (s .table) ≡ true
   pub counts : allBelow (2 ^ 64) (place ∷ timeOf s ∷ quantaIn s) ≡ true
-  pub free : ltb k 256 ≡ true
+  pub last-rows : length (s .last .rows) ≡ 8
+  pub last-cores : length (s .last .cores) ≡ 8
+  pub remembered : allBelow 256 (s .last .count ∷ s .last .rows ++ s .last .cores) ≡ true
+  pub marks : length free ≡ 32
   pub bytes : Bytes buffer

@@ -10,7 +10,10 @@ use Rattle.table.specs.declared.Table.{Table}
 use Rattle.table.specs.Value.{faultOf}
 use Rattle.table.specs.Bytes.{reading}
 use Rattle.trace.specs.Found.{partFound, partBegins}
-use Rattle.trace.specs.Said.{Said}
+use Rattle.trace.specs.Said.{Said, bare}
+use Rattle.cores.specs.declared.Placement.{Placement}
+use Rattle.cores.specs.Sets.{firstCores}
+use Rattle.cores.specs.Placement.{nobody, placement}
 use Rattle.dispatcher.specs.declared.State.{State}
 use Rattle.dispatcher.specs.State.{quantaIn, timeOf}
 use Rattle.dispatcher.specs.Slot.{slotOf}
@@ -18,7 +21,7 @@ use Rattle.checker.specs.Check.{checkOf}
 use Rattle.printer.specs.Text.{textOf}
 use Rattle.demands.specs.Bench.{same, sameSaid}
 
--- What is asked, and what 01 answers.
+-- What is asked, and what 01 and 02 answer.
 pub data Law : Type 0 where
   -- the window of subtask i of e/p with phase f: its number, r, d, b and D
   window : (e p f i number r d b D : ℕ) → Law
@@ -30,10 +33,15 @@ pub data Law : Type 0 where
   has-board : (bytes : List ℕ) (j board : ℕ) → Law
   -- the fault of a table value
   faulty : (table : Table) (number : ℕ) → Law
-  -- a slot of a state with k cores free, in a buffer of so many bytes, all 99, from a place on: the answer,
+  -- a slot of a state with the first k cores free, in a buffer of so many bytes, all 99, from a place on: the answer,
   slot : (s : State) (k bytes place : ℕ) (said : Said) → Law
   -- and what it leaves: the buffer, the time, the stopped mark, and the first quanta
   leaves : (s : State) (k bytes place : ℕ) (buffer : List ℕ) (time : ℕ) (stopped : Bool) (quanta : List ℕ) → Law
+  -- a slot of a state with a set of cores free, in a buffer of so many bytes from its front on: the answer, the rows that are placed, and their cores;
+  -- both are remembered
+  places : (s : State) (free : List Bool) (bytes : ℕ) (said : Said) (rows cores : List ℕ) → Law
+  -- such a slot that is refused: it places nobody, and remembers what it came with
+  refuses : (s : State) (free : List Bool) (bytes number : ℕ) → Law
   -- the record of slot s in a trace: where the part begins, and its bytes
   part : (trace : List ℕ) (s begins : ℕ) (bytes : List ℕ) → Law
   -- checking a trace against the bytes of a table
@@ -53,6 +61,10 @@ noSuchRow = record { tank = 9; cost = 9; period = 9; phase = 9; kind = 9 }
 abbrev pub allZero : Row
 allZero = record { tank = 0; cost = 0; period = 0; phase = 0; kind = 0 }
 
+-- in all of their places, past the count too
+abbrev pub samePlaces : Placement → Placement → Bool
+samePlaces a b = eqb (a .count) (b .count) && same (a .rows) (b .rows) && same (a .cores) (b .cores)
+
 -- both marks are set, or neither
 abbrev pub sameMark : Bool → Bool → Bool
 sameMark a b = cond a b (not b)
@@ -69,10 +81,16 @@ lawHolds (has-sizes bytes cycle cores n) =
 lawHolds (has-row bytes i row) = sameRow (getD (reading bytes .table .rows) i noSuchRow) row
 lawHolds (has-board bytes j board) = eqb (getD (reading bytes .table .boards) j 256) board
 lawHolds (faulty table number) = eqb (faultOf table) number
-lawHolds (slot s k bytes place said) = sameSaid (slotOf s k (replicate bytes 99) place .said) said
+lawHolds (slot s k bytes place said) = sameSaid (slotOf s (firstCores k) (replicate bytes 99) place .said) said
 lawHolds (leaves s k bytes place buffer time stopped quanta) =
-    let after = slotOf s k (replicate bytes 99) place in
+    let after = slotOf s (firstCores k) (replicate bytes 99) place in
     same (after .bytes) buffer && eqb (timeOf (after .state)) time && sameMark (after .state .stopped) stopped && same (take (length quanta) (quantaIn (after .state))) quanta
+lawHolds (places s free bytes said rows cores) =
+    let after = slotOf s free (replicate bytes 99) 0 in
+    sameSaid (after .said) said && samePlaces (after .placed) (placement rows cores) && samePlaces (after .state .last) (placement rows cores)
+lawHolds (refuses s free bytes number) =
+    let after = slotOf s free (replicate bytes 99) 0 in
+    sameSaid (after .said) (bare number) && samePlaces (after .placed) nobody && samePlaces (after .state .last) (s .last)
 lawHolds (part trace s begins bytes) = eqb (partBegins trace s) begins && same (partFound trace s) bytes
 lawHolds (check table trace said) = sameSaid (checkOf table trace) said
 lawHolds (prints input text) = same (textOf input) text

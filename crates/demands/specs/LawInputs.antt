@@ -1,13 +1,18 @@
 -- Tables, states and bytes that our own table of laws asks about (specs/Laws.antt).
 use Prim.Native.Nat.{ℕ, zero, suc, _+_, _-_, _/_, _%_}
-use mathlib.Core.List.{List, [], _∷_, _++_}
+use mathlib.Core.List.{List, [], _∷_, _++_, map}
 use mathlib.Core.Bool.{Bool}
 use lib.ListN.{length, replicate}
+use Rattle.facts.specs.Places.{places}
+use Rattle.counts.specs.Numbers.{counted}
 use Rattle.table.specs.declared.Row.{Row}
 use Rattle.table.specs.declared.Table.{Table}
 use Rattle.table.specs.Limits.{rowLimit}
+use Rattle.trace.specs.Records.{names}
+use Rattle.cores.specs.declared.Placement.{Placement}
+use Rattle.cores.specs.Sets.{setLimit}
+use Rattle.cores.specs.Placement.{nobody}
 use Rattle.dispatcher.specs.declared.State.{State}
-use Rattle.counts.specs.Numbers.{counted}
 use Rattle.demands.specs.RunPasses.{wordBytes}
 use Rattle.demands.specs.Bench.{plainRow, box}
 
@@ -33,10 +38,18 @@ unfoldable pub risingRows : ℕ → ℕ → List Row
 risingRows tank zero = []
 risingRows tank (suc n) = record { tank = tank; cost = 1; period = 64; phase = 100; kind = 0 } ∷ risingRows (tank + 1) n
 
--- a state of a table: its time, its stopped mark, and the first of its quanta; the others are 0
+-- a state of a table: its time, its stopped mark, and the first of its quanta; the others are 0, and nobody is remembered
 abbrev pub stateOf : Table → ℕ → Bool → List ℕ → State
 stateOf table time stopped quanta =
-    record { table = table; time = record { 0 = time }; stopped = stopped; quanta = counted (quanta ++ replicate (rowLimit - length quanta) 0) }
+    record { table = table; time = record { 0 = time }; stopped = stopped; quanta = counted (quanta ++ replicate (rowLimit - length quanta) 0); last = nobody }
+
+-- the same with another memory
+abbrev pub remembering : State → Placement → State
+remembering s last = record { table = s .table; time = s .time; stopped = s .stopped; quanta = s .quanta; last = last }
+
+-- a set that names these cores
+abbrev pub setOf : List ℕ → List Bool
+setOf cores = map (names cores) (places 0 1 setLimit)
 
 -- two cores; row 0 has 1/2, row 1 has 1/3
 abbrev pub halfAndThird : Table

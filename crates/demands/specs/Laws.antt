@@ -1,4 +1,4 @@
--- A table of our own beside the bench: inputs, and the answers that 01 gives to them. Each number has an input that gives it, each two causes that are
+-- A table of our own beside the bench: inputs, and the answers that 01 and 02 give to them. Each number has an input that gives it, each two causes that are
 -- neighbours in 01's order an input with both, each limit an input on either side. One table and one statement, over the definitions.
 use mathlib.Core.Path.{_≡_}
 use mathlib.Core.List.{List, [], _∷_, _++_}
@@ -7,6 +7,7 @@ use Rattle.demands.specs.Law.{Law, window, allLawsHold}
 use Rattle.demands.specs.TableLaws.{tableLaws}
 use Rattle.demands.specs.ReadingLaws.{readingOrder, valueLaws}
 use Rattle.demands.specs.SlotLaws.{slotLaws}
+use Rattle.demands.specs.CoreLaws.{coreLaws}
 use Rattle.demands.specs.TraceLaws.{partLaws, traceLaws}
 use Rattle.demands.specs.PrinterLaws.{printerLaws}
 
@@ -33,7 +34,7 @@ windowLaws =
     ∷ []
 
 abbrev pub laws : List Law
-laws = windowLaws ++ (tableLaws ++ (readingOrder ++ (valueLaws ++ (slotLaws ++ (partLaws ++ (traceLaws ++ printerLaws))))))
+laws = windowLaws ++ (tableLaws ++ (readingOrder ++ (valueLaws ++ (slotLaws ++ (coreLaws ++ (partLaws ++ (traceLaws ++ printerLaws)))))))
 
 -- Every law follows from the definitions.
 abbrev pub LawsHold : Type 0

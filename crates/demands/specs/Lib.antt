@@ -13,6 +13,7 @@ pub mod LawInputs
 pub mod TableLaws
 pub mod ReadingLaws
 pub mod SlotLaws
+pub mod CoreLaws
 pub mod TraceLaws
 pub mod PrinterLaws
 pub mod Laws
@@ -20,4 +21,5 @@ pub mod Confession
 pub mod Inputs
 pub mod ShutOut
 pub mod NeverLate
+pub mod Cores
 pub mod All

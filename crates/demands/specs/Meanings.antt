@@ -7,6 +7,7 @@ use mathlib.Core.Bool.{Bool, true, false, cond, not, _&&_}
 use mathlib.Core.Logic.{_↔_}
 use lib.Dec.{eqb}
 use lib.ListN.{length, getD, take, drop, replicate}
+use Rattle.facts.specs.Counting.{howMany}
 use Rattle.windows.specs.Windows.{start, deadline, bit, windowLength, jobStart}
 use Rattle.windows.specs.Group.{groupDeadline}
 use Rattle.table.specs.declared.Row.{Row}
@@ -20,6 +21,10 @@ use Rattle.pd2.specs.Order.{rankOf, before}
 use Rattle.pd2.specs.Choice.{rowAt, quantaAt, readyIn, goesBeforeBy}
 use Rattle.trace.specs.Record.{recordOf, marked, writeNumber, partAfter}
 use Rattle.trace.specs.Records.{names, slotsIn, placeIn, rowsOfSlot, timesNamed}
+use Rattle.cores.specs.declared.Placement.{Placement}
+use Rattle.cores.specs.Sets.{firstCores}
+use Rattle.cores.specs.Placement.{ranOn, ranBefore}
+use Rattle.cores.specs.Best.{moves}
 use Rattle.dispatcher.specs.declared.State.{State}
 use Rattle.dispatcher.specs.State.{freshOf}
 use Rattle.dispatcher.specs.Slot.{slotOf}
@@ -129,16 +134,33 @@ pub record PrintMeans (input out : List ℕ) : Type 0 where
       (printedOf input out ≡ Text (length (textOf input))) × (outAfter input out ≡ textOf input ++ drop (length (textOf input)) out)
   pub too-short : length out < length (textOf input) → (printedOf input out ≡ TooShort) × (outAfter input out ≡ out)
 
--- "A fresh state can be made from any table value: time 0, not stopped, all quanta 0"
+-- "A fresh state can be made from any table value: time 0, not stopped, all quanta 0"; it remembers no row ("fresh, none": 02, One)
 abbrev pub FreshMeans : Table → Type 0
-FreshMeans t = freshOf t ≡ record { table = t; time = record { 0 = 0 }; stopped = false; quanta = replicate 32 (record { 0 = 0 }) }
+FreshMeans t =
+    freshOf t
+    ≡ record {
+      table = t;
+      time = record { 0 = 0 };
+      stopped = false;
+      quanta = replicate 32 (record { 0 = 0 });
+      last = record { count = 0; rows = replicate 8 0; cores = replicate 8 0 };
+    }
+
+-- "which row ran on which core in the last slot" (02, One), place by place of a memory; "The number of moves (a row picked in this slot and the one before, on another
+-- core)": as many as the rows that ran, and not on their core.
+pub record MemoryMeans (last : Placement) : Type 0 where
+  pub ran-on : last .count ≤ 8 → (row core : ℕ) →
+      (ranOn last row core ≡ true) ↔ ((i : ℕ) × (i < last .count) × (getD (last .rows) i 0 ≡ row) × (getD (last .cores) i 0 ≡ core))
+  pub ran-before : last .count ≤ 8 → (row : ℕ) → (ranBefore last row ≡ true) ↔ ((i : ℕ) × (i < last .count) × (getD (last .rows) i 0 ≡ row))
+  pub moves : (rows cores : List ℕ) → length cores ≡ length rows →
+      moves last rows cores ≡ howMany (λ i. ranBefore last (getD rows i 0) && not (ranOn last (getD rows i 0) (getD cores i 0))) (length rows)
 
 -- Slots one after the other, which only `zb_slots` of the speed bench promises.
 pub record SlotsMean (s : State) (k : ℕ) (bytes : List ℕ) : Type 0 where
   pub none : slotsFrom s k bytes 0 ≡ record { state = s; bytes = bytes }
   pub one-more : (m : ℕ) →
       let left = slotsFrom s k bytes m in
-      let after = slotOf (left .state) k (left .bytes) 0 in
+      let after = slotOf (left .state) (firstCores k) (left .bytes) 0 in
       slotsFrom s k bytes (suc m) ≡ record { state = after .state; bytes = after .bytes }
 
 pub record Meanings : Type 0 where
@@ -153,4 +175,5 @@ pub record Meanings : Type 0 where
   pub write : (part : List ℕ) (free : ℕ) (marks : List Bool) → WriteMeans part free marks
   pub print : (input out : List ℕ) → PrintMeans input out
   pub fresh : (t : Table) → FreshMeans t
+  pub memory : (last : Placement) → MemoryMeans last
   pub slots : (s : State) (k : ℕ) (bytes : List ℕ) → SlotsMean s k bytes

@@ -4,8 +4,8 @@ use Prim.Native.Nat.{ℕ, _+_, _≤_, _<_}
 use mathlib.Core.Path.{_≡_}
 use mathlib.Core.List.{List, []}
 use mathlib.Core.Logic.{_↔_, _⊎_}
-use lib.ListN.{length, replicate}
-use mathlib.Core.Bool.{true, false}
+use mathlib.Core.Bool.{Bool, true, false}
+use lib.ListN.{length, getD, replicate}
 use Rattle.facts.specs.Findings.{FirstFound}
 use Rattle.windows.specs.Question.{WindowsAreAnswered}
 use Rattle.windows.specs.Windows.{deadline, bit, NextStartIsDLessB}
@@ -25,6 +25,7 @@ use Rattle.trace.specs.Record.{recordOf}
 use Rattle.trace.specs.Said.{Said, bare}
 use Rattle.trace.specs.Records.{freeAt, placeIn, rowsOfSlot}
 use Rattle.trace.specs.Found.{isFound, partFound, partBegins, FoundIfAllInside}
+use Rattle.cores.specs.Sets.{size}
 use Rattle.dispatcher.specs.declared.State.{State}
 use Rattle.dispatcher.specs.State.{rowsIn, quantaIn, timeOf}
 use Rattle.dispatcher.specs.Broken.{broken}
@@ -77,26 +78,33 @@ pub record NotBroken (s : State) : Type 0 where
   pub time : timeOf s ≤ 1_000_000_000
   pub quanta : (i : ℕ) → i < length (rowsIn s) → quantaAt (quantaIn s) i ≤ timeOf s
   pub shares : s .stopped ≡ false → (i : ℕ) → i < length (rowsIn s) → InLimits (rowAt (rowsIn s) i) (quantaAt (quantaIn s) i) (timeOf s)
+  -- "30 also for a remembered core not below M or given to two rows, or a remembered row not below n or on two cores" (02, One); there are eight places.
+  pub remembered : s .last .count ≤ 8
+  pub cores-there : (i : ℕ) → i < s .last .count → getD (s .last .cores) i 0 < s .table .cores
+  pub cores-apart : (i j : ℕ) → i < j → j < s .last .count → getD (s .last .cores) i 0 ≡ getD (s .last .cores) j 0 → ⊥
+  pub rows-there : (i : ℕ) → i < s .last .count → getD (s .last .rows) i 0 < length (rowsIn s)
+  pub rows-apart : (i j : ℕ) → i < j → j < s .last .count → getD (s .last .rows) i 0 ≡ getD (s .last .rows) j 0 → ⊥
 
 abbrev pub BrokenExactly : Type 0
 BrokenExactly = (s : State) → (broken s ≡ false) ↔ NotBroken s
 
--- "Given exactly when", of a slot's refusals, in the order 30, 31, 32, 33, 34: each with what was not met before it. The two causes of 34, a place past the end and too
--- few bytes after it, are one: the record would end past the buffer.
-pub record SlotExactly (s : State) (k : ℕ) (buffer : List ℕ) (place number : ℕ) : Type 0 where
+-- "Given exactly when", of a slot's refusals, in the order 30, 31, 32, 35, 34: each with what was not met before it; "35 for a set naming a core not below M .. in the
+-- place of 33" (02, One). The two causes of 34, a place past the end and too few bytes after it, are one: the record would end past the buffer.
+pub record SlotExactly (s : State) (free : List Bool) (buffer : List ℕ) (place number : ℕ) : Type 0 where
   pub is-30 : (number ≡ 30) ↔ (NotBroken s → ⊥)
   pub is-31 : (number ≡ 31) ↔ (NotBroken s × (s .stopped ≡ true))
   pub is-32 : (number ≡ 32) ↔ (NotBroken s × (s .stopped ≡ false) × (timeOf s ≡ 1_000_000_000))
-  pub is-33 : (number ≡ 33) ↔ (NotBroken s × (s .stopped ≡ false) × (timeOf s < 1_000_000_000) × (s .table .cores < k))
+  pub is-35 : (number ≡ 35)
+      ↔ (NotBroken s × (s .stopped ≡ false) × (timeOf s < 1_000_000_000) × ((core : ℕ) × (getD free core false ≡ true) × (s .table .cores ≤ core)))
   pub is-34 : (number ≡ 34)
-      ↔ (NotBroken s × (s .stopped ≡ false) × (timeOf s < 1_000_000_000) × (k ≤ s .table .cores)
-      × (length buffer < place + 2 + length (pd2Picks (rowsIn s) (quantaIn s) (timeOf s) k)))
+      ↔ (NotBroken s × (s .stopped ≡ false) × (timeOf s < 1_000_000_000) × ((core : ℕ) → getD free core false ≡ true → core < s .table .cores)
+      × (length buffer < place + 2 + length (pd2Picks (rowsIn s) (quantaIn s) (timeOf s) (size free))))
 
--- of a slot: 30 to 34, each exactly if 01 says so. A fresh state of a table with a fault is answered 30. "Places past row n, and board
+-- of a slot: 30 to 32, 35 and 34, each exactly if 01 and 02 say so. A fresh state of a table with a fault is answered 30. "Places past row n, and board
 -- numbers past M, are ignored and returned as they came";
 pub record Slots : Type 0 where
   pub broken-exactly : BrokenExactly
-  pub exactly : (s : State) (k : ℕ) (buffer : List ℕ) (place : ℕ) → SlotExactly s k buffer place (slotOf s k buffer place .said .number)
+  pub exactly : (s : State) (free : List Bool) (buffer : List ℕ) (place : ℕ) → SlotExactly s free buffer place (slotOf s free buffer place .said .number)
   pub numbers : SlotNumbers
   pub faulty : FaultAnswers30
   pub parts : BareUnlessLate

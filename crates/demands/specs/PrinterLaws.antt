@@ -69,9 +69,10 @@ printerLaws =
     (headerText ++ (lineOf (0 ∷ sp ∷ 0 ∷ []) ++ (lineOf (1 ∷ sp ∷ 0 ∷ []) ++ lateText (2 ∷ sp ∷ 1 ∷ 0 ∷ []))))
     ∷ prints (inputOf halfAndThirdBytes 4 (1 ∷ 0 ∷ 0 ∷ []))
     (headerText ++ (lineOf (0 ∷ sp ∷ 1 ∷ sp ∷ 0 ∷ []) ++ (lineOf (1 ∷ sp ∷ 0 ∷ []) ++ (lineOf (2 ∷ sp ∷ 0 ∷ []) ++ lateText (3 ∷ sp ∷ 1 ∷ [])))))
-    -- "A refused slot prints `refused N` in place of its line and ends."
-    ∷ prints (inputOf halfAndThirdBytes 2 (3 ∷ [])) (headerText ++ refusedText (3 ∷ 3 ∷ []))
-    ∷ prints (inputOf halfAndThirdBytes 2 (1 ∷ 3 ∷ [])) (headerText ++ (lineOf (0 ∷ sp ∷ 1 ∷ sp ∷ 0 ∷ []) ++ refusedText (3 ∷ 3 ∷ [])))
+    -- "A refused slot prints `refused N` in place of its line and ends": 35 for "a printer's k above M" (02, One), also for 255.
+    ∷ prints (inputOf halfAndThirdBytes 2 (3 ∷ [])) (headerText ++ refusedText (3 ∷ 5 ∷ []))
+    ∷ prints (inputOf halfAndThirdBytes 2 (1 ∷ 3 ∷ [])) (headerText ++ (lineOf (0 ∷ sp ∷ 1 ∷ sp ∷ 0 ∷ []) ++ refusedText (3 ∷ 5 ∷ [])))
+    ∷ prints (inputOf halfAndThirdBytes 2 (255 ∷ [])) (headerText ++ refusedText (3 ∷ 5 ∷ []))
     -- "Missing or extra bytes": nothing, no whole number, k bytes or table bytes missing, one too many
     ∷ prints [] inputText
     ∷ prints (take 7 (inputOf [] 2 (1 ∷ 1 ∷ []))) inputText

@@ -34,6 +34,11 @@ use Rattle.trace.specs.declared.Stored.{Stored}
 use Rattle.trace.specs.Record.{recordOf, marked, storedNumber, writeNumber, partAfter}
 use Rattle.trace.specs.Found.{partFound, partBegins}
 use Rattle.choice.specs.Choice.{chosen}
+use Rattle.cores.specs.declared.Placement.{Placement}
+use Rattle.cores.specs.Sets.{size, namesPast, firstCores}
+use Rattle.cores.specs.Placement.{nobody}
+use Rattle.cores.specs.Cores.{placedFor}
+use Rattle.cores.specs.Fault.{below, misremembers}
 use Rattle.dispatcher.specs.declared.State.{State}
 use Rattle.dispatcher.specs.declared.Answer.{Answer}
 use Rattle.dispatcher.specs.declared.Told.{Told}
@@ -186,6 +191,30 @@ trace·begins trace slot r = r ≡ partBegins trace (slot .0)
 abbrev pub choice·picks : List Row → List Quanta → ℕ → Slot → ℕ → List Bool → Type 0
 choice·picks rows quanta n time k r = (length r ≡ 32) × (marked r ≡ chosen (take n rows) (numbersOf quanta) (time .0) (min k 8))
 
+-- cores::Placement::nobody
+abbrev pub cores·Placement·nobody : Placement → Type 0
+cores·Placement·nobody r = r ≡ nobody
+
+-- cores::Placement::is_faulty
+abbrev pub cores·Placement·is-faulty : Placement → ℕ → ℕ → Bool → Type 0
+cores·Placement·is-faulty self cores n r = r ≡ misremembers self (below n) cores
+
+-- cores::how_many
+abbrev pub cores·how-many : List Bool → ℕ → Type 0
+cores·how-many free r = (r ≡ size free) × (r ≤ 32)
+
+-- cores::names_past
+abbrev pub cores·names-past : List Bool → ℕ → Bool → Type 0
+cores·names-past free cores r = r ≡ namesPast cores free
+
+-- cores::first
+abbrev pub cores·first : ℕ → List Bool → Type 0
+cores·first k r = r ≡ firstCores k
+
+-- cores::place
+abbrev pub cores·place : List ℕ → List Bool → Placement → Placement → Type 0
+cores·place rows free last r = r ≡ placedFor last (marked free) rows
+
 -- dispatcher::Answer::told
 abbrev pub dispatcher·Answer·told : Answer → Told → Type 0
 dispatcher·Answer·told self r = saidBy r ≡ saidOf self
@@ -195,8 +224,12 @@ abbrev pub dispatcher·State·fresh : Table → State → Type 0
 dispatcher·State·fresh table r = r ≡ freshOf table
 
 -- dispatcher::State::slot
-abbrev pub dispatcher·State·slot : State → ℕ → List ℕ → ℕ → Outcome → List ℕ → Type 0
-dispatcher·State·slot self k buffer place r buffer-after = (saidOf (r .answer) ≡ slotOf self k buffer place .said) × (r .state ≡ slotOf self k buffer place .state) × (buffer-after ≡ slotOf self k buffer place .bytes)
+abbrev pub dispatcher·State·slot : State → List Bool → List ℕ → ℕ → Outcome → List ℕ → Type 0
+dispatcher·State·slot self free buffer place r buffer-after =
+    (saidOf (r .answer) ≡ slotOf self free buffer place .said)
+    × (r .placed ≡ slotOf self free buffer place .placed)
+    × (r .state ≡ slotOf self free buffer place .state)
+    × (buffer-after ≡ slotOf self free buffer place .bytes)
 
 -- checker::check
 abbrev pub checker·check : List ℕ → List ℕ → Checked → Type 0

@@ -9,7 +9,7 @@ use Rattle.table.specs.Bytes.{tableNumber, tableIn}
 use Rattle.trace.specs.Records.{firstPlace, slotsIn}
 use Rattle.trace.specs.Said.{Said, bare, named}
 use Rattle.dispatcher.specs.State.{timeOf}
-use Rattle.dispatcher.specs.Run.{Run, run}
+use Rattle.dispatcher.specs.Run.{Step, Run, run}
 use Rattle.checker.specs.Causes.{slotLimit}
 use Rattle.checker.specs.Check.{traceSaid, checkOf}
 use Rattle.checker.specs.WellFormed.{WellFormed}
@@ -49,6 +49,6 @@ pub record IsTrace (table : Table) (r : Run) : Type 0 where
 -- or answers 45 with the same row and time as the run's 1.
 abbrev pub RunPasses : Type 0
 RunPasses =
-    (table : Table) (free : ℕ → ℕ) (buffer : List ℕ) (m : ℕ) →
-    let r = run table free buffer firstPlace m in
+    (table : Table) (steps : ℕ → Step) (buffer : List ℕ) (m : ℕ) →
+    let r = run table steps buffer firstPlace m in
     r .said .number < 2 → IsTrace table r

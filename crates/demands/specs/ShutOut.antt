@@ -3,11 +3,14 @@
 use Prim.Native.Nat.{ℕ, _+_, _<_}
 use mathlib.Core.Path.{_≡_}
 use mathlib.Core.List.{List, []}
-use mathlib.Core.Bool.{true, cond}
+use mathlib.Core.Bool.{Bool, true, cond}
+use lib.ListN.{length, take}
 use Rattle.table.specs.declared.Reading.{Reading}
 use Rattle.table.specs.Bytes.{tableNumber}
 use Rattle.pd2.specs.Choice.{quantaAt}
+use Rattle.trace.specs.Record.{marked}
 use Rattle.trace.specs.Records.{rowsAt, names}
+use Rattle.cores.specs.Placement.{coresPlaced}
 use Rattle.dispatcher.specs.declared.State.{State}
 use Rattle.dispatcher.specs.declared.Outcome.{Outcome}
 use Rattle.dispatcher.specs.State.{quantaIn, freshOf}
@@ -30,12 +33,12 @@ TakesNoTable number = (bytes : List ℕ) → Bytes bytes → number bytes ≡ 0 
 
 -- A dispatcher keeps the promise of `slot`; it gives back the outcome and the buffer.
 abbrev pub Dispatcher : Type 0
-Dispatcher = State → ℕ → List ℕ → ℕ → Outcome × List ℕ
+Dispatcher = State → List Bool → List ℕ → ℕ → Outcome × List ℕ
 
 abbrev pub IsDispatcher : Dispatcher → Type 0
 IsDispatcher slot =
-    (s : State) (k : ℕ) (buffer : List ℕ) (place : ℕ) → Possible s k buffer place →
-    dispatcher·State·slot s k buffer place (slot s k buffer place .0) (slot s k buffer place .1)
+    (s : State) (free : List Bool) (buffer : List ℕ) (place : ℕ) → Possible s free buffer place →
+    dispatcher·State·slot s free buffer place (slot s free buffer place .0) (slot s free buffer place .1)
 
 -- the number that a dispatcher answers, and the rows of the record at the place
 abbrev pub numberOf : Outcome × List ℕ → ℕ
@@ -46,37 +49,54 @@ rowsWritten r place = rowsAt (r .1) place
 
 -- "a dispatcher that refuses all",
 abbrev pub RefusesAll : Dispatcher → Type 0
-RefusesAll slot = (s : State) (k : ℕ) (buffer : List ℕ) (place : ℕ) → Possible s k buffer place → 1 < numberOf (slot s k buffer place)
+RefusesAll slot = (s : State) (free : List Bool) (buffer : List ℕ) (place : ℕ) → Possible s free buffer place → 1 < numberOf (slot s free buffer place)
 
 -- "or picks nobody, or always row 0": it never names another row,
 abbrev pub PicksNobody : Dispatcher → Type 0
 PicksNobody slot =
-    (s : State) (k : ℕ) (buffer : List ℕ) (place : ℕ) → Possible s k buffer place → numberOf (slot s k buffer place) < 2 →
-    rowsWritten (slot s k buffer place) place ≡ []
+    (s : State) (free : List Bool) (buffer : List ℕ) (place : ℕ) → Possible s free buffer place → numberOf (slot s free buffer place) < 2 →
+    rowsWritten (slot s free buffer place) place ≡ []
 
 abbrev pub AlwaysRow0 : Dispatcher → Type 0
 AlwaysRow0 slot =
-    (s : State) (k : ℕ) (buffer : List ℕ) (place : ℕ) → Possible s k buffer place → numberOf (slot s k buffer place) < 2 → (i : ℕ) →
-    names (rowsWritten (slot s k buffer place) place) i ≡ true → i ≡ 0
+    (s : State) (free : List Bool) (buffer : List ℕ) (place : ℕ) → Possible s free buffer place → numberOf (slot s free buffer place) < 2 → (i : ℕ) →
+    names (rowsWritten (slot s free buffer place) place) i ≡ true → i ≡ 0
 
 -- "one that leaves state and buffer as found and says 0",
 abbrev pub ChangesNothing : Dispatcher → Type 0
 ChangesNothing slot =
-    (s : State) (k : ℕ) (buffer : List ℕ) (place : ℕ) → Possible s k buffer place → numberOf (slot s k buffer place) ≡ 0 →
-    (slot s k buffer place .0 .state ≡ s) × (slot s k buffer place .1 ≡ buffer)
+    (s : State) (free : List Bool) (buffer : List ℕ) (place : ℕ) → Possible s free buffer place → numberOf (slot s free buffer place) ≡ 0 →
+    (slot s free buffer place .0 .state ≡ s) × (slot s free buffer place .1 ≡ buffer)
 
 -- "one that does slot 0 properly and repeats it"
 abbrev pub RepeatsSlot0 : Dispatcher → Type 0
 RepeatsSlot0 slot =
-    (s : State) (k : ℕ) (buffer : List ℕ) (place : ℕ) → Possible s k buffer place → numberOf (slot s k buffer place) < 2 →
-    rowsWritten (slot s k buffer place) place ≡ rowsWritten (slot (freshOf (s .table)) k buffer place) place
+    (s : State) (free : List Bool) (buffer : List ℕ) (place : ℕ) → Possible s free buffer place → numberOf (slot s free buffer place) < 2 →
+    rowsWritten (slot s free buffer place) place ≡ rowsWritten (slot (freshOf (s .table)) free buffer place) place
 
 -- "quanta counts that do not equal the records naming the row": each slot gives a quantum to the rows that its record names, and to no other. (Of a
 -- whole run: `quanta` of demand 3.)
 abbrev pub GivesAsRecorded : Dispatcher → Type 0
 GivesAsRecorded slot =
-    (s : State) (k : ℕ) (buffer : List ℕ) (place : ℕ) → Possible s k buffer place → numberOf (slot s k buffer place) < 2 → (i : ℕ) →
-    quantaAt (quantaIn (slot s k buffer place .0 .state)) i ≡ quantaAt (quantaIn s) i + cond (names (rowsWritten (slot s k buffer place) place) i) 1 0
+    (s : State) (free : List Bool) (buffer : List ℕ) (place : ℕ) → Possible s free buffer place → numberOf (slot s free buffer place) < 2 → (i : ℕ) →
+    quantaAt (quantaIn (slot s free buffer place .0 .state)) i ≡ quantaAt (quantaIn s) i + cond (names (rowsWritten (slot s free buffer place) place) i) 1 0
+
+-- And of the cores (02, One): one that places nobody, one that gives the lowest free cores in turn, whoever ran where, and one that remembers nothing.
+abbrev pub PlacesNobody : Dispatcher → Type 0
+PlacesNobody slot =
+    (s : State) (free : List Bool) (buffer : List ℕ) (place : ℕ) → Possible s free buffer place → numberOf (slot s free buffer place) < 2 →
+    coresPlaced (slot s free buffer place .0 .placed) ≡ []
+
+abbrev pub LowestInTurn : Dispatcher → Type 0
+LowestInTurn slot =
+    (s : State) (free : List Bool) (buffer : List ℕ) (place : ℕ) → Possible s free buffer place → numberOf (slot s free buffer place) < 2 →
+    let rows = rowsWritten (slot s free buffer place) place in
+    coresPlaced (slot s free buffer place .0 .placed) ≡ take (length rows) (marked free)
+
+abbrev pub RemembersNothing : Dispatcher → Type 0
+RemembersNothing slot =
+    (s : State) (free : List Bool) (buffer : List ℕ) (place : ℕ) → Possible s free buffer place → numberOf (slot s free buffer place) < 2 →
+    slot s free buffer place .0 .state .last .count ≡ 0
 
 -- A dispatcher is none of these, and gives as it records.
 pub record ShutOutOf (slot : Dispatcher) : Type 0 where
@@ -86,6 +106,9 @@ pub record ShutOutOf (slot : Dispatcher) : Type 0 where
   pub changes-nothing : ChangesNothing slot → ⊥
   pub repeats-slot-0 : RepeatsSlot0 slot → ⊥
   pub gives-as-recorded : GivesAsRecorded slot
+  pub places-nobody : PlacesNobody slot → ⊥
+  pub lowest-in-turn : LowestInTurn slot → ⊥
+  pub remembers-nothing : RemembersNothing slot → ⊥
 
 -- A checker keeps the promise of `check`, and the board's trace check that of `zb_trace_check`.
 abbrev pub IsChecker : (List ℕ → List ℕ → Checked) → Type 0

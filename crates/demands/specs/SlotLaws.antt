@@ -1,4 +1,4 @@
--- Laws of a slot (01, "What comes back", "Share"): part of specs/Laws.antt.
+-- Laws of a slot (01, "What comes back", "Share"; 02, One, for 35): part of specs/Laws.antt.
 use mathlib.Core.List.{List, [], _∷_, _++_}
 use mathlib.Core.Bool.{true, false}
 use lib.ListN.{replicate}
@@ -46,7 +46,7 @@ wildPast =
       rows = plainRow 9 1 2 ∷ replicate 31 (record { tank = 0; cost = 9; period = 0; phase = 0; kind = 9 });
     }
 
--- 0, 1 and 30 to 34 of a slot
+-- 0, 1, 30 to 32, 34 and 35 of a slot
 abbrev pub slotLaws : List Law
 slotLaws =
     -- 0, "done": "the record stands at the given place in the lent buffer, every other byte is as before, time is one higher, each picked row has one quantum
@@ -105,10 +105,11 @@ slotLaws =
     ∷ slot (stateOf (box 6 1 (earlyRelease 0 3 6 ∷ [])) 4 false (4 ∷ [])) 1 9 0 (bare 30)
     -- 31, "state stopped by an earlier 1": also outside its share
     ∷ slot (stateOf halfAndThird 4 true (1 ∷ 1 ∷ [])) 1 9 0 (bare 31)
-    -- 33, "k above M"
-    ∷ slot (stateOf halfAndThird 0 false []) 3 9 0 (bare 33)
+    -- 35, "a set naming a core not below M" (02, One): the first k cores, where k is above M
+    ∷ slot (stateOf halfAndThird 0 false []) 3 9 0 (bare 35)
     ∷ slot (stateOf manyRows 0 false []) 8 10 0 (bare 0)
-    ∷ slot (stateOf manyRows 0 false []) 9 99 0 (bare 33)
+    ∷ slot (stateOf manyRows 0 false []) 9 99 0 (bare 35)
+    ∷ slot (stateOf manyRows 0 false []) 255 99 0 (bare 35)
     -- 34, "the place is past the buffer's end, or fewer than 2 + c bytes remain after it"
     ∷ slot (stateOf noRows 0 false []) 1 2 0 (bare 0)
     ∷ slot (stateOf noRows 0 false []) 1 1 0 (bare 34)
@@ -117,10 +118,10 @@ slotLaws =
     ∷ slot (stateOf halfAndThird 0 false []) 2 9 10 (bare 34)
     -- "With 30 to 34 the state returns equal and the buffer is untouched."
     ∷ leaves (stateOf halfAndThird 0 false []) 2 3 0 (99 ∷ 99 ∷ 99 ∷ []) 0 false (0 ∷ 0 ∷ [])
-    -- "Order for a slot: 30, 31, 32, 33, 34": 30 and 31, 31 and 32, 32 and 33, 33 and 34; and 34 where the slot would be late
+    -- "Order for a slot: 30, 31, 32, 33, 34", with 35 "in the place of 33": 30 and 31, 31 and 32, 32 and 35, 35 and 34; and 34 where the slot would be late
     ∷ slot (stateOf (box 0 1 []) 0 true []) 1 9 0 (bare 30)
     ∷ slot (stateOf noRows 1_000_000_000 true []) 1 9 0 (bare 31)
     ∷ slot (stateOf noRows 1_000_000_000 false []) 2 9 0 (bare 32)
-    ∷ slot (stateOf noRows 0 false []) 2 0 1 (bare 33)
+    ∷ slot (stateOf noRows 0 false []) 2 0 1 (bare 35)
     ∷ slot (stateOf halfAndThird 2 false (1 ∷ 0 ∷ [])) 0 1 0 (bare 34)
     ∷ []

@@ -5,6 +5,7 @@
 use Prim.Native.Nat.{ℕ, _+_, _*_, _≤_, _<_}
 use mathlib.Core.Path.{_≡_}
 use mathlib.Core.List.{List}
+use mathlib.Core.Bool.{Bool}
 use mathlib.Core.Logic.{_↔_}
 use lib.ListN.{length}
 use Rattle.table.specs.declared.Table.{Table}
@@ -16,6 +17,7 @@ use Rattle.trace.specs.Said.{Said, bare}
 use Rattle.dispatcher.specs.declared.State.{State}
 use Rattle.dispatcher.specs.State.{quantaIn, timeOf, freshOf}
 use Rattle.dispatcher.specs.Slot.{slotOf}
+use Rattle.dispatcher.specs.Run.{Step, stepOf}
 use Rattle.dispatcher.specs.RunKept.{QuantaAreRecords, RecordsStandInTurn}
 use Rattle.checker.specs.Check.{checkOf}
 use Rattle.checker.specs.WellFormed.{WellFormed}
@@ -29,12 +31,12 @@ PassesInLimits =
     let rows = rowsOf (tableIn tableBytes) in
     (checkOf tableBytes trace ≡ bare 0) ↔ ((t i : ℕ) → t ≤ slotsIn trace → i < length rows → InLimits (rowAt rows i) (timesNamed trace i t) t)
 
--- "From a fresh start, however many cores each slot had": the states that slots lead to, each with any number of cores, any buffer and any place, as long as
--- none has reported a row late. A slot may also be refused on the way.
+-- "From a fresh start, however many cores each slot had": the states that steps lead to (a slot is the only step), each with any set of cores, any buffer and
+-- any place, as long as none has reported a row late. A slot may also be refused on the way.
 pub data FromFresh (table : Table) : State → Type 0 where
   start : FromFresh table (freshOf table)
-  slot : (s : State) (k : ℕ) (buffer : List ℕ) (place : ℕ) → FromFresh table s → (slotOf s k buffer place .said .number ≡ 1 → ⊥) →
-      FromFresh table (slotOf s k buffer place .state)
+  step : (s : State) (x : Step) (buffer : List ℕ) (place : ℕ) → FromFresh table s → (stepOf s x buffer place .said .number ≡ 1 → ⊥) →
+      FromFresh table (stepOf s x buffer place .state)
 
 -- "the dispatcher keeps every row within these limits until it first reports a row late"
 abbrev pub KeepsLimits : Type 0
@@ -58,16 +60,16 @@ pub record Reports (table : Table) (said : Said) (after : State) : Type 0 where
 
 abbrev pub ReportsLate : Type 0
 ReportsLate =
-    (s : State) (k : ℕ) (buffer : List ℕ) (place : ℕ) → slotOf s k buffer place .said .number < 2 →
-    Reports (s .table) (slotOf s k buffer place .said) (slotOf s k buffer place .state)
+    (s : State) (free : List Bool) (buffer : List ℕ) (place : ℕ) → slotOf s free buffer place .said .number < 2 →
+    Reports (s .table) (slotOf s free buffer place .said) (slotOf s free buffer place .state)
 
--- What the records say is what the state says, in a run: slot after slot into one buffer, one record behind the other. "quanta counts that do not equal the
+-- What the records say is what the state says, in a run: step after step into one buffer, one record behind the other. "quanta counts that do not equal the
 -- records naming the row" are shut out; and the trace of a run passes the check, or the check names the row and the time that the run named.
 pub record DemandThree : Type 0 where
   pub passes : PassesInLimits
   pub keeps : KeepsLimits
   pub reports : ReportsLate
-  pub quanta : (table : Table) (free : ℕ → ℕ) (buffer : List ℕ) (place : ℕ) → QuantaAreRecords table free buffer place
-  pub in-turn : (table : Table) (free : ℕ → ℕ) (buffer : List ℕ) (place : ℕ) → RecordsStandInTurn table free buffer place
+  pub quanta : (table : Table) (steps : ℕ → Step) (buffer : List ℕ) (place : ℕ) → QuantaAreRecords table steps buffer place
+  pub in-turn : (table : Table) (steps : ℕ → Step) (buffer : List ℕ) (place : ℕ) → RecordsStandInTurn table steps buffer place
   pub slot-count-is-read : WordBytesAreRead
   pub run-passes : RunPasses

@@ -3,7 +3,7 @@
 use Prim.Native.Nat.{ℕ, _+_, _≤_, _<_}
 use mathlib.Core.Path.{_≡_}
 use mathlib.Core.List.{List}
-use mathlib.Core.Bool.{true, false, cond}
+use mathlib.Core.Bool.{Bool, true, false, cond}
 use mathlib.Core.Logic.{_↔_}
 use lib.ListN.{length, getD}
 use Rattle.table.specs.Bytes.{tableNumber, tableIn}
@@ -14,6 +14,7 @@ use Rattle.choice.specs.Choice.{ChosenAsPd2}
 use Rattle.trace.specs.Record.{withRecord, recordOf}
 use Rattle.trace.specs.Records.{freeAt, rowsAt, names}
 use Rattle.trace.specs.Said.{bare}
+use Rattle.cores.specs.Sets.{size}
 use Rattle.dispatcher.specs.declared.State.{State}
 use Rattle.dispatcher.specs.State.{rowsIn, quantaIn, timeOf}
 use Rattle.dispatcher.specs.Slot.{SlotReply, slotOf}
@@ -22,7 +23,7 @@ use Rattle.checker.specs.Check.{checkOf}
 use Rattle.checker.specs.WellFormed.{WellFormed}
 use Rattle.checker.specs.Passes.{InWindows}
 
--- A slot of state s with k cores free that answers 0 or 1, at a place in a buffer: what it has given back.
+-- A slot of state s with k cores free, k being "the size of the set" (02, One), that answers 0 or 1, at a place in a buffer: what it has given back.
 pub record Picks (s : State) (k : ℕ) (buffer : List ℕ) (place : ℕ) (after : SlotReply) : Type 0 where
   -- "those that PD2 picks": the record that stands at the place names them, "every other byte is as before",
   pub bytes : after .bytes ≡ withRecord buffer place (recordOf k (pd2Picks (rowsIn s) (quantaIn s) (timeOf s) k))
@@ -46,8 +47,8 @@ pub record Picks (s : State) (k : ℕ) (buffer : List ℕ) (place : ℕ) (after 
 
 abbrev pub PicksArePd2s : Type 0
 PicksArePd2s =
-    (s : State) (k : ℕ) (buffer : List ℕ) (place : ℕ) → slotOf s k buffer place .said .number < 2 →
-    Picks s k buffer place (slotOf s k buffer place)
+    (s : State) (free : List Bool) (buffer : List ℕ) (place : ℕ) → slotOf s free buffer place .said .number < 2 →
+    Picks s (size free) buffer place (slotOf s free buffer place)
 
 -- "The trace checker passes a trace exactly when the trace is well formed and each quantum falls inside its allowed slots, none overdue": for the bytes
 -- of any table and trace.

@@ -2,14 +2,14 @@
 use Prim.Native.Nat.{ℕ}
 use mathlib.Core.Path.{_≡_, refl, sym, ap₂, _∙_}
 use mathlib.Core.List.{List}
-use mathlib.Core.Bool.{cond}
+use mathlib.Core.Bool.{Bool, cond}
 use lib.Dec.{eqb}
 use Rattle.facts.specs.Determined.{Determined, TellsApart}
 use Rattle.facts.proofs.Determined.{by-value, by-way-back}
 use Rattle.table.specs.declared.Table.{Table}
 use Rattle.dispatcher.specs.declared.State.{State}
 use Rattle.dispatcher.specs.declared.Answer.{Answer}
-use Rattle.dispatcher.specs.declared.Answer.the-variants.{Done, Late, Broken, Stopped, AtLimit, TooManyCores, NoRoom}
+use Rattle.dispatcher.specs.declared.Answer.the-variants.{Done, Late, Broken, Stopped, AtLimit, NoSuchCore, NoRoom}
 use Rattle.dispatcher.specs.declared.Told.{Told}
 use Rattle.dispatcher.specs.declared.Outcome.{Outcome}
 use Rattle.dispatcher.specs.State.{freshOf}
@@ -25,7 +25,7 @@ answerFor x =
     (cond (eqb (x .number) 30) Broken
     (cond (eqb (x .number) 31) Stopped
     (cond (eqb (x .number) 32) AtLimit
-    (cond (eqb (x .number) 33) TooManyCores NoRoom)))))
+    (cond (eqb (x .number) 35) NoSuchCore NoRoom)))))
 
 back : (a : Answer) → answerFor (saidOf a) ≡ a
 unfolding answerFor
@@ -34,7 +34,7 @@ back (Late row time) = refl
 back Broken = refl
 back Stopped = refl
 back AtLimit = refl
-back TooManyCores = refl
+back NoSuchCore = refl
 back NoRoom = refl
 
 -- Two answers with one number, row and time are one answer.
@@ -51,9 +51,10 @@ told-is-determined a x y p q =
 pub fresh-is-determined : (t : Table) → Determined {R = State} (λ r. r ≡ freshOf t)
 fresh-is-determined t = by-value
 
--- The promise of `slot` determines answer, state and buffer.
-pub slot-is-determined : (s : State) (k : ℕ) (buffer : List ℕ) (place : ℕ) → Determined {R = Outcome × List ℕ} (λ r. Gives s k buffer place (r .0) (r .1))
-slot-is-determined s k buffer place a b p q =
+-- The promise of `slot` determines answer, cores, state and buffer.
+pub slot-is-determined : (s : State) (free : List Bool) (buffer : List ℕ) (place : ℕ) → Determined {R = Outcome × List ℕ} (λ r. Gives s free buffer place (r .0) (r .1))
+slot-is-determined s free buffer place a b p q =
     let answer = answers-tell-apart (a .0 .answer) (b .0 .answer) (p .0 ∙ sym (q .0)) in
-    let state = p .1 .0 ∙ sym (q .1 .0) in
-    ap₂ (λ outcome bytes. (outcome, bytes)) (ap₂ (λ answer state. record { answer = answer; state = state }) answer state) (p .1 .1 ∙ sym (q .1 .1))
+    let placed = p .1 .0 ∙ sym (q .1 .0) in
+    let state = p .1 .1 .0 ∙ sym (q .1 .1 .0) in
+    ap₂ (λ outcome bytes. (outcome, bytes)) (λ k. record { answer = answer k; placed = placed k; state = state k }) (p .1 .1 .1 ∙ sym (q .1 .1 .1))

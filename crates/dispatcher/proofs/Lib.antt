@@ -1,9 +1,12 @@
+pub mod Rows
 pub mod Asked
 pub mod BrokenBy
 pub mod Ran
 pub mod Refused
 pub mod Whole
+pub mod Placing
 pub mod Kept
+pub mod Placed
 pub mod Places
 pub mod RunKept
 pub mod Written

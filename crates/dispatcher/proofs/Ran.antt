@@ -10,6 +10,7 @@ use Rattle.facts.proofs.Tests.{both, hold-both}
 use lib.Dec.{ltb}
 use lib.ListN.{length, getD, length-map, List·getD-eq-default}
 use lib.Seq.{ext-getD}
+use Rattle.facts.specs.Counting.{those}
 use Rattle.facts.specs.First.{Lowest}
 use Rattle.facts.proofs.First.{same-lowest}
 use Rattle.facts.proofs.Some.{some-if, none-if}
@@ -23,6 +24,7 @@ use Rattle.pd2.proofs.Choice.{how-many-given, given-at}
 use Rattle.trace.specs.Record.{marked}
 use Rattle.trace.specs.Records.{names}
 use Rattle.trace.proofs.Names.{listed-are-named}
+use Rattle.cores.specs.declared.Placement.{Placement}
 use Rattle.dispatcher.specs.declared.State.{State}
 use Rattle.dispatcher.specs.State.{rowsIn, quantaIn, timeOf}
 use Rattle.dispatcher.specs.Broken.{ofRow}
@@ -32,6 +34,7 @@ use Rattle.dispatcher.specs.Slot.{picksIn, lateAt, lateIn, stepped}
 use Rattle.table.specs.Causes.{zeroRow}
 use Rattle.pd2.specs.Rows.{GaveMarked, saysLate, saysLateIn}
 use Rattle.dispatcher.specs.Usable.{UsableState, CanRun}
+use Rattle.dispatcher.proofs.Rows.{late-rows}
 use Rattle.dispatcher.proofs.Asked.{answered-there}
 
 -- If only small counts are marked, giving to the marked places is what the definition says.
@@ -66,16 +69,16 @@ given-is marks before after so few small = sym (counted-back after) ∙ ap count
         at false e = rw e (omega arith)
 
 -- Giving keeps the places of a state.
-pub places-stay : (s : State) (rows : List ℕ) → length (stepped s rows .quanta) ≡ length (s .quanta)
-places-stay s rows =
+pub places-stay : (s : State) (rows : List ℕ) (placed : Placement) → length (stepped s rows placed .quanta) ≡ length (s .quanta)
+places-stay s rows placed =
     length-map (given (names rows) 0 (quantaIn s)) (λ q. record { 0 = q })
     ∙ (how-many-given (names rows) 0 (quantaIn s) ∙ as-many-numbers (s .quanta))
 
 -- If only its rows are given to, a usable state stays usable as long as the time is below its limit.
-pub stays-usable : (s : State) (rows : List ℕ) → UsableState s → timeOf s < timeLimit → UsableState (stepped s rows)
-stays-usable s rows u slot-left =
+pub stays-usable : (s : State) (rows : List ℕ) (placed : Placement) → UsableState s → timeOf s < timeLimit → UsableState (stepped s rows placed)
+stays-usable s rows placed u slot-left =
     record {
-      place = record { few = u .place .few; all = u .place .all; long = places-stay s rows ∙ u .place .long };
+      place = record { few = u .place .few; all = u .place .all; long = places-stay s rows placed ∙ u .place .long };
       each = λ i l. let row = u .each i l in record { cost = row .cost; below-period = row .below-period; quanta = few i l; time = omega arith };
     }
   where
@@ -83,7 +86,7 @@ stays-usable s rows u slot-left =
     one-at-most true = omega arith
     one-at-most false = omega arith
 
-    few : (i : ℕ) → i < length (rowsIn s) → quantaAt (quantaIn (stepped s rows)) i ≤ timeOf s + 1
+    few : (i : ℕ) → i < length (rowsIn s) → quantaAt (quantaIn (stepped s rows placed)) i ≤ timeOf s + 1
     few i l =
         let place = u .place in
         let there : i < length (quantaIn s) = omega (arith, as-many-numbers (s .quanta), place .few, place .all, place .long) in
@@ -122,9 +125,12 @@ lowest-of-state s u {i} low =
 -- The lowest late row is named, and the state is stopped; where none is late the slot is done, and the state runs on.
 pub by-lowest : (s : State) {i : ℕ} → Lowest (ofRow s (lateAt (timeOf s))) (length (rowsIn s)) i → {n : ℕ} → n ≡ length (rowsIn s) →
     (cond (ltb i n) (named 1 i (timeOf s)) (bare 0) ≡ doneSaid (lateIn s) (timeOf s)) × (ltb i n ≡ ltb 0 (length (lateIn s)))
-by-lowest s {i} low {n} all = go (decLt i n)
+by-lowest s {i} low {n} all = rw (late-rows s) (go (decLt i n))
   where
-    go : Dec (i < n) → (cond (ltb i n) (named 1 i (timeOf s)) (bare 0) ≡ doneSaid (lateIn s) (timeOf s)) × (ltb i n ≡ ltb 0 (length (lateIn s)))
+    late : List ℕ
+    late = those (ofRow s (lateAt (timeOf s))) (length (rowsIn s))
+
+    go : Dec (i < n) → (cond (ltb i n) (named 1 i (timeOf s)) (bare 0) ≡ doneSaid late (timeOf s)) × (ltb i n ≡ ltb 0 (length late))
     go (yes l) =
         let there : i < length (rowsIn s) = omega arith in
         let first = lowest-is-first _ _ i low there in

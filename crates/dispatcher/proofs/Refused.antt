@@ -15,16 +15,18 @@ use Rattle.counts.specs.Limits.{timeLimit}
 use Rattle.trace.specs.declared.Stored.{Stored}
 use Rattle.trace.specs.declared.Stored.the-variants.{Written, NoRoom}
 use Rattle.trace.specs.Record.{recordOf, withFront, withRecord, storedNumber, writeNumber, partAfter}
+use Rattle.trace.specs.Said.{bare}
+use Rattle.cores.specs.Sets.{size, namesPast}
+use Rattle.cores.specs.Placement.{nobody}
 use Rattle.dispatcher.specs.declared.State.{State}
 use Rattle.dispatcher.specs.declared.Answer.{Answer}
 use Rattle.dispatcher.specs.declared.Answer.the-variants.{Done}
 use Rattle.dispatcher.specs.declared.Outcome.{Outcome}
 use Rattle.dispatcher.specs.State.{timeOf}
 use Rattle.dispatcher.specs.Broken.{broken}
-use Rattle.trace.specs.Said.{bare}
-use Rattle.dispatcher.specs.Answer.{saidOf}
-use Rattle.dispatcher.specs.Slot.{picksIn, recordIn, lacksRoom, refusal, doneReply, slotOf}
-use Rattle.dispatcher.specs.Usable.{Admitted, CauseIs}
+use Rattle.dispatcher.specs.Answer.{saidOf, doneSaid}
+use Rattle.dispatcher.specs.Slot.{picksIn, recordIn, lateIn, afterSlot, stoppedBy, lacksRoom, refusal, slotOf}
+use Rattle.dispatcher.specs.Usable.{Admitted, CauseIs, Judged}
 
 -- Whether a record of c rows has room: the two tests of 01 are one.
 pub lacks-room : (buffer : List ℕ) (place c : ℕ) → length buffer < place + 2 + c → lacksRoom buffer place c ≡ true
@@ -37,41 +39,45 @@ lacks-room buffer place c short = go (decLt (length buffer) place)
 pub has-room-for : (buffer : List ℕ) (place c : ℕ) → place + 2 + c ≤ length buffer → lacksRoom buffer place c ≡ false
 has-room-for buffer place c long = rw (le-ltb (length buffer) place (omega arith), le-ltb (length buffer - place) (2 + c) (omega arith)) refl
 
-module _ (s : State) (k : ℕ) (buffer : List ℕ) (place : ℕ) where
+module _ (s : State) (free : List Bool) (buffer : List ℕ) (place : ℕ) where
   -- What a slot gives back, as its promise has it.
   abbrev pub Gives : Outcome → List ℕ → Type 0
   Gives r bytes =
-      (saidOf (r .answer) ≡ slotOf s k buffer place .said)
-      × ((r .state ≡ slotOf s k buffer place .state) × (bytes ≡ slotOf s k buffer place .bytes))
+      (saidOf (r .answer) ≡ slotOf s free buffer place .said)
+      × ((r .placed ≡ slotOf s free buffer place .placed) × ((r .state ≡ slotOf s free buffer place .state) × (bytes ≡ slotOf s free buffer place .bytes)))
 
-  -- A refusal gives its number, the state and the buffer as they came.
-  pub refused-gives : (a : Answer) → (saidOf a .number ≡ 0 → ⊥) → saidOf a ≡ bare (refusal s k buffer place) →
-      {r : Outcome} → (r .answer ≡ a) × (r .state ≡ s) → {bytes : List ℕ} → bytes ≡ buffer → Gives r bytes
+  -- A refusal gives its number, places nobody, and gives the state and the buffer as they came.
+  pub refused-gives : (a : Answer) → (saidOf a .number ≡ 0 → ⊥) → saidOf a ≡ bare (refusal s free buffer place) →
+      {r : Outcome} → r ≡ record { answer = a; placed = nobody; state = s } → {bytes : List ℕ} → bytes ≡ buffer → Gives r bytes
   unfolding slotOf
-  refused-gives a refuses said {r} out {bytes} same = go (refusal s k buffer place) refl
+  refused-gives a refuses said {r} out {bytes} same = go (refusal s free buffer place) refl
     where
-      go : (number : ℕ) → refusal s k buffer place ≡ number → Gives r bytes
+      go : (number : ℕ) → refusal s free buffer place ≡ number → Gives r bytes
       go zero e = absurd (refuses (ap (λ x. x .number) said ∙ e))
-      go (suc number) e = rw e (ap saidOf (out .0) ∙ (said ∙ ap bare e), (out .1, same))
+      go (suc number) e = rw e (ap (λ r. saidOf (r .answer)) out ∙ (said ∙ ap bare e), (ap (λ r. r .placed) out, (ap (λ r. r .state) out, same)))
 
   -- A slot that is not refused gives what the definition says.
-  pub done-gives : refusal s k buffer place ≡ 0 → (r : Outcome) → saidOf (r .answer) ≡ doneReply s k buffer place .said →
-      r .state ≡ doneReply s k buffer place .state → {bytes : List ℕ} → bytes ≡ withRecord buffer place (recordIn s k) → Gives r bytes
+  pub done-gives : refusal s free buffer place ≡ 0 → {after : State} → after ≡ afterSlot s free → (r : Outcome) → Judged after r →
+      {bytes : List ℕ} → bytes ≡ withRecord buffer place (recordIn s (size free)) → Gives r bytes
   unfolding slotOf
-  done-gives e r said state bytes = rw e (said, (state, bytes))
+  done-gives e {after} same r judged bytes =
+      rw e (
+        judged .said ∙ ap (λ x. doneSaid (lateIn x) (timeOf x)) same,
+        (judged .placed ∙ ap (λ x. x .last) same, (judged .state ∙ ap (λ x. stoppedBy (lateIn x) x) same, bytes)),
+      )
 
-  -- "Order for a slot: 30, 31, 32, 33, 34."
-  pub first-30 : broken s ≡ true → refusal s k buffer place ≡ 30
+  -- The order for a slot: 30, 31, 32, 35, 34.
+  pub first-30 : broken s ≡ true → refusal s free buffer place ≡ 30
   unfolding refusal
   first-30 h = first-is-said 0 (FirstFound.here h)
 
   module _ (whole : broken s ≡ false) where
-    pub first-31 : s .stopped ≡ true → refusal s k buffer place ≡ 31
+    pub first-31 : s .stopped ≡ true → refusal s free buffer place ≡ 31
     unfolding refusal
     first-31 h = first-is-said 0 (FirstFound.later whole (FirstFound.here h))
 
     module _ (runs : s .stopped ≡ false) where
-      pub first-32 : timeOf s ≡ timeLimit → refusal s k buffer place ≡ 32
+      pub first-32 : timeOf s ≡ timeLimit → refusal s free buffer place ≡ 32
       unfolding refusal
       first-32 h = first-is-said 0 (FirstFound.later whole (FirstFound.later runs (FirstFound.here (eq-eqb (timeOf s) timeLimit h))))
 
@@ -79,33 +85,33 @@ module _ (s : State) (k : ℕ) (buffer : List ℕ) (place : ℕ) where
         not-at-limit : eqb (timeOf s) timeLimit ≡ false
         not-at-limit = ne-eqb (timeOf s) timeLimit (λ e. omega arith)
 
-        pub first-33 : s .table .cores < k → refusal s k buffer place ≡ 33
+        pub first-35 : namesPast (s .table .cores) free ≡ true → refusal s free buffer place ≡ 35
         unfolding refusal
-        first-33 h = first-is-said 0 (FirstFound.later whole (FirstFound.later runs (FirstFound.later not-at-limit (FirstFound.here (lt-ltb (s .table .cores) k h)))))
+        first-35 h = first-is-said 0 (FirstFound.later whole (FirstFound.later runs (FirstFound.later not-at-limit (FirstFound.here h))))
 
-        module _ (enough : k ≤ s .table .cores) where
-          pub by-room : {lacks : Bool} → lacksRoom buffer place (length (picksIn s k)) ≡ lacks → refusal s k buffer place ≡ cond lacks 34 0
+        module _ (there : namesPast (s .table .cores) free ≡ false) where
+          pub by-room : {lacks : Bool} → lacksRoom buffer place (length (picksIn s (size free))) ≡ lacks → refusal s free buffer place ≡ cond lacks 34 0
           unfolding refusal
           by-room {lacks} h =
-              after-none 0 _ (NoneFound.later whole (NoneFound.later runs (NoneFound.later not-at-limit (NoneFound.later (le-ltb (s .table .cores) k enough) NoneFound.end))))
+              after-none 0 _ (NoneFound.later whole (NoneFound.later runs (NoneFound.later not-at-limit (NoneFound.later there NoneFound.end))))
               ∙ go lacks h
             where
-              go : (b : Bool) → lacksRoom buffer place (length (picksIn s k)) ≡ b →
-                  firstFound {A = ℕ} 0 ((lacksRoom buffer place (length (picksIn s k)) says 34) ∷ []) ≡ cond b 34 0
+              go : (b : Bool) → lacksRoom buffer place (length (picksIn s (size free))) ≡ b →
+                  firstFound {A = ℕ} 0 ((lacksRoom buffer place (length (picksIn s (size free))) says 34) ∷ []) ≡ cond b 34 0
               go true e = first-is-said 0 (FirstFound.here e)
               go false e = none-says-otherwise 0 (NoneFound.later e NoneFound.end)
 
           -- the place is past the end,
-          pub past-end : length buffer < place → refusal s k buffer place ≡ 34
-          past-end h = by-room {lacks = true} (lacks-room buffer place (length (picksIn s k)) (omega arith))
+          pub past-end : length buffer < place → refusal s free buffer place ≡ 34
+          past-end h = by-room {lacks = true} (lacks-room buffer place (length (picksIn s (size free))) (omega arith))
 
-          module _ (inside : place ≤ length buffer) {marks : List ℕ} (same : marks ≡ picksIn s k) (stored : Stored)
-              (wrote : storedNumber stored ≡ writeNumber (drop place buffer) (recordOf k marks)) where
+          module _ (inside : place ≤ length buffer) {marks : List ℕ} (same : marks ≡ picksIn s (size free)) (stored : Stored)
+              (wrote : storedNumber stored ≡ writeNumber (drop place buffer) (recordOf (size free) marks)) where
             -- whether there is room, as the writer and as the definition tests it
             abbrev room : Bool → Type 0
             room has =
-                (storedNumber stored ≡ cond has 0 34) × (refusal s k buffer place ≡ cond has 0 34)
-                × (partAfter (drop place buffer) (recordOf k marks) ≡ cond has (withFront (drop place buffer) (recordOf k marks)) (drop place buffer))
+                (storedNumber stored ≡ cond has 0 34) × (refusal s free buffer place ≡ cond has 0 34)
+                × (partAfter (drop place buffer) (recordOf (size free) marks) ≡ cond has (withFront (drop place buffer) (recordOf (size free) marks)) (drop place buffer))
 
             decided : room true ⊎ room false
             decided = go (decLe (2 + length marks) (length buffer - place))
@@ -113,42 +119,42 @@ module _ (s : State) (k : ℕ) (buffer : List ℕ) (place : ℕ) where
                 long : length (drop place buffer) ≡ length buffer - place
                 long = length-drop place buffer
 
-                count : length (picksIn s k) ≡ length marks
+                count : length (picksIn s (size free)) ≡ length marks
                 count = sym (ap length same)
 
                 go : Dec (2 + length marks ≤ length buffer - place) → room true ⊎ room false
                 go (yes l) =
-                    let fits = le-leb (length (recordOf k marks)) (length (drop place buffer)) (omega (arith, long)) in
-                    let lacks = has-room-for buffer place (length (picksIn s k)) (omega (arith, count, inside)) in
+                    let fits = le-leb (length (recordOf (size free) marks)) (length (drop place buffer)) (omega (arith, long)) in
+                    let lacks = has-room-for buffer place (length (picksIn s (size free))) (omega (arith, count, inside)) in
                     inl (wrote ∙ ap (λ has. cond has 0 34) fits, by-room {lacks = false} lacks, rw fits refl)
                 go (no l) =
-                    let short = lt-leb (length (recordOf k marks)) (length (drop place buffer)) (omega (arith, long)) in
-                    let lacks = lacks-room buffer place (length (picksIn s k)) (omega (arith, count)) in
+                    let short = lt-leb (length (recordOf (size free) marks)) (length (drop place buffer)) (omega (arith, long)) in
+                    let lacks = lacks-room buffer place (length (picksIn s (size free))) (omega (arith, count)) in
                     inr (wrote ∙ ap (λ has. cond has 0 34) short, by-room {lacks = true} lacks, rw short refl)
 
-            module _ {part : List ℕ} (left : part ≡ partAfter (drop place buffer) (recordOf k marks)) where
+            module _ {part : List ℕ} (left : part ≡ partAfter (drop place buffer) (recordOf (size free) marks)) where
               -- or too little room is left behind it, and then the part is as it was;
-              pub no-room : stored ≡ NoRoom → (refusal s k buffer place ≡ 34) × (take place buffer ++ part ≡ buffer)
+              pub no-room : stored ≡ NoRoom → (refusal s free buffer place ≡ 34) × (take place buffer ++ part ≡ buffer)
               no-room e = go decided
                 where
-                  go : room true ⊎ room false → (refusal s k buffer place ≡ 34) × (take place buffer ++ part ≡ buffer)
+                  go : room true ⊎ room false → (refusal s free buffer place ≡ 34) × (take place buffer ++ part ≡ buffer)
                   go (inl has) = absurd (omega (arith, has .0, ap storedNumber e))
                   go (inr none) = (none .1, rw (left, none .2) (take-append-drop place buffer))
 
               -- else the slot is not refused, and the record stands at the place.
-              pub has-room : stored ≡ Written → (refusal s k buffer place ≡ 0) × (take place buffer ++ part ≡ withRecord buffer place (recordIn s k))
+              pub has-room : stored ≡ Written → (refusal s free buffer place ≡ 0) × (take place buffer ++ part ≡ withRecord buffer place (recordIn s (size free)))
               unfolding withRecord
               has-room e = go decided
                 where
-                  go : room true ⊎ room false → (refusal s k buffer place ≡ 0) × (take place buffer ++ part ≡ take place buffer ++ withFront (drop place buffer) (recordIn s k))
+                  go : room true ⊎ room false → (refusal s free buffer place ≡ 0) × (take place buffer ++ part ≡ take place buffer ++ withFront (drop place buffer) (recordIn s (size free)))
                   go (inl has) = (has .1, rw (left, has .2, same) refl)
                   go (inr none) = absurd (omega (arith, none .0, ap storedNumber e))
 
 -- The tests before the choice look at the buffer's length alone.
-module _ (s : State) (k len place : ℕ) where
+module _ (s : State) (free : List Bool) (len place : ℕ) where
   -- One of them is met,
   pub cause-is : (a : Answer) {number : ℕ} → saidOf a ≡ bare (suc number) →
-      ((buffer : List ℕ) → length buffer ≡ len → refusal s k buffer place ≡ suc number) → CauseIs s k len place a
+      ((buffer : List ℕ) → length buffer ≡ len → refusal s free buffer place ≡ suc number) → CauseIs s free len place a
   cause-is a said met =
       record {
         refuses = λ _ buffer long. said ∙ ap bare (sym (met buffer long));
@@ -156,5 +162,5 @@ module _ (s : State) (k len place : ℕ) where
       }
 
   -- or none is.
-  pub no-cause : Admitted s k len place → CauseIs s k len place Done
+  pub no-cause : Admitted s free len place → CauseIs s free len place Done
   no-cause admitted = record { refuses = λ some. absurd (some refl); admits = λ _. admitted }

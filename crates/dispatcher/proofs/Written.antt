@@ -18,12 +18,15 @@ use Rattle.trace.specs.Record.{recordOf, withRecord}
 use Rattle.trace.specs.Records.{freeAt, pickedAt, rowsAt, pastRecord, placeOf, timesNamedFrom}
 use Rattle.trace.proofs.Records.{places-rise, stand-from, ends-at-next, ends-before}
 use Rattle.trace.proofs.Agree.{Agree, rows-agree, place-agrees, count-agrees, still-as-long, agrees-before, free-written, count-written, rows-written}
+use Rattle.cores.specs.Sets.{size}
+use Rattle.cores.proofs.Sets.{size-within}
+use Rattle.dispatcher.specs.declared.State.{State}
 use Rattle.dispatcher.specs.State.{rowsIn, quantaIn, timeOf}
-use Rattle.dispatcher.specs.Slot.{picksIn, recordIn, slotOf}
-use Rattle.dispatcher.specs.Run.{Run, oneMore, run}
+use Rattle.dispatcher.specs.Slot.{picksIn, recordIn}
+use Rattle.dispatcher.specs.Run.{Step, stepOf, recordBy, Run, placeBy, oneMore, run}
 use Rattle.dispatcher.specs.RunKept.{runFor}
-use Rattle.dispatcher.proofs.Kept.{Goes, goes, done-is-not-refused, done-makes-the-step}
-use Rattle.dispatcher.proofs.Places.{picks-are-few}
+use Rattle.dispatcher.proofs.Placing.{picks-are-few}
+use Rattle.dispatcher.proofs.Kept.{goes, done-is-not-refused, done-makes-the-step}
 use Rattle.dispatcher.proofs.RunKept.{next-run, before-too, going, place-behind, keeps-shares, quanta-are-records}
 
 -- for callers
@@ -96,39 +99,55 @@ module _ (table : Table) (from t : ℕ) (b : List ℕ) (next k : ℕ) (rows : Li
       go j l (yes h) = stay-sound j h
       go j l (no h) = let e : j ≡ t = omega arith in rw (e, stands-next) this
 
-module _ (table : Table) (free : ℕ → ℕ) (buffer : List ℕ) (place : ℕ) where
+-- What a step that is done has written: one sound record more, behind the others.
+record Wrote (table : Table) (b : List ℕ) (place : ℕ) (after : List ℕ) (next : ℕ) : Type 0 where
+  k : ℕ
+  rows : List ℕ
+  listed : ℕ → Bool
+  room : place + length (recordOf k rows) ≤ length b
+  bytes : after ≡ withRecord b place (recordOf k rows)
+  behind : next ≡ place + length (recordOf k rows)
+  cores : k ≤ table .cores
+  few : length rows ≤ k
+  same : rows ≡ those listed (length (rowsOf table))
+
+wrote : (s : State) (step : Step) (b : List ℕ) (place : ℕ) → stepOf s step b place .said .number < 2 →
+    Wrote (s .table) b place (stepOf s step b place .bytes) (placeBy (stepOf s step b place .said .number) place (recordBy s step))
+wrote s (Step.slot free) b place h =
+    let can = goes s free b place (done-is-not-refused s free b place h) in
+    record {
+      k = size free;
+      rows = picksIn s (size free);
+      listed = picked (readyIn (rowsIn s) (quantaIn s) (timeOf s)) (goesBeforeBy before (rowsIn s) (quantaIn s)) (length (rowsIn s)) (size free);
+      room = can .room;
+      bytes = ap (λ x. x .bytes) (done-makes-the-step s free b place h);
+      behind = place-behind _ place (recordIn s (size free)) h;
+      cores = size-within (s .table .cores) free (can .there);
+      few = picks-are-few s (size free);
+      same = refl;
+    }
+
+module _ (table : Table) (steps : ℕ → Step) (buffer : List ℕ) (place : ℕ) where
   abbrev at : ℕ → Run
-  at = runFor table free buffer place
+  at = runFor table steps buffer place
 
-  -- What a slot of a run that is done has met and written.
-  record Step (m : ℕ) : Type 0 where
-    goes : Goes (at m .state) (free m) (at m .bytes) (at m .place)
-    bytes : at (suc m) .bytes ≡ withRecord (at m .bytes) (at m .place) (recordIn (at m .state) (free m))
-    next : at (suc m) .place ≡ at m .place + length (recordIn (at m .state) (free m))
-
-  step : (m : ℕ) → at m .said .number ≡ 0 → at (suc m) .said .number < 2 → Step m
+  -- So has a step of a run.
+  step : (m : ℕ) → at m .said .number ≡ 0 → at (suc m) .said .number < 2 → Wrote (at m .state .table) (at m .bytes) (at m .place) (at (suc m) .bytes) (at (suc m) .place)
   step m e h =
       let r = at m in
-      let on = next-run table free buffer place m e in
-      let done : slotOf (r .state) (free m) (r .bytes) (r .place) .said .number < 2 = rw on at h in
-      record {
-        goes = goes (r .state) (free m) (r .bytes) (r .place) (done-is-not-refused (r .state) (free m) (r .bytes) (r .place) done);
-        bytes = ap (λ x. x .bytes) on ∙ ap (λ x. x .bytes) (done-makes-the-step (r .state) (free m) (r .bytes) (r .place) done);
-        next = ap (λ x. x .place) on ∙ place-behind _ (r .place) (recordIn (r .state) (free m)) done;
-      }
+      let on = next-run table steps buffer place m e in
+      rw on (wrote (r .state) (steps m) (r .bytes) (r .place) (rw on at h))
 
-  -- one slot more that is done writes one sound record more
-  written-on : (m : ℕ) → at m .state .table ≡ table → Step m → Written table place m (at m .bytes) (at m .place) →
-      Written table place (m + 1) (at (suc m) .bytes) (at (suc m) .place)
+  -- one step more that is done writes one sound record more
+  written-on : (m : ℕ) → at m .state .table ≡ table → Wrote (at m .state .table) (at m .bytes) (at m .place) (at (suc m) .bytes) (at (suc m) .place) →
+      Written table place m (at m .bytes) (at m .place) → Written table place (m + 1) (at (suc m) .bytes) (at (suc m) .place)
   written-on m same st so =
-      let r = at m in
-      let isPicked = picked (readyIn (rowsIn (r .state)) (quantaIn (r .state)) (timeOf (r .state))) (goesBeforeBy before (rowsIn (r .state)) (quantaIn (r .state))) (length (rowsIn (r .state))) (free m) in
-      rw (st .bytes, st .next)
-      (written-after table place m (r .bytes) (r .place) (free m) (picksIn (r .state) (free m)) so (st .goes .room)
-      (subst (λ t. free m ≤ t .cores) same (st .goes .cores))
-      (picks-are-few (r .state) (free m))
-      isPicked
-      (ap (λ t. those isPicked (length (rowsOf t))) same))
+      rw (st .bytes, st .behind)
+      (written-after table place m (at m .bytes) (at m .place) (st .k) (st .rows) so (st .room)
+      (subst (λ t. st .k ≤ t .cores) same (st .cores))
+      (st .few)
+      (st .listed)
+      (st .same ∙ ap (λ t. those (st .listed) (length (rowsOf t))) same))
 
   module _ (sound : faultOf table ≡ 0) (starts : place ≤ length buffer) where
     -- While every answer is 0, a run of m slots has written m sound records,
@@ -136,13 +155,13 @@ module _ (table : Table) (free : ℕ → ℕ) (buffer : List ℕ) (place : ℕ) 
     unfolding run placeOf
     written-going zero e = record { place = refl; inside = starts; each = λ j l. absurd (omega arith) }
     written-going (suc m) e =
-        let earlier = before-too table free buffer place m e in
+        let earlier = before-too table steps buffer place m e in
         subst (λ t. Written table place t (at (suc m) .bytes) (at (suc m) .place)) (add-one m)
-        (written-on m (going table free buffer place sound m earlier .same) (step m earlier (omega (arith, e))) (written-going m earlier))
+        (written-on m (going table steps buffer place sound m earlier .same) (step m earlier (omega (arith, e))) (written-going m earlier))
 
     -- and one more in a slot that answers 0 or 1.
     pub written-last : (m : ℕ) → at m .said .number ≡ 0 → at (suc m) .said .number < 2 → Written table place (m + 1) (at (suc m) .bytes) (at (suc m) .place)
-    written-last m e h = written-on m (going table free buffer place sound m e .same) (step m e h) (written-going m e)
+    written-last m e h = written-on m (going table steps buffer place sound m e .same) (step m e h) (written-going m e)
 
     -- the records before a slot that is done count as before
     counts-stay : (m : ℕ) → at m .said .number ≡ 0 → at (suc m) .said .number < 2 → (i t : ℕ) → t ≤ m →
@@ -150,16 +169,16 @@ module _ (table : Table) (free : ℕ → ℕ) (buffer : List ℕ) (place : ℕ) 
     counts-stay m e h i t l =
         let st = step m e h in
         let r = at m in
-        let agree = agrees-before (r .bytes) (r .place) (free m) (picksIn (r .state) (free m)) (st .goes .room) place in
+        let agree = agrees-before (r .bytes) (r .place) (st .k) (st .rows) (st .room) place in
         let there : placeOf (r .bytes) place t ≤ r .place = omega (arith, places-rise (r .bytes) place t m l, written-going m e .place) in
         rw (st .bytes) (count-agrees place (r .place) _ (r .bytes) agree i t there)
 
     -- each row is within its share at the end, by the records written,
     shares-now : (m : ℕ) → at m .said .number ≡ 0 → (i : ℕ) → i < length (rowsOf table) → within (rowAt (rowsOf table) i) (timesNamedFrom (at m .bytes) place i m) m ≡ true
     shares-now m e i l =
-        let kept = keeps-shares table free buffer place sound m e in
+        let kept = keeps-shares table steps buffer place sound m e in
         subst (λ q. within (rowAt (rowsOf table) i) q m ≡ true)
-        (quanta-are-records table free buffer place m i ∙ ap (timesNamedFrom (at m .bytes) place i) (kept .0))
+        (quanta-are-records table steps buffer place m i ∙ ap (timesNamedFrom (at m .bytes) place i) (kept .0))
         (kept .1 i l)
 
     -- While every answer is 0, each row is within its share at each time, by the records written so far,
@@ -169,7 +188,7 @@ module _ (table : Table) (free : ℕ → ℕ) (buffer : List ℕ) (place : ℕ) 
     shares-written (suc m) e i t l k = go (decLt m t) (shares-written m earlier i t l)
       where
         earlier : at m .said .number ≡ 0
-        earlier = before-too table free buffer place m e
+        earlier = before-too table steps buffer place m e
 
         go : Dec (m < t) → (t ≤ m → within (rowAt (rowsOf table) i) (timesNamedFrom (at m .bytes) place i t) t ≡ true) →
             within (rowAt (rowsOf table) i) (timesNamedFrom (at (suc m) .bytes) place i t) t ≡ true
@@ -197,5 +216,5 @@ module _ (table : Table) (free : ℕ → ℕ) (buffer : List ℕ) (place : ℕ) 
       go : (n : ℕ) → at m .said .number ≡ n → (at m .said .number ≡ 1 → EndsLate (at m)) → EndsLate (at (suc m))
       go zero z rest = record { slots = m; before = z; late = e; same = refl }
       go (suc n) z rest =
-          let stays : at (suc m) ≡ at m = ap (λ x. oneMore x (at m) (free m)) z in
+          let stays : at (suc m) ≡ at m = ap (λ x. oneMore x (at m) (steps m)) z in
           rw stays (rest (sym (ap (λ r. r .said .number) stays) ∙ e))

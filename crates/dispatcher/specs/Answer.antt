@@ -1,19 +1,19 @@
--- What a slot answers: number, row and time (01, "What comes back").
+-- What a slot answers: number, row and time (01, "What comes back"; 02, One, for 35).
 use Prim.Native.Nat.{ℕ}
 use mathlib.Core.List.{List, [], _∷_}
 use Rattle.trace.specs.Said.{Said, bare, named}
 use Rattle.dispatcher.specs.declared.Told.{Told}
 use Rattle.dispatcher.specs.declared.Answer.{Answer}
-use Rattle.dispatcher.specs.declared.Answer.the-variants.{Done, Late, Broken, Stopped, AtLimit, TooManyCores, NoRoom}
+use Rattle.dispatcher.specs.declared.Answer.the-variants.{Done, Late, Broken, Stopped, AtLimit, NoSuchCore, NoRoom}
 
--- 01's number, row and time for each answer.
+-- The paper's number, row and time for each answer.
 abbrev pub saidOf : Answer → Said
 saidOf Done = bare 0
 saidOf (Late row time) = named 1 row (time .0)
 saidOf Broken = bare 30
 saidOf Stopped = bare 31
 saidOf AtLimit = bare 32
-saidOf TooManyCores = bare 33
+saidOf NoSuchCore = bare 35
 saidOf NoRoom = bare 34
 
 -- What was told of an answer.

@@ -1,4 +1,4 @@
--- A broken state (01, "What comes back").
+-- A broken state (01, "What comes back"; 02, One, for what it remembers).
 use Prim.Native.Nat.{ℕ}
 use mathlib.Core.List.{List}
 use mathlib.Core.Bool.{Bool, not, _&&_, _||_}
@@ -10,8 +10,9 @@ use Rattle.table.specs.declared.Row.{Row}
 use Rattle.table.specs.Value.{faultOf}
 use Rattle.pd2.specs.Share.{within}
 use Rattle.pd2.specs.Choice.{rowAt, quantaAt}
+use Rattle.cores.specs.Fault.{misremembers}
 use Rattle.dispatcher.specs.declared.State.{State}
-use Rattle.dispatcher.specs.State.{rowsIn, quantaIn, timeOf}
+use Rattle.dispatcher.specs.State.{rowsIn, isRow, quantaIn, timeOf}
 
 -- A question about a row and its quanta, put to row i,
 abbrev pub ofRowAt : List Row → List ℕ → (Row → ℕ → Bool) → ℕ → Bool
@@ -23,7 +24,7 @@ ofRow s = ofRowAt (rowsIn s) (quantaIn s)
 
 -- Some row of the state is so.
 abbrev pub someRow : State → (Row → ℕ → Bool) → Bool
-someRow s is = some (ofRow s is) (length (rowsIn s))
+someRow s is = some (λ i. isRow s i && ofRow s is i) (length (rowsIn s))
 
 -- "a row's quanta exceed time"
 abbrev pub exceeds : ℕ → Row → ℕ → Bool
@@ -35,9 +36,11 @@ outsideShare time row q = not (within row q time)
 
 -- "A state is broken (30) if its table has a fault 12 to 20 or 22, if time is above 1,000,000,000, if a row's quanta exceed time, or if it is
 -- not stopped and some row is outside its share at its time."
+-- "30 also for a remembered core not below M or given to two rows, or a remembered row not below n or on two cores" (02, One)
 unfoldable pub broken : State → Bool
 broken s =
     not (eqb (faultOf (s .table)) 0)
     || ltb timeLimit (timeOf s)
     || someRow s (exceeds (timeOf s))
     || (not (s .stopped) && someRow s (outsideShare (timeOf s)))
+    || misremembers (s .last) (isRow s) (s .table .cores)

@@ -11,14 +11,16 @@ use Rattle.table.specs.declared.Row.{Row}
 use Rattle.pd2.specs.Share.{CanBe}
 use Rattle.pd2.specs.Choice.{rowAt, quantaAt}
 use Rattle.choice.specs.Arrays.{InPlace}
+use Rattle.cores.specs.Sets.{namesPast}
 use Rattle.counts.specs.Numbers.{numbersOf}
 use Rattle.dispatcher.specs.declared.State.{State}
 use Rattle.dispatcher.specs.declared.Answer.{Answer}
+use Rattle.dispatcher.specs.declared.Outcome.{Outcome}
 use Rattle.dispatcher.specs.State.{rowsIn, timeOf}
 use Rattle.dispatcher.specs.Broken.{exceeds, outsideShare, broken}
 use Rattle.trace.specs.Said.{bare}
-use Rattle.dispatcher.specs.Answer.{saidOf}
-use Rattle.dispatcher.specs.Slot.{refusal}
+use Rattle.dispatcher.specs.Answer.{saidOf, doneSaid}
+use Rattle.dispatcher.specs.Slot.{lateIn, stoppedBy, refusal}
 
 -- A row that a table may hold, with quanta and a time within their limits.
 pub record UsableRow (row : Row) (q t : ℕ) : Type 0 where
@@ -53,14 +55,20 @@ pub record CanRun (s : State) (marks : List Bool) : Type 0 where
   pub slot-left : timeOf s < timeLimit
 
 -- A slot that no test before the choice refuses, with so many bytes in the buffer.
-pub record Admitted (s : State) (k len place : ℕ) : Type 0 where
+pub record Admitted (s : State) (free : List Bool) (len place : ℕ) : Type 0 where
   pub whole : broken s ≡ false
   pub runs : s .stopped ≡ false
   pub slot-left : timeOf s < timeLimit
-  pub enough : k ≤ s .table .cores
+  pub there : namesPast (s .table .cores) free ≡ false
   pub inside : place ≤ len
 
 -- The answer of the first test before the choice that refuses, 0 where none does.
-pub record CauseIs (s : State) (k len place : ℕ) (answer : Answer) : Type 0 where
-  pub refuses : (saidOf answer .number ≡ 0 → ⊥) → (buffer : List ℕ) → length buffer ≡ len → saidOf answer ≡ bare (refusal s k buffer place)
-  pub admits : saidOf answer .number ≡ 0 → Admitted s k len place
+pub record CauseIs (s : State) (free : List Bool) (len place : ℕ) (answer : Answer) : Type 0 where
+  pub refuses : (saidOf answer .number ≡ 0 → ⊥) → (buffer : List ℕ) → length buffer ≡ len → saidOf answer ≡ bare (refusal s free buffer place)
+  pub admits : saidOf answer .number ≡ 0 → Admitted s free len place
+
+-- The end of a slot, by the state after the step: who is late is answered and, with some late row, the state is stopped; the cores are those remembered.
+pub record Judged (after : State) (r : Outcome) : Type 0 where
+  pub said : saidOf (r .answer) ≡ doneSaid (lateIn after) (timeOf after)
+  pub placed : r .placed ≡ after .last
+  pub state : r .state ≡ stoppedBy (lateIn after) after

@@ -26,7 +26,10 @@ pub(crate) fn is_broken(state: State) -> bool
     let n = state.table.n as usize;
     let rows = state.table.rows;
     let quanta = state.quanta;
-    has_broken_row(rows, quanta, n, state.time, state.stopped)
+    if has_broken_row(rows, quanta, n, state.time, state.stopped) {
+        return true;
+    }
+    state.last.is_faulty(state.table.cores, state.table.n)
 }
 
 // Whether some row breaks the state.

@@ -1,29 +1,34 @@
 // The dispatcher: who runs in a slot. The state goes in and comes back whole.
 mod judge;
 
+use cores::Placement;
 use counts::Quanta;
 use counts::Slot;
 use table::Table;
 use trace::Stored;
 ghost use mathlib.Core.Path.{_≡_};
 ghost use mathlib.Core.Bool.{cond};
-ghost use Prim.Native.Nat.{_+_, _≤_};
+ghost use Prim.Native.Nat.{_≤_, _<_};
 ghost use lib.Dec.{ltb};
 ghost use lib.ListN.{length};
 ghost use Rattle.facts.specs.First.{Lowest};
 ghost use Rattle.trace.specs.Record.{marked};
+ghost use Rattle.trace.specs.Records.{rowsAt, pastRecord};
 ghost use Rattle.trace.specs.Said.{bare, named};
+ghost use Rattle.cores.specs.Placement.{nobody};
+ghost use Rattle.cores.specs.Cores.{placedFor};
 ghost use Rattle.dispatcher.specs.State.{rowsIn, timeOf, freshOf};
 ghost use Rattle.dispatcher.specs.Broken.{ofRow};
-ghost use Rattle.dispatcher.specs.Answer.{saidOf, saidBy, doneSaid};
-ghost use Rattle.dispatcher.specs.Slot.{picksIn, lateAt, lateIn, stepped, stoppedBy, slotOf};
-ghost use Rattle.dispatcher.specs.Usable.{UsableState, CanRun, CauseIs};
+ghost use Rattle.dispatcher.specs.Answer.{saidOf, saidBy};
+ghost use Rattle.dispatcher.specs.Slot.{picksIn, lateAt, stepped, slotOf};
+ghost use Rattle.dispatcher.specs.Usable.{UsableState, CanRun, CauseIs, Judged};
 
 pub struct State {
     pub table: Table,
     pub time: Slot,
     pub stopped: bool,
     pub quanta: [Quanta; 32],
+    pub last: Placement,
 }
 
 // What a slot answers.
@@ -33,25 +38,26 @@ pub enum Answer {
     Broken,
     Stopped,
     AtLimit,
-    TooManyCores,
+    NoSuchCore,
     NoRoom,
 }
 
-// What an answer says: 01's number, and the row and the time that it names.
+// What an answer says: the paper's number, and the row and the time that it names.
 pub struct Told {
     pub number: u8,
     pub row: u8,
     pub time: u64,
 }
 
-// The answer, and the state as it is after the slot.
+// The answer, the core of each picked row, and the state as it is after the slot.
 pub struct Outcome {
     pub answer: Answer,
+    pub placed: Placement,
     pub state: State,
 }
 
 impl Answer {
-    // 01's number, row and time for each answer.
+    // The paper's number, row and time for each answer.
     pub fn told(self) -> Told
         ensures { λ r. ⌜ saidBy r ≡ saidOf self ⌝ }
     {
@@ -65,7 +71,7 @@ impl Answer {
             Answer::Broken => bare(30),
             Answer::Stopped => bare(31),
             Answer::AtLimit => bare(32),
-            Answer::TooManyCores => bare(33),
+            Answer::NoSuchCore => bare(35),
             Answer::NoRoom => bare(34),
         }
     }
@@ -90,35 +96,40 @@ impl State {
         let time = Slot::at(0);
         let none = Quanta::of(0);
         let quanta = [none; 32];
+        let last = Placement::nobody();
         State {
             table,
             time,
             stopped: false,
             quanta,
+            last,
         }
     }
 
-    // One slot with k cores free: its record stands at the given place in the buffer.
-    pub fn slot(self, k: u8, buffer: &mut [u8], place: usize) -> Outcome
-        ensures { λ r. ⌜ saidOf (r .answer) ≡ slotOf self k (now (buffer .entry)) place .said ⌝ }
-        ensures { λ r. ⌜ r .state ≡ slotOf self k (now (buffer .entry)) place .state ⌝ }
-        ensures { λ _. ⌜ now (buffer .exit) ≡ slotOf self k (now (buffer .entry)) place .bytes ⌝ }
+    // One slot with a set of cores free: its record stands at the given place in the buffer, and each picked row has a core.
+    pub fn slot(self, free: [bool; 32], buffer: &mut [u8], place: usize) -> Outcome
+        ensures { λ r. ⌜ saidOf (r .answer) ≡ slotOf self free (now (buffer .entry)) place .said ⌝ }
+        ensures { λ r. ⌜ r .placed ≡ slotOf self free (now (buffer .entry)) place .placed ⌝ }
+        ensures { λ r. ⌜ r .state ≡ slotOf self free (now (buffer .entry)) place .state ⌝ }
+        ensures { λ _. ⌜ now (buffer .exit) ≡ slotOf self free (now (buffer .entry)) place .bytes ⌝ }
     {
-        let cause = self.cause(k, buffer.len(), place);
+        let cause = self.cause(free, buffer.len(), place);
         let Answer::Done = cause else {
             return self.refused(cause);
         };
+        let k = cores::how_many(free);
         let marks = self.picks(k);
         let stored = trace::write(&mut buffer[place..], k, marks);
         let Stored::Written = stored else {
             return self.refused(Answer::NoRoom);
         };
-        self.one_on(marks)
+        let placed = cores_for(buffer, place, free, self.last);
+        self.one_on(marks, placed)
     }
 
     // The refusal that is met before rows are picked, for a buffer of so many bytes; Done where none is.
-    fn cause(self, k: u8, len: usize, place: usize) -> Answer
-        ensures { λ r. ⌜ CauseIs self k len place r ⌝ }
+    fn cause(self, free: [bool; 32], len: usize, place: usize) -> Answer
+        ensures { λ r. ⌜ CauseIs self free len place r ⌝ }
     {
         if judge::is_broken(self) {
             return Answer::Broken;
@@ -129,8 +140,8 @@ impl State {
         if counts::TIME_LIMIT <= self.time.time() {
             return Answer::AtLimit;
         }
-        if self.table.cores < k {
-            return Answer::TooManyCores;
+        if cores::names_past(free, self.table.cores) {
+            return Answer::NoSuchCore;
         }
         if len < place {
             return Answer::NoRoom;
@@ -149,48 +160,54 @@ impl State {
         choice::picks(rows, quanta, n, self.time, k)
     }
 
-    // A refusal hands back the state as it came.
+    // A refusal hands back the state as it came, and places nobody.
     fn refused(self, answer: Answer) -> Outcome
-        ensures { λ r. ⌜ (r .answer ≡ answer) × (r .state ≡ self) ⌝ }
+        ensures { λ r. ⌜ r ≡ record { answer = answer; placed = nobody; state = self } ⌝ }
     {
+        let placed = Placement::nobody();
         let state = self;
-        Outcome { answer, state }
+        Outcome {
+            answer,
+            placed,
+            state,
+        }
     }
 
-    // The slot is over: the marked rows have one quantum more, time is one higher, and lateness is judged.
-    fn one_on(self, marks: [bool; 32]) -> Outcome
+    // The slot is over: the marked rows have one quantum more, time is one higher, what ran where is remembered, and lateness is judged.
+    fn one_on(self, marks: [bool; 32], placed: Placement) -> Outcome
         requires { ⌜ CanRun self marks ⌝ }
-        ensures { λ r. ⌜ saidOf (r .answer) ≡ doneSaid (lateIn (stepped self (marked marks))) (timeOf self + 1) ⌝ }
-        ensures { λ r. ⌜ r .state ≡ stoppedBy (lateIn (stepped self (marked marks))) (stepped self (marked marks)) ⌝ }
+        ensures { λ r. ⌜ Judged (stepped self (marked marks) placed) r ⌝ }
     {
-        self.run(marks).judge()
+        self.run(marks, placed).judge()
     }
 
-    // One quantum more for each marked row, and the time one higher.
-    fn run(mut self, marks: [bool; 32]) -> State
+    // One quantum more for each marked row, the time one higher, and the memory of this slot.
+    fn run(mut self, marks: [bool; 32], placed: Placement) -> State
         requires { ⌜ CanRun self marks ⌝ }
-        ensures { λ r. ⌜ r ≡ stepped self (marked marks) ⌝ }
+        ensures { λ r. ⌜ r ≡ stepped self (marked marks) placed ⌝ }
     {
         let given = self.quanta;
         let quanta = pd2::give(given, marks);
         self.quanta = quanta;
         let time = self.time.later(1);
         self.time = time;
+        self.last = placed;
         self
     }
 
     // Answer 1 and a stopped state if a row is late, else 0.
     fn judge(mut self) -> Outcome
         requires { ⌜ UsableState self ⌝ }
-        ensures { λ r. ⌜ saidOf (r .answer) ≡ doneSaid (lateIn self) (timeOf self) ⌝ }
-        ensures { λ r. ⌜ r .state ≡ stoppedBy (lateIn self) self ⌝ }
+        ensures { λ r. ⌜ Judged self r ⌝ }
     {
         let late = self.lowest_late();
         let n = self.table.n as usize;
         self.stopped = late < n;
         let answer = done(late, n, self.time);
+        let placed = self.last;
         Outcome {
             answer,
+            placed,
             state: self,
         }
     }
@@ -205,6 +222,22 @@ impl State {
         let quanta = self.quanta;
         pd2::lowest_late(rows, quanta, n, self.time)
     }
+}
+
+// The cores of the rows that were picked: those that the record at the place names, so that they need not be looked for among the marks again.
+fn cores_for(buffer: &[u8], place: usize, free: [bool; 32], last: Placement) -> Placement
+    requires { ⌜ pastRecord (now buffer) place ≤ length (now buffer) ⌝ }
+    ensures { λ r. ⌜ r ≡ placedFor last (marked free) (rowsAt (now (buffer .entry)) place) ⌝ }
+{
+    let first = place + 2;
+    let past = first + wide(buffer[place + 1]);
+    cores::place(&buffer[first..past], free, last)
+}
+
+fn wide(x: u8) -> usize
+    ensures { λ r. ⌜ (r ≡ x) × (r < 256) ⌝ }
+{
+    x as usize
 }
 
 // What a slot that is done answers: the lowest late row is named.

@@ -18,6 +18,8 @@ use Rattle.pd2.specs.Picks.{picked}
 use Rattle.pd2.specs.Choice.{given}
 use Rattle.trace.specs.Record.{withFront, withRecord}
 use Rattle.trace.specs.Records.{names}
+use Rattle.cores.specs.Fault.{misremembers}
+use Rattle.cores.specs.Cores.{wanted, leftOver, inTurn, coresFor}
 use Rattle.dispatcher.specs.Broken.{broken}
 use Rattle.dispatcher.specs.Slot.{refusal, slotOf}
 use Rattle.printer.specs.Input.{freeIn, unfit}
@@ -26,5 +28,5 @@ use Rattle.printer.specs.Text.{slotsText, textOf}
 use Rattle.printer.specs.Example.{ExampleIsPrinted}
 
 pub example-is-printed : ExampleIsPrinted
-unfolding start deadline bit windowLength jobStart ceilDiv heavy stops stopTime atFirst groupDeadline howMany those firstFound rising places padded load faultOf tableNumber reading ready late lower upper before picked given withFront withRecord names broken refusal slotOf freeIn unfit digitsBy decimal spaced slotsText textOf
+unfolding start deadline bit windowLength jobStart ceilDiv heavy stops stopTime atFirst groupDeadline howMany those firstFound rising places padded load faultOf tableNumber reading ready late lower upper before picked given withFront withRecord names misremembers wanted leftOver inTurn coresFor broken refusal slotOf freeIn unfit digitsBy decimal spaced slotsText textOf
 example-is-printed = refl

@@ -1,7 +1,8 @@
 -- The values in a request's bytes: what stands at a place.
-use Prim.Native.Nat.{ℕ, _+_, _*_, _<_}
+use Prim.Native.Nat.{ℕ, _+_, _*_, _/_, _%_, _^_, _<_}
 use mathlib.Core.Path.{_≡_}
 use mathlib.Core.List.{List}
+use mathlib.Core.Bool.{Bool, false}
 use lib.Dec.{eqb}
 use lib.ListN.{getD}
 use Rattle.fields.specs.Fields.{byte, word}
@@ -10,15 +11,16 @@ use Rattle.table.specs.declared.Row.{Row}
 use Rattle.table.specs.declared.Table.{Table}
 use Rattle.table.specs.Causes.{zeroRow}
 use Rattle.table.specs.Bytes.{rowInBytes}
+use Rattle.cores.specs.declared.Placement.{Placement}
 use Rattle.dispatcher.specs.declared.State.{State}
 
 -- the number in the eight bytes from place i on
 abbrev pub long : List ℕ → ℕ → ℕ
 long s i = word s i + 4_294_967_296 * word s (i + 4)
 
--- 8 board numbers, a byte each
-abbrev pub BoardsAt : List ℕ → ℕ → List ℕ → Type 0
-BoardsAt s i boards = (j : ℕ) → j < 8 → getD boards j 0 ≡ byte s (i + j)
+-- 8 numbers, a byte each
+abbrev pub EightAt : List ℕ → ℕ → List ℕ → Type 0
+EightAt s i numbers = (j : ℕ) → j < 8 → getD numbers j 0 ≡ byte s (i + j)
 
 -- 32 rows, nine bytes each
 abbrev pub RowsAt : List ℕ → ℕ → List Row → Type 0
@@ -35,13 +37,24 @@ QuantaAt s i quanta = (j : ℕ) → j < 32 → getD quanta j none .0 ≡ long s 
 pub record TableAt (s : List ℕ) (i : ℕ) (table : Table) : Type 0 where
   pub cycle : table .cycle ≡ word s i
   pub cores : table .cores ≡ byte s (i + 4)
-  pub boards : BoardsAt s (i + 5) (table .boards)
+  pub boards : EightAt s (i + 5) (table .boards)
   pub row-count : table .n ≡ byte s (i + 13)
   pub rows : RowsAt s (i + 14) (table .rows)
 
--- A state: a table value, the time (8), the stopped mark (1), 32 quanta.
+-- A placement: a count (1), 8 rows (1 each), 8 cores (1 each).
+pub record PlacementAt (s : List ℕ) (i : ℕ) (placed : Placement) : Type 0 where
+  pub count : placed .count ≡ byte s i
+  pub rows : EightAt s (i + 1) (placed .rows)
+  pub cores : EightAt s (i + 9) (placed .cores)
+
+-- A state: a table value, the time (8), the stopped mark (1), 32 quanta, and the placement that is remembered.
 pub record StateAt (s : List ℕ) (i : ℕ) (state : State) : Type 0 where
   pub table : TableAt s i (state .table)
   pub time : state .time .0 ≡ long s (i + 302)
   pub stopped : state .stopped ≡ eqb (byte s (i + 310)) 1
   pub quanta : QuantaAt s (i + 311) (state .quanta)
+  pub last : PlacementAt s (i + 567) (state .last)
+
+-- A set (4): bit c is core c.
+abbrev pub SetAt : List ℕ → ℕ → List Bool → Type 0
+SetAt s i marks = (core : ℕ) → core < 32 → getD marks core false ≡ eqb (word s i / 2 ^ core % 2) 1

@@ -9,7 +9,7 @@ use counts::Slot;
 use counts::Subtask;
 use dispatcher::Outcome;
 use libc::STDOUT_FILENO;
-ghost use Prim.Native.Nat.{_≤_};
+ghost use Prim.Native.Nat.{_+_, _≤_, _<_};
 ghost use lib.ListN.{length};
 
 // W: e (2), p (2), f (2), i (8).
@@ -58,33 +58,80 @@ pub(crate) fn fault(request: &[u8]) -> usize
     303
 }
 
-// S: a state (567), k (1), the place (8), the length (4) of the buffer, and its bytes. They are lent to the slot where they stand in the
-// input. The state's mark is 0 or 1: with any other byte the request counts as cut.
+// S: a state (584), k (1), the place (8), the length (4) of the buffer, and its bytes. k means the first k cores.
 pub(crate) fn slot(request: &mut [u8]) -> usize
     ensures { λ r. ⌜ r ≤ length (now (request .entry)) ⌝ }
 {
-    let length = fields::word(request, 577) as usize;
-    let end = 581 + length;
+    let end = slot_end(request, 586);
+    if end == 0 {
+        return 0;
+    }
+    let free = cores::first(fields::byte(request, 585));
+    let outcome = run_slot(request, free, 586, end);
+    tell(outcome);
+    io::write_all(STDOUT_FILENO, &request[598..end]);
+    end
+}
+
+// K: as S, with a set of free cores (4) in the place of k.
+pub(crate) fn slot_on_set(request: &mut [u8]) -> usize
+    ensures { λ r. ⌜ r ≤ length (now (request .entry)) ⌝ }
+{
+    let end = slot_end(request, 589);
+    if end == 0 {
+        return 0;
+    }
+    let free = read::set(request, 585);
+    let outcome = run_slot(request, free, 589, end);
+    tell_with_cores(outcome);
+    io::write_all(STDOUT_FILENO, &request[601..end]);
+    end
+}
+
+// Where a request for a slot ends, by where its place (8) stands: behind that are the length (4) of the buffer, and its bytes. 0 if it is cut; so it counts
+// too if the state's mark is neither 0 nor 1.
+fn slot_end(request: &[u8], at: usize) -> usize
+    requires { ⌜ (585 ≤ at) × (at ≤ 589) ⌝ }
+    ensures { λ r. ⌜ (r ≤ length (now (request .entry))) × (0 < r → at + 12 ≤ r) ⌝ }
+{
+    let length = fields::word(request, at + 8) as usize;
+    let end = at + 12 + length;
     if request.len() < end {
         return 0;
     }
     if 1 < fields::byte(request, 311) {
         return 0;
     }
-    let state = read::state(request, 1);
-    let k = fields::byte(request, 568);
-    let place = read::long(request, 569) as usize;
-    let outcome = state.slot(k, &mut request[581..end], place);
-    tell(outcome);
-    io::write_all(STDOUT_FILENO, &request[581..end]);
     end
+}
+
+// The slot that is asked for, with these cores free: the buffer is lent where it stands in the input.
+fn run_slot(request: &mut [u8], free: [bool; 32], at: usize, end: usize) -> Outcome
+    requires { ⌜ (585 ≤ at) × ((at + 12 ≤ end) × (end ≤ length (now request))) ⌝ }
+{
+    let state = read::state(request, 1);
+    let place = read::long(request, at) as usize;
+    let buffer = at + 12;
+    state.slot(free, &mut request[buffer..end], place)
 }
 
 // Writes the head of a slot's answer: number, row and time, and the state that the slot left.
 fn tell(outcome: Outcome) {
-    let mut out = [0u8; 577];
+    let mut out = [0u8; 594];
     let answer = outcome.answer;
     let next = write::told(&mut out, 0, answer.told());
+    let after = outcome.state;
+    write::state(&mut out, next, after);
+    io::write_all(STDOUT_FILENO, &out);
+}
+
+// The same with the cores of the picked rows, before the state.
+fn tell_with_cores(outcome: Outcome) {
+    let mut out = [0u8; 611];
+    let answer = outcome.answer;
+    let past_told = write::told(&mut out, 0, answer.told());
+    let placed = outcome.placed;
+    let next = write::placement(&mut out, past_told, placed);
     let after = outcome.state;
     write::state(&mut out, next, after);
     io::write_all(STDOUT_FILENO, &out);

@@ -58,6 +58,7 @@ fn answer(requests: &mut [u8]) -> usize
         b'T' => answers::table(requests),
         b'V' => answers::fault(requests),
         b'S' => answers::slot(requests),
+        b'K' => answers::slot_on_set(requests),
         b'R' => answers::record(requests),
         b'C' => answers::check(requests),
         _ => 0,

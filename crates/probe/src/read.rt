@@ -1,4 +1,5 @@
 // Values read from the bytes of a request. Each lies inside: a request that is cut is never read.
+use cores::Placement;
 use counts::Quanta;
 use counts::Slot;
 use dispatcher::State;
@@ -8,7 +9,7 @@ ghost use mathlib.Core.Path.{_≡_};
 ghost use Prim.Native.Nat.{_+_, _≤_};
 ghost use lib.ListN.{length};
 ghost use Rattle.table.specs.Bytes.{rowInBytes};
-ghost use Rattle.probe.specs.Values.{long, BoardsAt, RowsAt, QuantaAt, TableAt, StateAt};
+ghost use Rattle.probe.specs.Values.{long, EightAt, RowsAt, QuantaAt, TableAt, PlacementAt, StateAt, SetAt};
 
 // The number in the eight bytes from place `at` on.
 pub(crate) fn long(s: &[u8], at: usize) -> u64
@@ -20,21 +21,50 @@ pub(crate) fn long(s: &[u8], at: usize) -> u64
     low + 4_294_967_296 * high
 }
 
-// A state: a table value, the time, the stopped mark and 32 quanta.
+// A state: a table value, the time, the stopped mark, 32 quanta, and what is remembered of the last slot.
 pub(crate) fn state(s: &[u8], at: usize) -> State
-    requires { ⌜ at + 567 ≤ length (now s) ⌝ }
+    requires { ⌜ at + 584 ≤ length (now s) ⌝ }
     ensures { λ r. ⌜ StateAt (now (s .entry)) at r ⌝ }
 {
     let table = table(s, at);
     let time = Slot::at(long(s, at + 302));
     let stopped = fields::byte(s, at + 310) == 1;
     let quanta = quanta(s, at + 311);
+    let last = placement(s, at + 567);
     State {
         table,
         time,
         stopped,
         quanta,
+        last,
     }
+}
+
+// A placement: a count, 8 rows and 8 cores.
+fn placement(s: &[u8], at: usize) -> Placement
+    requires { ⌜ at + 17 ≤ length (now s) ⌝ }
+    ensures { λ r. ⌜ PlacementAt (now (s .entry)) at r ⌝ }
+{
+    let count = fields::byte(s, at);
+    let rows = eight(s, at + 1);
+    let cores = eight(s, at + 9);
+    Placement { count, rows, cores }
+}
+
+// A set of cores in four bytes: bit c is core c.
+pub(crate) fn set(s: &[u8], at: usize) -> [bool; 32]
+    requires { ⌜ at + 4 ≤ length (now s) ⌝ }
+    ensures { λ r. ⌜ SetAt (now (s .entry)) at r ⌝ }
+{
+    let mut rest = fields::word(s, at);
+    let mut marks = [false; 32];
+    let mut core: usize = 0;
+    while core < 32 {
+        marks[core] = rest % 2 == 1;
+        rest /= 2;
+        core += 1;
+    }
+    marks
 }
 
 // A table value: L, M, 8 board numbers, n and 32 rows.
@@ -44,7 +74,7 @@ pub(crate) fn table(s: &[u8], at: usize) -> Table
 {
     let cycle = fields::word(s, at);
     let cores = fields::byte(s, at + 4);
-    let boards = boards(s, at + 5);
+    let boards = eight(s, at + 5);
     let row_count = fields::byte(s, at + 13);
     let rows = rows(s, at + 14);
     Table {
@@ -56,17 +86,18 @@ pub(crate) fn table(s: &[u8], at: usize) -> Table
     }
 }
 
-fn boards(s: &[u8], at: usize) -> [u8; 8]
+// Eight numbers of one byte: boards, and the rows or cores of a placement.
+fn eight(s: &[u8], at: usize) -> [u8; 8]
     requires { ⌜ at + 8 ≤ length (now s) ⌝ }
-    ensures { λ r. ⌜ BoardsAt (now (s .entry)) at r ⌝ }
+    ensures { λ r. ⌜ EightAt (now (s .entry)) at r ⌝ }
 {
-    let mut boards = [0u8; 8];
+    let mut numbers = [0u8; 8];
     let mut i: usize = 0;
     while i < 8 {
-        boards[i] = fields::byte(s, at + i);
+        numbers[i] = fields::byte(s, at + i);
         i += 1;
     }
-    boards
+    numbers
 }
 
 fn rows(s: &[u8], at: usize) -> [Row; 32]

@@ -1,5 +1,6 @@
 // Values written into a lent answer. Each function writes from a place on, and says the place behind.
 use crate::put;
+use cores::Placement;
 use counts::Quanta;
 use dispatcher::State;
 use dispatcher::Told;
@@ -42,15 +43,28 @@ pub(crate) fn told(out: &mut [u8], at: usize, told: Told) -> usize
 }
 
 pub(crate) fn state(out: &mut [u8], at: usize, state: State) -> usize
-    requires { ⌜ at + 567 ≤ length (now out) ⌝ }
-    ensures { λ r. ⌜ r ≡ at + 567 ⌝ }
+    requires { ⌜ at + 584 ≤ length (now out) ⌝ }
+    ensures { λ r. ⌜ r ≡ at + 584 ⌝ }
 {
     let value = state.table;
     let past_table = table(out, at, value);
     let past_time = put::long(out, past_table, state.time.time());
     let past_mark = put::byte(out, past_time, state.stopped as u8);
     let given = state.quanta;
-    quanta(out, past_mark, given)
+    let past_quanta = quanta(out, past_mark, given);
+    let last = state.last;
+    placement(out, past_quanta, last)
+}
+
+pub(crate) fn placement(out: &mut [u8], at: usize, placed: Placement) -> usize
+    requires { ⌜ at + 17 ≤ length (now out) ⌝ }
+    ensures { λ r. ⌜ r ≡ at + 17 ⌝ }
+{
+    let past_count = put::byte(out, at, placed.count);
+    let rows = placed.rows;
+    let past_rows = eight(out, past_count, rows);
+    let cores = placed.cores;
+    eight(out, past_rows, cores)
 }
 
 pub(crate) fn table(out: &mut [u8], at: usize, table: Table) -> usize
@@ -60,20 +74,21 @@ pub(crate) fn table(out: &mut [u8], at: usize, table: Table) -> usize
     let past_cycle = put::word(out, at, table.cycle);
     let past_cores = put::byte(out, past_cycle, table.cores);
     let numbers = table.boards;
-    let past_boards = boards(out, past_cores, numbers);
+    let past_boards = eight(out, past_cores, numbers);
     let past_count = put::byte(out, past_boards, table.n);
     let all = table.rows;
     rows(out, past_count, all)
 }
 
-fn boards(out: &mut [u8], at: usize, boards: [u8; 8]) -> usize
+// Eight numbers of one byte: boards, and the rows or cores of a placement.
+fn eight(out: &mut [u8], at: usize, numbers: [u8; 8]) -> usize
     requires { ⌜ at + 8 ≤ length (now out) ⌝ }
     ensures { λ r. ⌜ r ≡ at + 8 ⌝ }
 {
     let mut next = at;
     let mut i: usize = 0;
     while i < 8 {
-        next = put::byte(out, next, boards[i]);
+        next = put::byte(out, next, numbers[i]);
         i += 1;
     }
     next

@@ -6,8 +6,8 @@
 // wholly within the limit are answered, and the first that reaches past it is cut.
 //
 // A row is 9 bytes as in 01: tank (2), e (2), p (2), f (2), kind (1). Quanta are 8 bytes each. Marks are 32 bytes, each 0 or 1: with any
-// other byte the request is cut. A table value (302) is L (4), M (1), 8 board numbers (1 each), n (1) and 32 rows. A state (567) is a table
-// value, the time (8), the stopped mark (1) and 32 quanta.
+// other byte the request is cut. A table value (302) is L (4), M (1), 8 board numbers (1 each), n (1) and 32 rows. A state (584) is a table
+// value, the time (8), the stopped mark (1), 32 quanta and a placement: a count (1), 8 rows (1 each), 8 cores (1 each).
 //
 // Nothing is judged before: rows, quanta and numbers may be wild. Kind 1 is early release, and any other kind is plain. A question about
 // one row is answered if 0 < e, e is at or below p, and the numbers asked with it (quanta, and origin or time) are each at or below 2^46.
@@ -15,7 +15,7 @@
 // | request                                       | answer                                                                       |
 // |-----------------------------------------------|------------------------------------------------------------------------------|
 // | F: a table value                              | the state that is fresh from it: the value as it came, time 0, not stopped,  |
-// |                                               | all quanta 0                                                                 |
+// |                                               | all quanta 0, nobody remembered (0 in each of the 17 bytes)                  |
 // | N: e (2), p (2), origin (8), quanta (8)       | of the next subtask (number quanta + 1) of a row e/p whose windows are       |
 // |                                               | counted from the origin: answered (1: 1 or 0), d (8), b (1); answered (1),   |
 // |                                               | r (8); answered (1), the start of its job (8); answered (1), D (8). All 0    |

@@ -1,4 +1,5 @@
 // Values put into an answer, and the answer written.
+use cores::Placement;
 use counts::Quanta;
 use dispatcher::State;
 use libc::STDOUT_FILENO;
@@ -10,18 +11,18 @@ use windows::Moment;
 ghost use Prim.Native.Nat.{_+_, _≤_};
 
 // How long the longest answer is: a state.
-pub(crate) const LONGEST: usize = 567;
+pub(crate) const LONGEST: usize = 584;
 
 // Writes an answer that is so many bytes long.
 pub(crate) fn out(answer: [u8; LONGEST], length: usize)
-    requires { ⌜ length ≤ 567 ⌝ }
+    requires { ⌜ length ≤ 584 ⌝ }
 {
     io::write_all(STDOUT_FILENO, &answer[..length]);
 }
 
 // The lowest bytes of a number, little-endian, from place `at` on.
 pub(crate) fn number(answer: &mut [u8; LONGEST], at: usize, bytes: usize, number: u64)
-    requires { ⌜ at + bytes ≤ 567 ⌝ }
+    requires { ⌜ at + bytes ≤ 584 ⌝ }
 {
     let mut rest = number;
     let mut i: usize = 0;
@@ -39,22 +40,36 @@ pub(crate) fn state(answer: &mut [u8; LONGEST], state: State) {
     number(answer, 310, 1, state.stopped as u64);
     let given = state.quanta;
     quanta(answer, 311, given);
+    let last = state.last;
+    placement(answer, last);
+}
+
+// Behind the quanta: a count, 8 rows and 8 cores.
+fn placement(answer: &mut [u8; LONGEST], placed: Placement) {
+    number(answer, 567, 1, placed.count as u64);
+    let rows = placed.rows;
+    eight(answer, 568, rows);
+    let cores = placed.cores;
+    eight(answer, 576, cores);
 }
 
 fn table(answer: &mut [u8; LONGEST], table: Table) {
     number(answer, 0, 4, table.cycle as u64);
     number(answer, 4, 1, table.cores as u64);
     let numbers = table.boards;
-    boards(answer, numbers);
+    eight(answer, 5, numbers);
     number(answer, 13, 1, table.n as u64);
     let all = table.rows;
     rows(answer, all);
 }
 
-fn boards(answer: &mut [u8; LONGEST], boards: [u8; 8]) {
+// Eight numbers of one byte: boards, and the rows or cores of a placement.
+fn eight(answer: &mut [u8; LONGEST], at: usize, numbers: [u8; 8])
+    requires { ⌜ at + 8 ≤ 584 ⌝ }
+{
     let mut i: usize = 0;
     while i < 8 {
-        answer[5 + i] = boards[i];
+        answer[at + i] = numbers[i];
         i += 1;
     }
 }
@@ -69,7 +84,7 @@ fn rows(answer: &mut [u8; LONGEST], rows: [Row; 32]) {
 }
 
 fn row(answer: &mut [u8; LONGEST], at: usize, row: Row)
-    requires { ⌜ at + 9 ≤ 567 ⌝ }
+    requires { ⌜ at + 9 ≤ 584 ⌝ }
 {
     number(answer, at, 2, row.tank as u64);
     number(answer, at + 2, 2, row.cost as u64);
@@ -79,7 +94,7 @@ fn row(answer: &mut [u8; LONGEST], at: usize, row: Row)
 }
 
 pub(crate) fn quanta(answer: &mut [u8; LONGEST], at: usize, quanta: [Quanta; 32])
-    requires { ⌜ at + 256 ≤ 567 ⌝ }
+    requires { ⌜ at + 256 ≤ 584 ⌝ }
 {
     let mut i: usize = 0;
     while i < 32 {
@@ -111,7 +126,7 @@ pub(crate) fn due(answer: &mut [u8; LONGEST], due: Due) {
 
 // Answered, and the time.
 pub(crate) fn moment(answer: &mut [u8; LONGEST], at: usize, moment: Moment)
-    requires { ⌜ at + 9 ≤ 567 ⌝ }
+    requires { ⌜ at + 9 ≤ 584 ⌝ }
 {
     match moment {
         Moment::At(time) => {
@@ -123,7 +138,7 @@ pub(crate) fn moment(answer: &mut [u8; LONGEST], at: usize, moment: Moment)
 }
 
 pub(crate) fn verdict(answer: &mut [u8; LONGEST], at: usize, verdict: Verdict)
-    requires { ⌜ at + 1 ≤ 567 ⌝ }
+    requires { ⌜ at + 1 ≤ 584 ⌝ }
 {
     answer[at] = match verdict {
         Verdict::Yes => 1,

@@ -5,6 +5,7 @@ use mathlib.Core.List.{List}
 use native.Mathlib.Numerals.{add-one}
 use native.Mathlib.Omega.{arith}
 use lib.ListN.{length}
+use Rattle.cores.specs.Sets.{firstCores}
 use Rattle.dispatcher.specs.declared.State.{State}
 use Rattle.dispatcher.specs.Slot.{slotOf}
 use Rattle.slots_run.specs.Slots.{slotsFrom}
@@ -22,15 +23,15 @@ module _ (start : State) (k : ℕ) (b₀ : List ℕ) (slots : ℕ) where
   slots-begin = record { within = omega arith; state = refl; bytes = refl; long = refl }
 
   -- one slot more
-  one-more : (m : ℕ) → let left = slotsFrom start k b₀ m in let given = slotOf (left .state) k (left .bytes) 0 in
+  one-more : (m : ℕ) → let left = slotsFrom start k b₀ m in let given = slotOf (left .state) (firstCores k) (left .bytes) 0 in
       (slotsFrom start k b₀ (m + 1) .state ≡ given .state) × (slotsFrom start k b₀ (m + 1) .bytes ≡ given .bytes)
   unfolding slotsFrom
   one-more m = rw (add-one m) (refl, refl)
 
   pub slots-go-on : {s after : State} {bytes written : List ℕ} {done : ℕ} → SlotsSoFar s bytes done → done < slots →
-      after ≡ slotOf s k bytes 0 .state → written ≡ slotOf s k bytes 0 .bytes → length written ≡ length bytes → SlotsSoFar after written (done + 1)
+      after ≡ slotOf s (firstCores k) bytes 0 .state → written ≡ slotOf s (firstCores k) bytes 0 .bytes → length written ≡ length bytes → SlotsSoFar after written (done + 1)
   slots-go-on {done = done} so h state bytes keeps =
-      let asked = ap₂ (λ s b. slotOf s k b 0) (so .state) (so .bytes) in
+      let asked = ap₂ (λ s b. slotOf s (firstCores k) b 0) (so .state) (so .bytes) in
       record {
         within = omega arith;
         state = state ∙ (ap (λ given. given .state) asked ∙ sym (one-more done .0));

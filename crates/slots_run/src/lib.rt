@@ -5,7 +5,7 @@ ghost use Rattle.table.specs.Bytes.{reading};
 ghost use Rattle.dispatcher.specs.State.{freshOf, timeOf};
 ghost use Rattle.slots_run.specs.Slots.{slotsFrom};
 
-// So many slots with k cores free, from a fresh state on; the time at the end. Each record stands at the front of the lent buffer: the
+// So many slots with the first k cores free, from a fresh state on; the time at the end. Each record stands at the front of the lent buffer: the
 // caller's own, or the compiler would leave the records out. A slot that is refused leaves state and buffer as they are.
 #[no_mangle]
 pub extern "C" fn zb_slots(table: &[u8], k: u8, slots: u32, entry: &mut [u8]) -> u64
@@ -14,9 +14,10 @@ pub extern "C" fn zb_slots(table: &[u8], k: u8, slots: u32, entry: &mut [u8]) ->
 {
     let reading = table::read(table);
     let mut state = State::fresh(reading.table);
+    let free = cores::first(k);
     let mut done: u32 = 0;
     while done < slots {
-        let outcome = state.slot(k, entry, 0);
+        let outcome = state.slot(free, entry, 0);
         let after = outcome.state;
         state = after;
         done += 1;

@@ -1,7 +1,13 @@
 //! Cases made by hand, each with the number that 01 gives it: those of by_hand.txt, and what lies around the example of 01.
 
+use super::slot::{Case, Free, Outcome};
 use crate::kind::*;
+use crate::make::hex::bytes_of;
 use crate::make::lent::{given, Given, Maker};
+use crate::number::Number;
+use second::cores::Placement;
+use second::slot::{fresh, Answer, State};
+use second::table::read;
 use std::collections::BTreeMap;
 
 #[derive(Clone)]
@@ -40,9 +46,16 @@ impl Maker for ByHand {
 
 type Names = BTreeMap<&'static str, Vec<u8>>;
 
-fn listed() -> (Names, Vec<Given>) {
+/// A number, words, and parts with a slash between two.
+struct Line {
+    number: u8,
+    words: &'static str,
+    parts: Vec<Vec<u8>>,
+}
+
+fn lines() -> (Names, Vec<Line>) {
     let mut names = Names::new();
-    let mut cases = Vec::new();
+    let mut lines = Vec::new();
     for line in include_str!("../by_hand.txt").lines() {
         match line.split_once(" =") {
             _ if line.is_empty() || line.starts_with('#') => (),
@@ -50,21 +63,111 @@ fn listed() -> (Names, Vec<Given>) {
                 let bytes = bytes_with(bytes, &names);
                 names.entry(name).or_default().extend(bytes);
             }
-            _ => cases.push(of_line(line, &names)),
+            _ => lines.push(of_text(line, &names)),
         }
     }
+    (names, lines)
+}
+
+fn of_text(line: &'static str, names: &Names) -> Line {
+    let (number, rest) = line.split_once(' ').expect("words after the number");
+    let (words, bytes) = rest.split_once(':').expect("bytes after the words");
+    let parts = bytes.split('/').map(|part| bytes_with(part, names));
+    let parts: Vec<Vec<u8>> = parts.collect();
+    let right = match &parts[..] {
+        [_] | [_, _] => true,
+        [_, _, free, room, _] => [1, 4].contains(&free.len()) && room.len() == 1,
+        _ => false,
+    };
+    assert!(right, "no table, no trace and no slot: {}", line);
+    Line {
+        number: number.parse().expect("a line begins with its number"),
+        words,
+        parts,
+    }
+}
+
+/// Those of a table and perhaps a trace.
+fn listed() -> (Names, Vec<Given>) {
+    let (names, lines) = lines();
+    let given = |line: &Line| {
+        let (table, trace) = match &line.parts[..] {
+            [table] => (table, None),
+            [table, trace] => (table, Some(&trace[..])),
+            _ => return None,
+        };
+        let listed = given(table, trace).made("listed");
+        Some(listed.known(line.number, line.words))
+    };
+    let cases = lines.iter().filter_map(given).collect();
     (names, cases)
 }
 
-/// A number, words, a table and perhaps a trace.
-fn of_line(line: &str, names: &Names) -> Given {
-    let (number, rest) = line.split_once(' ').expect("words after the number");
-    let (words, bytes) = rest.split_once(':').expect("bytes after the words");
-    let number = number.parse().expect("a line begins with its number");
-    let mut parts = bytes.split('/').map(|part| bytes_with(part, names));
-    let (table, trace) = (parts.next().expect("a table"), parts.next());
-    let listed = given(&table, trace.as_deref()).made("listed");
-    listed.known(number, words)
+/// The slots whose free cores are told in this way, by as many bytes.
+pub fn slots<F: Free>() -> Vec<Case<F>> {
+    let slot = |line: &Line| match &line.parts[..] {
+        [table, state, free, room, placed] if free.len() == F::WIDTH => {
+            let case = Case {
+                state: state_of(table, state),
+                free: F::read(free),
+                place: 0,
+                buffer: vec![0xEE; usize::from(room[0])],
+                known: None,
+            };
+            Some(known(case, line, placement_of(placed)))
+        }
+        _ => None,
+    };
+    lines().1.iter().filter_map(slot).collect()
+}
+
+/// Time (4), stopped (1), the quanta of each row (1 each), and what is remembered.
+fn state_of(table: &[u8], bytes: &[u8]) -> State {
+    let mut state = fresh(read(table).expect("a table that is taken"));
+    let (time, rest) = bytes.split_at(4);
+    let (quanta, last) = rest[1..].split_at(usize::from(state.table.count));
+    state.time = u64::read(time);
+    state.stopped = bool::read(&rest[..1]);
+    for (of_row, &quanta) in state.quanta.iter_mut().zip(quanta) {
+        *of_row = quanta.into();
+    }
+    state.last = placement_of(last);
+    state
+}
+
+/// A row and its core (1 each), again and again. Those for which there is no place are counted all the same.
+fn placement_of(pairs: &[u8]) -> Placement {
+    let mut placement = Placement::nobody();
+    placement.count = (pairs.len() / 2) as u8;
+    for (place, pair) in pairs.chunks(2).take(8).enumerate() {
+        placement.rows[place] = pair[0];
+        placement.cores[place] = pair[1];
+    }
+    placement
+}
+
+/// With its whole answer, by what 01 says of a slot that is refused, or done while no row is late.
+fn known<F: Free>(case: Case<F>, line: &Line, placed: Placement) -> Case<F> {
+    let mut outcome = Outcome {
+        answer: Answer::plain(line.number),
+        placed,
+        state: case.state,
+        buffer: case.buffer.clone(),
+    };
+    if line.number == 0 {
+        let rows = placed.named_rows();
+        let record = [&[case.free.set().count_ones() as u8, placed.count], rows].concat();
+        outcome.buffer[..record.len()].copy_from_slice(&record);
+        outcome.state.time += 1;
+        outcome.state.last = placed;
+        for &row in rows {
+            outcome.state.quanta[usize::from(row)] += 1;
+        }
+    }
+    let mut answer = Message::default();
+    outcome.tell::<F>(&mut answer);
+    let known = Some((answer.bytes, line.words.to_string()));
+    Case { known, ..case }
 }
 
 fn bytes_with(text: &str, names: &Names) -> Vec<u8> {
@@ -74,14 +177,6 @@ fn bytes_with(text: &str, names: &Names) -> Vec<u8> {
         _ => bytes_of(word),
     };
     text.split_whitespace().flat_map(bytes).collect()
-}
-
-/// Two digits for each; spaces and bars do not count.
-fn bytes_of(text: &str) -> Vec<u8> {
-    let digits: String = text.chars().filter(|mark| !" |".contains(*mark)).collect();
-    let byte = |place| u8::from_str_radix(digits.get(place..place + 2)?, 16).ok();
-    let bytes: Option<Vec<u8>> = (0..digits.len()).step_by(2).map(byte).collect();
-    bytes.unwrap_or_else(|| panic!("these are not bytes: {}", text))
 }
 
 /// Each proper prefix of the example, which has this number, while the rest follows in memory; and every other value of every byte.

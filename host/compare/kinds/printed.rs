@@ -22,7 +22,7 @@ const MOST_BYTES: usize = 65_536;
 impl Kind for Case {
     /// Inputs after the first two would be right but for one slot or one byte.
     const GROUPS: &'static [Group] = &[
-        "after the header, last (1 in 75): end | late | refused",
+        "after the header, last (1 in 75): end | late | refused 35",
         "alone (1 in 75): refused | input",
         "input (1 in 150): right, with a table of length 0 | right, of 65,536 bytes | \
          of 65,537 bytes, each in its place | right in its first 65,536 bytes, and one more | \
@@ -73,11 +73,11 @@ impl Kind for Case {
         let text = String::from_utf8_lossy(answer);
         let last = text.lines().last().unwrap_or("");
         let word = last.split(' ').next().unwrap_or("");
-        let title = match text.lines().count() {
-            1 => "alone",
-            _ => "after the header, last",
-        };
-        tally.saw(title, word);
+        match text.lines().count() {
+            1 => tally.saw("alone", word),
+            _ if word == "refused" => tally.saw("after the header, last", last),
+            _ => tally.saw("after the header, last", word),
+        }
         tally.saw_each("input", self.met());
     }
 }

@@ -1,23 +1,73 @@
-//! Single slots, of wild states.
+//! Single slots, of wild states: with k free cores, the first k; and what they have in common with those of cores.rs, which have a set of them.
 
+use super::by_hand;
 use crate::kind::*;
 use crate::make::damage::damage_value;
 use crate::make::schedule::{last_late, record};
-use crate::make::{slot_seen, states, values};
-use second::slot::{slot, State, LAST_TIME};
+use crate::make::{memory, slot_seen, states, values};
+use crate::number::Number;
+use second::cores::Placement;
+use second::slot::{first_cores, slot_on, Answer, State, LAST_TIME};
+use std::iter::repeat_with;
 
 #[derive(Clone)]
-pub struct Case {
+pub struct Case<F> {
     pub state: State,
-    pub k: u8,
+    pub free: F,
     pub place: u64,
     pub buffer: Vec<u8>,
+    /// the answer and of what it is, where it was made by hand
+    pub known: Option<(Vec<u8>, String)>,
 }
 
-impl Kind for Case {
-    const GROUPS: &'static [Group] = &slot_seen::GROUPS;
+/// How a slot is told which cores are free.
+pub trait Free: Number + 'static {
+    const LETTER: u8;
+    const NAME: &'static str;
+    /// whether the answer says which row has which core
+    const PLACES: bool;
+    /// what is counted of it
+    const GROUP: Group;
 
-    fn wild(random: &mut Random) -> Case {
+    /// So many cores, or more than there are.
+    fn wild(random: &mut Random, k: u8, state: &State) -> Self;
+
+    fn set(self) -> u32;
+
+    fn one_less(self) -> Self;
+
+    /// Counts it, in a slot of a box with so many cores that has this number.
+    fn count(self, cores: u8, number: u8, tally: &mut Tally);
+}
+
+impl Free for u8 {
+    const LETTER: u8 = b'S';
+    const NAME: &'static str = "k";
+    const PLACES: bool = false;
+    const GROUP: Group = "35 by k of (1 in 500): M + 1 | 32 | 255";
+
+    fn wild(_random: &mut Random, k: u8, _state: &State) -> u8 {
+        k
+    }
+
+    fn set(self) -> u32 {
+        first_cores(self)
+    }
+
+    fn one_less(self) -> u8 {
+        self.saturating_sub(1)
+    }
+
+    fn count(self, cores: u8, number: u8, tally: &mut Tally) {
+        let by = |k| number == 35 && self == k;
+        tally.saw_each("35 by k of", [by(cores.wrapping_add(1)), by(32), by(255)]);
+    }
+}
+
+impl<F: Free> Kind for Case<F> {
+    const GROUPS: &'static [Group] = &slot_seen::groups(F::GROUP);
+
+    fn wild(random: &mut Random) -> Self {
         if random.one_in(40) {
             let late = last_late(random);
             let k = late.trace.records.last().map_or(0, |record| record.k);
@@ -30,29 +80,37 @@ impl Kind for Case {
         while random.one_in(12) {
             disturb(random, &mut state);
         }
+        if random.one_in(10) {
+            memory::damage(random, &state.table, &mut state.last);
+        }
         let k = free_cores(random, state.table.cores);
         with_room(random, state, k)
+    }
+
+    fn cases(mut random: Random) -> Box<dyn Iterator<Item = Self>> {
+        let wild = repeat_with(move || Self::wild(&mut random));
+        Box::new(by_hand::slots().into_iter().chain(wild))
     }
 
     fn asked(&mut self, to: &mut Message) {
         // where a row less will do, a free core less may have to go with it
         if let Some(way) = to.turn(values::ways_of_state(&self.state)) {
             values::make_smaller(&mut self.state, way);
-            self.k = self.k.saturating_sub(1);
+            self.free = self.free.one_less();
         }
-        values::state(to.letter(b'S'), &mut self.state)
-            .part("k", &mut self.k)
+        values::state(to.letter(F::LETTER), &mut self.state)
+            .part(F::NAME, &mut self.free)
             .part("place", &mut self.place)
             .counted("buffer", &mut self.buffer);
     }
 
     fn answered(&self, to: &mut Message) {
-        let (mut state, mut buffer) = (self.state, self.buffer.clone());
-        let answer = slot(&mut state, self.k, &mut buffer, self.place);
-        to.number("number", answer.number)
-            .number("row", answer.row)
-            .number("time", answer.time);
-        values::state(to, &mut state).fixed("buffer", &buffer);
+        self.slot().tell::<F>(to);
+    }
+
+    fn known(&self) -> Option<(&[u8], &str)> {
+        let known = self.known.as_ref();
+        known.map(|(answer, words)| (&answer[..], &words[..]))
     }
 
     fn count(&self, answer: &[u8], tally: &mut Tally) {
@@ -60,9 +118,45 @@ impl Kind for Case {
     }
 }
 
+impl<F: Free> Case<F> {
+    /// What the second program makes of it.
+    pub fn slot(&self) -> Outcome {
+        let (mut state, mut buffer) = (self.state, self.buffer.clone());
+        let (answer, placed) = slot_on(&mut state, self.free.set(), &mut buffer, self.place);
+        Outcome {
+            answer,
+            placed,
+            state,
+            buffer,
+        }
+    }
+}
+
+/// A slot's answer, and what it leaves.
+pub struct Outcome {
+    pub answer: Answer,
+    pub placed: Placement,
+    pub state: State,
+    pub buffer: Vec<u8>,
+}
+
+impl Outcome {
+    pub fn tell<F: Free>(mut self, to: &mut Message) {
+        to.number("number", self.answer.number)
+            .number("row", self.answer.row)
+            .number("time", self.answer.time);
+        if F::PLACES {
+            values::placement(to, values::PLACED, &mut self.placed);
+        }
+        values::state(to, &mut self.state).fixed("buffer", &self.buffer);
+    }
+}
+
 /// With a place in a lent buffer: with room for the record of the slot, with a little less, or with none.
-fn with_room(random: &mut Random, state: State, k: u8) -> Case {
-    let length = 2 + record(&mut { state }, k).0.rows.len();
+fn with_room<F: Free>(random: &mut Random, state: State, k: u8) -> Case<F> {
+    let last = Placement::nobody();
+    // whatever is remembered, since it has no part in who is picked
+    let length = 2 + record(&mut State { last, ..state }, k).0.rows.len();
     let before = random.pick(&[0, 0, 1, 4, 9]);
     let exact = before + length;
     let end = exact + random.pick(&[0, 0, 1, 7]);
@@ -79,15 +173,16 @@ fn with_room(random: &mut Random, state: State, k: u8) -> Case {
     };
     Case {
         state,
-        k,
+        free: F::wild(random, k, &state),
         place,
         buffer: random.bytes(size),
+        known: None,
     }
 }
 
 fn free_cores(random: &mut Random, cores: u8) -> u8 {
     match random.below(12) {
-        0 => random.pick(&[cores.wrapping_add(1), 255]),
+        0 => random.pick(&[cores.wrapping_add(1), 32, 255]),
         1 => 0,
         2 => cores,
         _ => random.between(1, usize::from(cores).max(1)) as u8,
@@ -101,7 +196,13 @@ fn disturb(random: &mut Random, state: &mut State) {
         3..=5 => state.stopped = !state.stopped,
         6 | 7 => disturb_quanta(random, state),
         8 => spoil_cost(random, state),
-        _ => damage_value(random, &mut state.table),
+        _ => {
+            damage_value(random, &mut state.table);
+            // a memory of more rows or cores than are left would be a fault beside the table's
+            if random.one_in(2) {
+                state.last = Placement::nobody();
+            }
+        }
     }
 }
 

@@ -7,6 +7,7 @@ use second::checker::check;
 use second::table::{read, Table};
 use std::iter::repeat_with;
 use std::marker::PhantomData;
+use std::slice::from_ref;
 
 #[derive(Clone, Default)]
 pub struct Given {
@@ -108,9 +109,9 @@ impl<M: Maker, const TO_LIBRARY: bool> Kind for Lent<M, TO_LIBRARY> {
         };
     }
 
-    fn known(&self) -> Option<(u8, &str)> {
+    fn known(&self) -> Option<(&[u8], &str)> {
         let known = self.0.known.as_ref();
-        known.map(|(number, words)| (*number, &words[..]))
+        known.map(|(number, words)| (from_ref(number), &words[..]))
     }
 
     fn count(&self, answer: &[u8], tally: &mut Tally) {

@@ -1,38 +1,52 @@
 //! What is met in single slots.
 
-use crate::kinds::slot::Case;
+use crate::kinds::slot::{Case, Free};
+use crate::make::cores_seen;
 use crate::tally::{Group, Tally};
 use second::share::inside;
-use second::slot::{deciding_rule, ready_rows, slot, Rule, State, LAST_TIME};
+use second::slot::{deciding_rule, ready_rows, Rule, State, LAST_TIME};
 use second::table::{fault, Row};
 
-pub const GROUPS: [Group; 8] = [
-    "answer (1 in 100): 0 | 1 | 30..34",
-    "the only cause of 30 (1 in 2000): table fault 12 | table fault 13 | \
-    table fault 14 | table fault 15 | table fault 16 | table fault 17 | table fault 18 | \
-    table fault 19 | table fault 20 | table fault 22 | time above the limit | quanta above time | \
-    outside the share",
-    "decided by (1 in 150): deadline | bit | group deadline | row number",
-    "picked (1 in 50): plain | early release | phase above 0",
-    "done at a time (1 in 60): below 1,000 | above 900,000,000",
-    "done with (1 in 100): k of 0 | M of 8 | n of 32 | a row not yet begun",
-    "late row (1 in 200): above 0 | 31",
-    "refused by (1 in 500): k of M + 1 | a place right in its low 4 bytes alone",
-];
+/// With what is counted of the way in which the free cores are told.
+pub const fn groups(free: Group) -> [Group; 17] {
+    [
+        "answer (1 in 100): 0 | 1 | 30..32 | 34..35",
+        "the only cause of 30 (1 in 2000): table fault 12 | table fault 13 | \
+        table fault 14 | table fault 15 | table fault 16 | table fault 17 | table fault 18 | \
+        table fault 19 | table fault 20 | table fault 22 | time above the limit | \
+        quanta above time | outside the share | core M | a core above M | a core of two rows | \
+        row n | a row above n | a row on two cores | a row and its core twice | a count above 8",
+        "decided by (1 in 150): deadline | bit | group deadline | row number",
+        "picked (1 in 50): plain | early release | phase above 0",
+        "done at a time (1 in 60): below 1,000 | above 900,000,000",
+        "done with (1 in 100): k of 0 | M of 8 | n of 32 | a row not yet begun",
+        "late row (1 in 200): above 0 | 31",
+        "refused by a place (1 in 500): right in its low 4 bytes alone",
+        "moves (1 in 100): 0 | 1 | 2 or more",
+        "a picked row (1 in 20): stays | moves | is new",
+        "cores that are not (1 in 50): the lowest | each row's own or the lowest",
+        "nobody is picked, and before (1 in 100): nobody was | somebody was",
+        "refused, and somebody is remembered (1 in 100): 30..32 | 34..35",
+        "30 by its memory alone, in place of (1 in 1000): 0 | 1 | 31..32 | 34..35",
+        "past the count of what is remembered, not 0 (1 in 20): done | refused",
+        "a core past the last, answered (1 in 1000): 30..32 | 35 with room | 35 without room",
+        free,
+    ]
+}
 
 /// A slot whose answer has these bytes.
-pub fn count(case: &Case, answer: &[u8], tally: &mut Tally) {
+pub fn count<F: Free>(case: &Case<F>, answer: &[u8], tally: &mut Tally) {
     let number = answer[0];
     tally.saw("answer", number);
+    cores_seen::count(case, number, tally);
     if number <= 1 {
         count_done(case, tally);
     }
     if let (30, Some(cause)) = (number, only_cause(&case.state)) {
         tally.saw("the only cause of 30", cause);
     }
-    let one_more = number == 33 && case.k == case.state.table.cores + 1;
     let low_right = number == 34 && low_place_right(case);
-    tally.saw_each("refused by", [one_more, low_right]);
+    tally.saw_each("refused by a place", [low_right]);
     let late = |met| number == 1 && met;
     tally.saw_each("late row", [late(answer[1] > 0), late(answer[1] == 31)]);
 }
@@ -49,17 +63,18 @@ fn only_cause(state: &State) -> Option<String> {
         ("quanta above time", rows().any(|(_, &q)| q > state.time)),
         ("outside the share", !state.stopped && rows().any(outside)),
     ];
-    let mut met = causes.iter().filter(|(_, met)| *met);
+    let of_memory = cores_seen::causes(state);
+    let mut met = causes.iter().chain(&of_memory).filter(|(_, met)| *met);
     let first = met.next().filter(|_| met.next().is_none());
     first.map(|(name, _)| name.to_string())
 }
 
-fn count_done(case: &Case, tally: &mut Tally) {
-    let state = &case.state;
-    if let Some(rule) = deciding_rule(state, case.k) {
+fn count_done<F: Free>(case: &Case<F>, tally: &mut Tally) {
+    let (state, k) = (&case.state, case.free.set().count_ones() as u8);
+    if let Some(rule) = deciding_rule(state, k) {
         tally.saw("decided by", rule_name(rule));
     }
-    let picked = picked(case);
+    let picked = picked(state, k);
     let has = |kind: fn(&Row) -> bool| picked.iter().any(kind);
     let met = [
         has(|row| row.kind == 0),
@@ -71,7 +86,7 @@ fn count_done(case: &Case, tally: &mut Tally) {
     tally.saw_each("done at a time", [early, late]);
     let begins_later = |row: &Row| state.time < u64::from(row.phase);
     let met = [
-        case.k == 0,
+        k == 0,
         state.table.cores == 8,
         state.table.count == 32,
         state.table.named_rows().iter().any(begins_later),
@@ -79,20 +94,19 @@ fn count_done(case: &Case, tally: &mut Tally) {
     tally.saw_each("done with", met);
 }
 
-fn picked(case: &Case) -> Vec<Row> {
-    let ready = ready_rows(&case.state).into_iter();
-    let first = ready.take(usize::from(case.k));
+fn picked(state: &State, k: u8) -> Vec<Row> {
+    let ready = ready_rows(state).into_iter();
+    let first = ready.take(usize::from(k));
     first
-        .map(|next| case.state.table.rows[usize::from(next.row)])
+        .map(|next| state.table.rows[usize::from(next.row)])
         .collect()
 }
 
 /// With the rest of its place 0, the slot is done.
-fn low_place_right(case: &Case) -> bool {
-    let low = u64::from(case.place as u32);
-    let (mut state, mut buffer) = (case.state, case.buffer.clone());
-    let answer = slot(&mut state, case.k, &mut buffer, low);
-    case.place != low && answer.number <= 1
+fn low_place_right<F: Free>(case: &Case<F>) -> bool {
+    let mut low = case.clone();
+    low.place = u64::from(case.place as u32);
+    case.place != low.place && low.slot().answer.number <= 1
 }
 
 pub fn rule_name(rule: Rule) -> &'static str {

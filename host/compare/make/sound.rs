@@ -72,7 +72,7 @@ pub fn any(random: &mut Random) -> Draft {
 }
 
 /// The same with this cycle.
-fn any_of(random: &mut Random, cycle: usize) -> Draft {
+pub fn any_of(random: &mut Random, cycle: usize) -> Draft {
     let wanted = random.between(0, 32);
     of_rows(random, cycle, wanted)
 }
@@ -164,7 +164,7 @@ pub fn full(random: &mut Random, by: isize) -> Draft {
 }
 
 /// The same with this cycle, if it can be had.
-fn full_of(random: &mut Random, cycle: usize, by: isize) -> Option<Draft> {
+pub fn full_of(random: &mut Random, cycle: usize, by: isize) -> Option<Draft> {
     let periods = periods(cycle);
     if periods.is_empty() {
         return None;

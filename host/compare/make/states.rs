@@ -1,5 +1,6 @@
 //! States that are not broken: a broken one shows no more of a slot than its 30.
 
+use crate::make::memory::{self, memory};
 use crate::make::rows::wild_row;
 use crate::make::{schedule, sound};
 use crate::random::Random;
@@ -14,7 +15,9 @@ pub fn state(random: &mut Random) -> State {
         0 => after_slots(random, table),
         _ => {
             let time = time(random, u64::from(table.cycle));
-            inside_shares(random, table, time)
+            let state = inside_shares(random, table, time);
+            let last = memory(random, &state);
+            State { last, ..state }
         }
     };
     if random.one_in(2) {
@@ -81,9 +84,10 @@ fn quanta(random: &mut Random, row: &Row, time: u64) -> u64 {
     random.pick(&[least, most, between])
 }
 
-/// What no rule asks for: rows and quanta past n, boards past M.
+/// What no rule asks for: rows and quanta past n, boards past M, what is remembered past its count.
 fn fill_unused(random: &mut Random, state: &mut State) {
     fill(random, &mut state.table);
+    memory::fill(random, &mut state.last);
     for quanta in &mut state.quanta[usize::from(state.table.count)..] {
         *quanta = random.pick(&[0, 1, state.time, LAST_TIME + 1, u64::MAX]);
     }

@@ -1,11 +1,15 @@
-//! A real-time dispatcher after the paper "Exact scope and rules", called 01 below.
+//! A real-time dispatcher after the paper "Exact scope and rules", called 01 below, and after
+//! request One, "A core for each picked row", of the paper "More requests from customers", called
+//! 02, One. Where One changes 01, One is followed.
 //!
-//! One module for each part of 01; 01's words stand in the comments beside the code that
-//! follows them, and its numbers stand in the code as 01 writes them.
+//! One module for each part of 01, and one for the request; the papers' words stand in the comments
+//! beside the code that follows them, and their numbers stand in the code as they are written
+//! there.
 //!
 //! * `table`: the table, in bytes, and the faults of a table value.
 //! * `windows`: start, deadline, bit and group deadline of a subtask.
 //! * `share`: the exact share of a row.
+//! * `cores`: a core for each picked row (02, One).
 //! * `slot`: who is ready, who goes first, one slot's choice, and what decided it.
 //! * `trace`: the record of one slot inside a trace.
 //! * `checker`: the judge of traces from any origin.
@@ -18,9 +22,9 @@
 //! Built with `--cfg slip="NAME"` the program makes one mistake on purpose, so that a bench can
 //! show that it would be seen. Built without, none of it is there. Each is marked `slip:` at its
 //! place. The first five are those of 01's "Slips we have made", the next three are of the kind
-//! that is off by one. The others show at the ends of what may be asked alone: a number cut to
+//! that is off by one. The next show at the ends of what may be asked alone: a number cut to
 //! fewer bytes, a limit that lets one too many or too few pass, a kind or a place that is not
-//! looked at.
+//! looked at. The last four are of 02, One.
 //!
 //! | name | place | the mistake |
 //! |---|---|---|
@@ -28,17 +32,21 @@
 //! | `bit_left_out` | `slot::rule_between` | "b = 1 before b = 0" left out of the order |
 //! | `smaller_group_first` | `slot::order` | smaller D first |
 //! | `weights_in_floats` | `table::test_sum` | e/p added up in floats; a full box gets refused |
-//! | `late_only_if_picked` | `slot::slot`, `checker::judge` | only picked rows are tested |
+//! | `late_only_if_picked` | `slot::give_quanta`, `checker::judge` | only picked rows are tested |
 //! | `start_of_next` | `windows::start_after_phase` | a window starts at the next one's start |
 //! | `deadline_rounded_down` | `windows::deadline_after_phase` | floor in place of ceil |
 //! | `half_is_heavy` | `windows::heavy` | 1/2 counted heavy |
 //! | `input_read_short` | `printer::read_input` | only the first 65,536 bytes are judged |
 //! | `subtask_as_4_bytes` | `windows::window` | i cut to 32 bits |
-//! | `place_as_4_bytes` | `slot::slot` | the place cut to 32 bits |
+//! | `place_as_4_bytes` | `slot::slot_on` | the place cut to 32 bits |
 //! | `slots_limit_4097` | `printer::MOST_SLOTS` | 4,097 slots are taken |
 //! | `record_begins_at_0` | `trace::record` | every part is said to begin at 0 |
 //! | `kinds_above_1_early` | `table::Row::early_release` | any kind above 0 is early release |
 //! | `reach_one_less` | `questions::in_reach` | 2^46 itself is not answered |
+//! | `lowest_core_first` | `cores::place` | each row takes the lowest free core, whoever stays |
+//! | `set_as_8_bits` | `slot::slot_on` | the set cut to its low 8 bits |
+//! | `memory_kept` | `slot::slot_on` | a slot that picks nobody keeps the old memory |
+//! | `core_m_allowed` | `slot::is_core` | a remembered core equal to M is no fault |
 
 // compilers that know the lint warn of a cfg name they were not told of; older ones do not know
 // the lint
@@ -46,6 +54,7 @@
 #![allow(unexpected_cfgs)]
 
 pub mod checker;
+pub mod cores;
 pub mod never_late;
 pub mod printer;
 pub mod questions;

@@ -82,7 +82,8 @@ fn run(input: &Input) -> String {
     let mut output = String::from("slot free tanks\n");
     let mut state = slot::fresh(table);
     for number in 0..input.slots {
-        // "Slots past the k list use all M cores."
+        // "Slots past the k list use all M cores." 02, One: "the printer's k means the first k
+        // cores"; "35 for ... a printer's k above M"
         let k = match input.free.get(usize::from(number)) {
             Some(&free) => free,
             None => table.cores,
@@ -182,11 +183,16 @@ mod tests {
         let table = bytes_of(12, 3, &rows);
         assert_eq!(
             printed(&input_of(&table, 4, &[1, 4, 3, 3])),
-            "slot free tanks\n0 1 9\nrefused 33\n"
+            "slot free tanks\n0 1 9\nrefused 35\n"
         );
         assert_eq!(
             printed(&input_of(&table, 1, &[255])),
-            "slot free tanks\nrefused 33\n"
+            "slot free tanks\nrefused 35\n"
+        );
+        let table = bytes_of(12, 8, &rows);
+        assert_eq!(
+            printed(&input_of(&table, 2, &[8, 9])),
+            "slot free tanks\n0 8 7 8 9\nrefused 35\n"
         );
     }
 

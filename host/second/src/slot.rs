@@ -1,21 +1,25 @@
 //! Who is ready, who goes first, and the dispatcher that makes one slot's choice.
 
+use crate::cores::{self, Placement};
 use crate::share;
 use crate::table::{self, Row, Table};
 use crate::windows;
 use std::cmp::Ordering;
 
+pub use crate::cores::first_cores;
+
 /// The last time a state can have: "32: time is already 1,000,000,000".
 pub const LAST_TIME: u64 = 1_000_000_000;
 
 /// "The dispatcher's state holds the table, the time, a stopped mark and the quanta given to
-/// each row."
+/// each row." And 02, One: "The state remembers which row ran on which core in the last slot".
 #[derive(Clone, Copy, PartialEq, Eq, Debug)]
 pub struct State {
     pub table: Table,
     pub time: u64,
     pub stopped: bool,
     pub quanta: [u64; 32],
+    pub last: Placement,
 }
 
 /// The answer of a slot and of the checker: "row and time are 0 except with 1, 44 and 45".
@@ -37,13 +41,15 @@ impl Answer {
     }
 }
 
-/// "A fresh state can be made from any table value: time 0, not stopped, all quanta 0".
+/// "A fresh state can be made from any table value: time 0, not stopped, all quanta 0". And of what
+/// is remembered of the last slot 02, One: "fresh, none".
 pub fn fresh(table: Table) -> State {
     State {
         table,
         time: 0,
         stopped: false,
         quanta: [0; 32],
+        last: Placement::nobody(),
     }
 }
 
@@ -231,7 +237,8 @@ pub fn deciding_rule(state: &State, k: u8) -> Option<Rule> {
 
 /// "A state is broken (30) if its table has a fault 12 to 20 or 22, if time is above
 /// 1,000,000,000, if a row's quanta exceed time, or if it is not stopped and some row is outside
-/// its share at its time." "Places past row n ... are ignored."
+/// its share at its time." "Places past row n ... are ignored." And by 02, One "30 also" for what
+/// it misremembers.
 pub fn broken(state: &State) -> bool {
     if table::fault(&state.table) != 0 {
         return true;
@@ -247,6 +254,50 @@ pub fn broken(state: &State) -> bool {
         if !state.stopped && !share::inside(row, state.time, quanta) {
             return true;
         }
+    }
+    misremembers(state)
+}
+
+/// 02, One: "30 also for a remembered core not below M or given to two rows, or a remembered row
+/// not below n or on two cores". And the probe's protocol: "A count above 8 ...: the state is broken
+/// (30), whatever else. Each place counts for itself". Nothing else of the state is looked at, and
+/// M and n may be wild.
+pub fn misremembers(state: &State) -> bool {
+    let last = &state.last;
+    // "A count above 8"
+    if usize::from(last.count) > last.rows.len() {
+        return true;
+    }
+    let (rows, cores) = (last.named_rows(), last.named_cores());
+    // "a remembered core not below M"
+    if cores.iter().any(|&core| !is_core(&state.table, core)) {
+        return true;
+    }
+    // "or a remembered row not below n"
+    if rows.iter().any(|&row| row >= state.table.count) {
+        return true;
+    }
+    // a core "given to two rows", a row "on two cores"
+    one_twice(cores) || one_twice(rows)
+}
+
+/// Is there a core of this number? 02, One: "numbered 0 to M - 1".
+fn is_core(table: &Table, core: u8) -> bool {
+    // slip: a remembered core equal to M is no fault
+    if cfg!(slip = "core_m_allowed") {
+        return core <= table.cores;
+    }
+    core < table.cores
+}
+
+/// Does one of the numbers stand at two places?
+fn one_twice(numbers: &[u8]) -> bool {
+    let mut rest = numbers;
+    while let Some((number, others)) = rest.split_first() {
+        if others.contains(number) {
+            return true;
+        }
+        rest = others;
     }
     false
 }
@@ -277,38 +328,70 @@ pub(crate) fn write_record(buffer: &mut [u8], place: u64, k: u8, picked: &[u8]) 
     true
 }
 
-/// Makes one slot's choice with k free cores and writes its record at `place` in the buffer.
-/// "Order for a slot: 30, 31, 32, 33, 34. With 30 to 34 the state returns equal and the buffer
-/// is untouched."
-pub fn slot(state: &mut State, k: u8, buffer: &mut [u8], place: u64) -> Answer {
-    // slip: the place cut to 32 bits
-    #[cfg(slip = "place_as_4_bytes")]
-    let place = u64::from(place as u32);
+/// The refusals that are given before any row is picked, in the order "30, 31, 32, 33", with 35 "in
+/// the place of 33" (02, One). `None` if the slot may go on.
+fn refusal(state: &State, free: u32) -> Option<u8> {
     // 30: "broken state"
     if broken(state) {
-        return Answer::plain(30);
+        return Some(30);
     }
     // 31: "state stopped by an earlier 1"
     if state.stopped {
-        return Answer::plain(31);
+        return Some(31);
     }
     // 32: "time is already 1,000,000,000"
     if state.time == LAST_TIME {
-        return Answer::plain(32);
+        return Some(32);
     }
-    // 33: "k above M"
-    if k > state.table.cores {
-        return Answer::plain(33);
+    // 02, One: "35 for a set naming a core not below M"
+    if free & !first_cores(state.table.cores) != 0 {
+        return Some(35);
     }
-    // 34: "the place is past the buffer's end, or fewer than 2 + c bytes remain after it"
-    let picked = pick(state, k);
-    if !write_record(buffer, place, k, &picked) {
-        return Answer::plain(34);
-    }
+    None
+}
 
+/// Makes one slot's choice with the first k cores free, and writes its record at `place` in the
+/// buffer. Of a k above M the last core is not below M: 35, as 02, One wants it for "a printer's k
+/// above M".
+pub fn slot(state: &mut State, k: u8, buffer: &mut [u8], place: u64) -> Answer {
+    slot_on(state, first_cores(k), buffer, place).0
+}
+
+/// Makes one slot's choice with a set of free cores, bit c for core c, and writes its record at
+/// `place` in the buffer. 02, One: "For each slot we hand in which cores are free, as a set of
+/// cores, ... and want a core for each picked row." The order for a slot is now 30, 31, 32, 35, 34;
+/// with each of them "the state returns equal and the buffer is untouched", and nobody is placed.
+pub fn slot_on(state: &mut State, free: u32, buffer: &mut [u8], place: u64) -> (Answer, Placement) {
+    // slip: the place cut to 32 bits
+    #[cfg(slip = "place_as_4_bytes")]
+    let place = u64::from(place as u32);
+    // slip: the set cut to its low 8 bits
+    #[cfg(slip = "set_as_8_bits")]
+    let free = free & 0xFF;
+    if let Some(number) = refusal(state, free) {
+        return (Answer::plain(number), Placement::nobody());
+    }
+    // 02, One: "k becomes the size of the set; picks, shares and traces stay as they are"
+    let k = free.count_ones() as u8;
+    let picked = pick(state, k);
+    // 34: "the place is past the buffer's end, or fewer than 2 + c bytes remain after it"
+    if !write_record(buffer, place, k, &picked) {
+        return (Answer::plain(34), Placement::nobody());
+    }
+    let placement = cores::place(&state.last, free, &picked);
+    // 02, One: "The state remembers which row ran on which core in the last slot"
+    // slip: a slot that picks nobody keeps the old memory
+    if !cfg!(slip = "memory_kept") || !picked.is_empty() {
+        state.last = placement;
+    }
+    (give_quanta(state, &picked), placement)
+}
+
+/// The end of a slot that picked these rows, and its answer, 0 or 1.
+fn give_quanta(state: &mut State, picked: &[u8]) -> Answer {
     // "time is one higher, each picked row has one quantum more"
     state.time += 1;
-    for &row in &picked {
+    for &row in picked {
         state.quanta[usize::from(row)] += 1;
     }
 
@@ -318,7 +401,7 @@ pub fn slot(state: &mut State, k: u8, buffer: &mut [u8], place: u64) -> Answer {
     let late = lowest_late(&state.table, &state.quanta, state.time);
     // slip: lateness tested only for rows that were picked
     #[cfg(slip = "late_only_if_picked")]
-    let late = lowest_late_picked(&state.table, &state.quanta, state.time, &picked);
+    let late = lowest_late_picked(&state.table, &state.quanta, state.time, picked);
     if let Some(row) = late {
         state.stopped = true;
         return Answer {
@@ -333,6 +416,7 @@ pub fn slot(state: &mut State, k: u8, buffer: &mut [u8], place: u64) -> Answer {
 #[cfg(test)]
 pub(crate) mod tests {
     use super::*;
+    use crate::cores::tests::{placement_of, set_of};
     use crate::never_late::Chance;
     use crate::table::tests::{value_of, EXAMPLE};
 
@@ -673,6 +757,7 @@ pub(crate) mod tests {
         let mut expected = state;
         expected.time = 1;
         expected.quanta[0] = 1;
+        expected.last = placement_of(&[(0, 0)]);
         assert_eq!(picks(&mut state, 2), [0]);
         assert_eq!(state, expected);
     }
@@ -685,7 +770,7 @@ pub(crate) mod tests {
         assert_eq!(picks(&mut state, 1), []);
         assert_eq!(state.time, 1_000_000_000);
         assert_eq!(refused(&state, 1, 9, 0), 32);
-        // 32 goes before 33 and 34
+        // 32 goes before 35 and 34
         assert_eq!(refused(&state, 2, 0, 0), 32);
 
         // 1/2 with 499,999,999 quanta: its next subtask 500,000,000 is due at 1,000,000,000
@@ -709,10 +794,16 @@ pub(crate) mod tests {
     #[test]
     fn too_many_free_cores() {
         let state = fresh(value_of(6, 2, &[(1, 2, 0, 0)]));
-        assert_eq!(refused(&state, 3, 9, 0), 33);
-        assert_eq!(refused(&state, 255, 9, 0), 33);
-        // 33 goes before 34
-        assert_eq!(refused(&state, 3, 0, 0), 33);
+        for k in 3..=255 {
+            assert_eq!(refused(&state, k, 9, 0), 35);
+        }
+        // 35 goes before 34
+        assert_eq!(refused(&state, 3, 0, 0), 35);
+        // M = 8 is the most there is
+        let state = fresh(value_of(6, 8, &[(1, 2, 0, 0)]));
+        assert_eq!(refused(&state, 9, 9, 0), 35);
+        assert_eq!(refused(&state, 255, 9, 0), 35);
+        assert_eq!(picks(&mut state.clone(), 8), [0]);
     }
 
     #[test]
@@ -760,6 +851,289 @@ pub(crate) mod tests {
         assert_eq!(slot(&mut state, 1, &mut buffer, 0), expected);
         assert_eq!(buffer, [1, 1, 1]);
         assert_eq!(state.quanta[..3], [0, 1, 0]);
+    }
+
+    // ---- a core for each picked row ----
+
+    /// One slot with these cores free, into a buffer of its own; (row, core) of each picked row.
+    fn placed(state: &mut State, free: &[u8]) -> Vec<(u8, u8)> {
+        let mut buffer = [0xEE; 10];
+        let (answer, placement) = slot_on(state, set_of(free), &mut buffer, 0);
+        assert_eq!(answer, DONE);
+        // "k becomes the size of the set"
+        assert_eq!(buffer[0], free.len() as u8);
+        let c = usize::from(buffer[1]);
+        assert_eq!(placement.named_rows(), &buffer[2..2 + c]);
+        assert_eq!(state.last, placement);
+        let rows = placement.named_rows().iter().copied();
+        let pairs: Vec<(u8, u8)> = rows.zip(placement.named_cores().iter().copied()).collect();
+        // 0 past the count
+        assert_eq!(placement, placement_of(&pairs));
+        pairs
+    }
+
+    /// A slot that must be refused: the number, with state and buffer as they were, and nobody
+    /// placed.
+    fn refused_on(state: &State, free: u32, room: usize, place: u64) -> u8 {
+        let mut after = *state;
+        let mut buffer = vec![0xEE; room];
+        let (answer, placement) = slot_on(&mut after, free, &mut buffer, place);
+        assert_eq!(after, *state);
+        assert!(buffer.iter().all(|&byte| byte == 0xEE));
+        assert_eq!((answer.row, answer.time), (0, 0));
+        assert_eq!(placement, Placement::nobody());
+        answer.number
+    }
+
+    #[test]
+    fn the_cores_of_the_example() {
+        let mut state = fresh(table::read(&EXAMPLE).unwrap());
+        assert_eq!(state.last, Placement::nobody());
+        assert_eq!(placed(&mut state, &[0, 1]), [(0, 0), (1, 1)]);
+        // row 0 stays
+        assert_eq!(placed(&mut state, &[0, 1]), [(0, 0), (2, 1)]);
+        // row 2 stays; row 1 was on core 1 two slots ago, which is no slot "before"
+        assert_eq!(placed(&mut state, &[0, 1]), [(1, 0), (2, 1)]);
+    }
+
+    /// Three early-release rows 4/8 on three cores: ready while they have less than 4 quanta, d is
+    /// 2 for the first, 4 for the second, 6, 8.
+    fn three_halves() -> State {
+        fresh(value_of(8, 3, &[(4, 8, 0, 1), (4, 8, 0, 1), (4, 8, 0, 1)]))
+    }
+
+    #[test]
+    fn cores_from_slot_to_slot() {
+        let mut state = three_halves();
+        assert_eq!(placed(&mut state, &[1, 2]), [(0, 1), (1, 2)]);
+        // row 2 is due at 2, then rows 0 and 1 at 4; row 0 stays though core 0 is free
+        assert_eq!(placed(&mut state, &[0, 1]), [(0, 1), (2, 0)]);
+        // rows 1 and 2 are due at 4, row 0 at 6; row 1 did not run in the slot before
+        assert_eq!(placed(&mut state, &[0, 2]), [(1, 2), (2, 0)]);
+        // rows 1 and 2 stay, row 0 gets what is left
+        assert_eq!(placed(&mut state, &[0, 1, 2]), [(0, 1), (1, 2), (2, 0)]);
+        // all have three; row 0 goes by its number and must move
+        assert_eq!(placed(&mut state, &[2]), [(0, 2)]);
+        // row 0 has its four quanta; rows 1 and 2 did not run in the slot before
+        assert_eq!(placed(&mut state, &[0, 1, 2]), [(1, 0), (2, 1)]);
+        // nobody is ready: nobody is remembered
+        assert_eq!(placed(&mut state, &[0, 1, 2]), []);
+        assert_eq!(state.last, Placement::nobody());
+    }
+
+    #[test]
+    fn after_a_slot_that_picks_nobody_nobody_is_remembered() {
+        let mut state = three_halves();
+        assert_eq!(placed(&mut state, &[0, 1, 2]), [(0, 0), (1, 1), (2, 2)]);
+        // in the next slot row 1 would stay and row 0 move
+        let mut next = state;
+        assert_eq!(placed(&mut next, &[1, 2]), [(0, 2), (1, 1)]);
+        // after a slot without a free core there is none to stay on
+        assert_eq!(placed(&mut state, &[]), []);
+        assert_eq!(state.last, Placement::nobody());
+        assert_eq!(placed(&mut state, &[1, 2]), [(0, 1), (1, 2)]);
+        // the same with a single row
+        let mut state = fresh(value_of(8, 2, &[(2, 8, 0, 1)]));
+        assert_eq!(placed(&mut state, &[1]), [(0, 1)]);
+        let mut next = state;
+        assert_eq!(placed(&mut next, &[0, 1]), [(0, 1)]);
+        assert_eq!(placed(&mut state, &[]), []);
+        assert_eq!(placed(&mut state, &[0, 1]), [(0, 0)]);
+    }
+
+    #[test]
+    fn cores_are_numbered_in_board_order() {
+        // boards 5 and 9 are cores 0 and 1
+        let mut state = fresh(value_of(8, 2, &[(2, 8, 0, 1), (2, 8, 0, 1)]));
+        state.table.boards[..2].copy_from_slice(&[5, 9]);
+        assert_eq!(refused_on(&state, 1 << 5 | 1 << 9, 9, 0), 35);
+        assert_eq!(refused_on(&state, 1 << 5, 9, 0), 35);
+        assert_eq!(placed(&mut state, &[0, 1]), [(0, 0), (1, 1)]);
+        state.last = placement_of(&[(0, 5)]);
+        assert_eq!(refused_on(&state, 0b11, 9, 0), 30);
+    }
+
+    #[test]
+    fn a_late_slot_places_and_remembers_too() {
+        let mut state = thirds_and_quarters();
+        assert_eq!(placed(&mut state, &[]), []);
+        let mut buffer = [0xEE; 3];
+        let (answer, placement) = slot_on(&mut state, 0b10, &mut buffer, 0);
+        let expected = Answer {
+            number: 1,
+            row: 0,
+            time: 2,
+        };
+        assert_eq!(answer, expected);
+        assert_eq!(placement, placement_of(&[(2, 1)]));
+        assert_eq!(buffer, [1, 1, 2]);
+        assert!(state.stopped);
+        assert_eq!(state.last, placement);
+        assert_eq!(refused_on(&state, 0b10, 9, 0), 31);
+    }
+
+    #[test]
+    fn a_set_naming_a_core_not_below_m() {
+        for cores in 1..=8 {
+            let state = fresh(value_of(6, cores, &[(1, 2, 0, 0)]));
+            for core in 0..32 {
+                let expected = if core < cores { 0 } else { 35 };
+                let mut after = state;
+                let number = slot_on(&mut after, 1 << core, &mut [0; 9], 0).0.number;
+                assert_eq!(number, expected, "core {} of {}", core, cores);
+                if core >= cores {
+                    assert_eq!(refused_on(&state, 1 << core, 9, 0), 35);
+                    // a core below M does not mend it
+                    assert_eq!(refused_on(&state, 1 << core | 1, 9, 0), 35);
+                    // 35 goes before 34
+                    assert_eq!(refused_on(&state, 1 << core, 0, 0), 35);
+                }
+            }
+            assert_eq!(refused_on(&state, u32::MAX, 9, 0), 35);
+        }
+        // 30, 31 and 32 go before it
+        let mut state = fresh(value_of(6, 2, &[]));
+        state.time = 1_000_000_000;
+        assert_eq!(refused_on(&state, 0b100, 9, 0), 32);
+        state.stopped = true;
+        assert_eq!(refused_on(&state, 0b100, 9, 0), 31);
+        state.time += 1;
+        assert_eq!(refused_on(&state, 0b100, 9, 0), 30);
+    }
+
+    #[test]
+    fn room_for_the_record_of_a_set() {
+        let state = fresh(value_of(6, 2, &[(1, 2, 0, 0)]));
+        assert_eq!(refused_on(&state, 0b10, 2, 0), 34);
+        assert_eq!(refused_on(&state, 0b10, 3, 1), 34);
+        assert_eq!(refused_on(&state, 0b00, 1, 0), 34);
+        let mut buffer = [0xEE; 5];
+        let (answer, placement) = slot_on(&mut state.clone(), 0b10, &mut buffer, 1);
+        assert_eq!(answer, DONE);
+        assert_eq!(placement, placement_of(&[(0, 1)]));
+        assert_eq!(buffer, [0xEE, 1, 1, 0, 0xEE]);
+    }
+
+    /// 01's example table at its start, remembering these (row, core): the slot's number.
+    fn remembering(pairs: &[(u8, u8)]) -> u8 {
+        let mut state = fresh(table::read(&EXAMPLE).unwrap());
+        state.last = placement_of(pairs);
+        assert_eq!(broken(&state), misremembers(&state));
+        if misremembers(&state) {
+            return refused_on(&state, 0b11, 9, 0);
+        }
+        slot_on(&mut state, 0b11, &mut [0; 9], 0).0.number
+    }
+
+    #[test]
+    fn what_is_remembered_amiss_breaks_the_state() {
+        // three rows on two cores
+        assert_eq!(remembering(&[]), 0);
+        assert_eq!(remembering(&[(0, 0)]), 0);
+        assert_eq!(remembering(&[(2, 1), (0, 0)]), 0);
+        // "a remembered core not below M"
+        assert_eq!(remembering(&[(0, 2)]), 30);
+        assert_eq!(remembering(&[(0, 0), (1, 2)]), 30);
+        assert_eq!(remembering(&[(0, 255)]), 30);
+        // "or given to two rows"
+        assert_eq!(remembering(&[(0, 0), (1, 0)]), 30);
+        assert_eq!(remembering(&[(0, 1), (1, 0), (2, 1)]), 30);
+        // "or a remembered row not below n"
+        assert_eq!(remembering(&[(3, 0)]), 30);
+        assert_eq!(remembering(&[(0, 0), (255, 1)]), 30);
+        // "or on two cores"
+        assert_eq!(remembering(&[(1, 0), (1, 1)]), 30);
+        // "one pair standing twice is 30"
+        assert_eq!(remembering(&[(1, 0), (1, 0)]), 30);
+    }
+
+    #[test]
+    fn what_is_remembered_is_held_against_nothing_else() {
+        // at time 0, of rows that have no quantum, of rows that are not ready (phase 5)
+        let mut state = fresh(value_of(6, 2, &[(1, 2, 0, 0), (1, 3, 5, 0)]));
+        state.last = placement_of(&[(1, 0), (0, 1)]);
+        assert_eq!(placed(&mut state, &[0, 1]), [(0, 1)]);
+        // a stopped state's memory is judged as well, before 31
+        let mut stopped = state;
+        stopped.stopped = true;
+        assert_eq!(refused_on(&stopped, 0b11, 9, 0), 31);
+        stopped.last = placement_of(&[(0, 2)]);
+        assert_eq!(refused_on(&stopped, 0b11, 9, 0), 30);
+        // and before 32
+        let mut state = fresh(value_of(1, 1, &[]));
+        state.time = 1_000_000_000;
+        assert_eq!(refused_on(&state, 0b1, 9, 0), 32);
+        state.last.count = 1;
+        assert_eq!(refused_on(&state, 0b1, 9, 0), 30);
+    }
+
+    #[test]
+    fn a_count_above_8_breaks_the_state_whatever_else() {
+        let mut state = fresh(value_of(8, 8, &[(1, 8, 0, 0); 8]));
+        let cores = [
+            (0, 0),
+            (1, 1),
+            (2, 2),
+            (3, 3),
+            (4, 4),
+            (5, 5),
+            (6, 6),
+            (7, 7),
+        ];
+        state.last = placement_of(&cores);
+        assert!(!misremembers(&state));
+        for count in 9..=255 {
+            state.last.count = count;
+            assert!(misremembers(&state));
+            assert_eq!(refused_on(&state, 0xFF, 10, 0), 30);
+        }
+    }
+
+    #[test]
+    fn what_stands_past_the_count_is_ignored() {
+        let mut state = three_halves();
+        state.last = Placement {
+            count: 1,
+            rows: [2, 2, 99, 255, 0, 0, 0, 1],
+            cores: [0, 0, 99, 3, 255, 1, 1, 1],
+        };
+        assert!(!misremembers(&state));
+        // with a refusal it comes back as it came
+        assert_eq!(refused_on(&state, 0b1000, 9, 0), 35);
+        assert_eq!(refused_on(&state, 0b111, 4, 0), 34);
+        // row 2 alone was there; afterwards 0 stands past the count
+        assert_eq!(placed(&mut state, &[0, 1, 2]), [(0, 1), (1, 2), (2, 0)]);
+        assert_eq!(state.last.rows[3..], [0; 5]);
+        assert_eq!(state.last.cores[3..], [0; 5]);
+    }
+
+    #[test]
+    fn memories_of_wild_tables() {
+        let mut state = fresh(Table::zero());
+        // M = 0 and n = 0: nothing can be remembered
+        assert!(!misremembers(&state));
+        state.last = placement_of(&[(0, 0)]);
+        assert!(misremembers(&state));
+        state.table.cores = 255;
+        assert!(misremembers(&state));
+        state.table.count = 255;
+        assert!(!misremembers(&state));
+        state.last = placement_of(&[(254, 0), (0, 254)]);
+        assert!(!misremembers(&state));
+        // the table breaks it all the same
+        assert!(broken(&state));
+        assert_eq!(refused_on(&state, 0, 9, 0), 30);
+        state.last = placement_of(&[(254, 0), (0, 255)]);
+        assert!(misremembers(&state));
+        state.last = placement_of(&[(255, 0), (0, 254)]);
+        assert!(misremembers(&state));
+        state.last = placement_of(&[(254, 0), (254, 254)]);
+        assert!(misremembers(&state));
+        state.last = placement_of(&[(254, 9), (253, 9)]);
+        assert!(misremembers(&state));
+        state.table.count = 0;
+        state.last = placement_of(&[(0, 9)]);
+        assert!(misremembers(&state));
     }
 
     // ---- tables by chance, for the statements over all runs ----
@@ -839,5 +1213,51 @@ pub(crate) mod tests {
             }
         }
         assert!(lates > 50);
+    }
+
+    /// "picks, shares and traces stay as they are": a slot with any set against one with the first
+    /// cores, as many, and with another memory.
+    #[test]
+    fn the_set_and_the_memory_choose_no_row() {
+        let mut chance = Chance(0x0123_4567_89AB_CDEF);
+        let (mut lates, mut moved) = (0, 0);
+        for _ in 0..300 {
+            let table = table_by_chance(&mut chance);
+            let (mut state, mut plain) = (fresh(table), fresh(table));
+            for _ in 0..2 * table.cycle {
+                let set =
+                    chance.below(1 << table.cores) as u32 | chance.below(1 << table.cores) as u32;
+                let before = state.last;
+                let (mut record, mut expected) = ([0xEE; 10], [0xEE; 10]);
+                let (answer, placement) = slot_on(&mut state, set, &mut record, 0);
+                let k = set.count_ones() as u8;
+                assert_eq!(slot(&mut plain, k, &mut expected, 0), answer);
+                assert_eq!(record, expected);
+                assert_eq!(record[0], k);
+                // a core of the set for each picked row, no core twice
+                let (rows, cores) = (placement.named_rows(), placement.named_cores());
+                assert_eq!(rows, &record[2..2 + usize::from(record[1])]);
+                assert_eq!(set_of(cores) & !set, 0);
+                assert_eq!(set_of(cores).count_ones() as usize, cores.len());
+                // none of the rows moves whose core is free
+                for (row, core) in before.named_rows().iter().zip(before.named_cores()) {
+                    if let Some(place) = rows.iter().position(|named| named == row) {
+                        let free = set >> core & 1 == 1;
+                        assert_eq!(cores[place] == *core, free);
+                        moved += u32::from(!free);
+                    }
+                }
+                assert_eq!(state.last, placement);
+                plain.last = placement;
+                assert_eq!(state, plain);
+                plain.last = Placement::nobody();
+                if answer.number == 1 {
+                    lates += 1;
+                    break;
+                }
+                assert_eq!(answer, DONE);
+            }
+        }
+        assert!(lates > 50 && moved > 50);
     }
 }

@@ -1,5 +1,6 @@
 //! The state, and one slot of it.
 
+use super::cores::{self, Placement};
 use super::picks::{picks, Picks};
 use super::table::{self, Table};
 
@@ -11,6 +12,8 @@ pub struct State {
     pub time: u64,
     pub stopped: bool,
     pub quanta: [u64; 32],
+    /// the rows of the last slot, with their cores
+    pub last: Placement,
 }
 
 #[derive(Clone, Copy, PartialEq, Eq, Debug)]
@@ -20,7 +23,7 @@ pub enum Answer {
     Broken,
     Stopped,
     AtLimit,
-    TooManyCores,
+    NoSuchCore,
     NoRoom,
 }
 
@@ -31,11 +34,13 @@ impl State {
             time: 0,
             stopped: false,
             quanta: [0; 32],
+            last: Placement::default(),
         }
     }
 
-    /// One slot with k cores free: its record stands at the given place in the buffer.
-    pub fn slot(&mut self, k: u8, buffer: &mut [u8], place: usize) -> Answer {
+    /// One slot with a set of free cores, bit c for core c: its record stands at the given place in the buffer, and the rows that are picked
+    /// have their cores in `last`.
+    pub fn slot(&mut self, free: u32, buffer: &mut [u8], place: usize) -> Answer {
         if self.is_broken() {
             return Answer::Broken;
         }
@@ -45,13 +50,15 @@ impl State {
         if self.time >= TIME_LIMIT {
             return Answer::AtLimit;
         }
-        if k > self.table.cores {
-            return Answer::TooManyCores;
+        if free >> self.table.cores != 0 {
+            return Answer::NoSuchCore;
         }
+        let k = free.count_ones() as u8;
         let picks = picks(self, k);
         if !write(&picks, k, buffer, place) {
             return Answer::NoRoom;
         }
+        self.last = cores::place(&self.last, free, picks.rows());
         for &row in picks.rows() {
             self.quanta[usize::from(row)] += 1;
         }
@@ -66,6 +73,7 @@ impl State {
                 .iter()
                 .any(|&given| given > self.time)
             || (!self.stopped && self.is_outside_share())
+            || self.last.is_faulty(&self.table)
     }
 
     fn is_outside_share(&self) -> bool {

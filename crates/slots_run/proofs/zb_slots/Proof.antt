@@ -8,16 +8,19 @@ use Rattle.slots_run.proofs.zb_slots.Statement.{statement}
 use Rattle.slots_run.proofs.zb_slots.Tie as tie
 
 abbrev Inv-loop : tie.InvT-loop
-Inv-loop table k slots entry₀ state₀ done₀ entry state done = SlotsSoFar state₀ k entry₀ slots state entry done
+Inv-loop table k slots entry₀ state₀ free done₀ entry state done = SlotsSoFar state₀ k entry₀ slots state entry done
 
 abbrev μ-loop : tie.MeasureT-loop
-μ-loop table k slots entry₀ state₀ done₀ entry state done = slots - done
+μ-loop table k slots entry₀ state₀ free done₀ entry state done = slots - done
 
 read-requires : tie.Need-read-requires Inv-loop μ-loop
 read-requires c κs = search needs
 
 fresh-requires : tie.Need-fresh-requires Inv-loop μ-loop
 fresh-requires c κs = search needs
+
+first-requires : tie.Need-first-requires Inv-loop μ-loop
+first-requires c κs = search needs
 
 loop-holds : tie.Need-loop-holds Inv-loop μ-loop
 loop-holds c = slots-begin _ _ _ _
@@ -35,7 +38,8 @@ loop-again : tie.Need-loop-again Inv-loop μ-loop
 loop-again c =
     let slot = c .before .before .before .slot in
     let l = c .before .before .before .before .before .before in
-    slots-go-on _ _ _ _ (l .loop .inv) (c .before .before .before .before .before .loop-test .taken) (slot .ensures .1 .0) (slot .ensures .1 .1) (slot .kept .1 .1 .0)
+    let asked = rw (l .before .first .ensures) at (slot .ensures) in
+    slots-go-on _ _ _ _ (l .loop .inv) (c .before .before .before .before .before .loop-test .taken) (asked .1 .1 .0) (asked .1 .1 .1) (slot .kept .1 .1 .0)
 
 time-requires : tie.Need-time-requires Inv-loop μ-loop
 time-requires c κs = search needs
@@ -46,7 +50,7 @@ same-length c = c .before .before .loop .inv .long
 returns : tie.Need-returns Inv-loop μ-loop
 returns c =
     let l = c .before .before in
-    let start = l .before .fresh .ensures ∙ ap (λ read. freshOf (read .table)) (l .before .before .read .ensures) in
+    let start = l .before .before .fresh .ensures ∙ ap (λ read. freshOf (read .table)) (l .before .before .before .read .ensures) in
     let left = rw start at (slots-end _ _ _ _ (l .loop .inv) (c .before .loop-test .left)) in
     (c .time .ensures ∙ ap timeOf (left .0), left .1)
 
@@ -58,6 +62,7 @@ zb-slots-spec =
     μ-loop
     read-requires
     fresh-requires
+    first-requires
     loop-holds
     slot-requires
     add-done

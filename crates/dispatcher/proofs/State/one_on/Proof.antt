@@ -10,7 +10,7 @@ run-requires c κs = search needs
 judge-requires : tie.Need-judge-requires
 judge-requires c κs =
     let a = c .before in
-    rw (c .run .ensures) (stays-usable (a .args .self) (marked (a .args .marks)) (a .pre .usable) (a .pre .slot-left))
+    rw (c .run .ensures) (stays-usable (a .args .self) (marked (a .args .marks)) (a .args .placed) (a .pre .usable) (a .pre .slot-left))
 
 returns : tie.Need-returns
 returns c =

@@ -21,7 +21,8 @@ returns c =
     let long : length (c .before .before .before .args .marks) ≡ 32 = search needs in
     let quanta = given-is _ _ _ (c .before .give .ensures) (omega (arith, long, pre .usable .place .long)) (marked-are-small s _ pre) in
     let time : c .later .result .0 ≡ timeOf s + 1 = omega (arith, c .later .ensures, pre .slot-left) in
-    ap₂ (λ t q. record { table = s .table; time = record { 0 = t }; stopped = s .stopped; quanta = q }) time quanta
+    let placed = c .before .before .before .args .placed in
+    ap₂ (λ t q. record { table = s .table; time = record { 0 = t }; stopped = s .stopped; quanta = q; last = placed }) time quanta
 
 pub run-spec : {M : Type 1} → statement M
 run-spec = tie.close (tie.spec give-requires later-requires returns)

@@ -29,13 +29,20 @@ add-quanta c = omega arith
 quanta-requires : tie.Need-quanta-requires
 quanta-requires c κs = search needs
 
+add-placement : tie.Need-add-placement
+add-placement c = omega arith
+
+placement-requires : tie.Need-placement-requires
+placement-requires c κs = search needs
+
 returns : tie.Need-returns
 returns c =
     record {
       table = search needs;
       time = search needs;
-      stopped = ap (λ x. eqb x 1) (c .before .byte .ensures);
+      stopped = ap (λ x. eqb x 1) (c .before .before .byte .ensures);
       quanta = search needs;
+      last = search needs;
     }
 
 pub state-spec : {M : Type 1} → statement M
@@ -50,4 +57,6 @@ state-spec =
     byte-requires
     add-quanta
     quanta-requires
+    add-placement
+    placement-requires
     returns)

@@ -1,14 +1,14 @@
 use native.Mathlib.Omega.{arith}
 use Prim.Native.Nat.{_-_, _≤_}
 use borrow.Author.Needs.{needs}
-use Rattle.questions.proofs.put.boards.Statement.{statement}
-use Rattle.questions.proofs.put.boards.Tie as tie
+use Rattle.questions.proofs.put.eight.Statement.{statement}
+use Rattle.questions.proofs.put.eight.Tie as tie
 
 abbrev Inv-loop : tie.InvT-loop
-Inv-loop answer₀ boards i₀ answer i = i ≤ 8
+Inv-loop answer₀ at numbers i₀ answer i = i ≤ 8
 
 abbrev μ-loop : tie.MeasureT-loop
-μ-loop answer₀ boards i₀ answer i = 8 - i
+μ-loop answer₀ at numbers i₀ answer i = 8 - i
 
 loop-holds : tie.Need-loop-holds Inv-loop μ-loop
 loop-holds c = omega arith
@@ -34,8 +34,8 @@ loop-again c = omega arith
 returns : tie.Need-returns Inv-loop μ-loop
 returns c = omega arith
 
-pub boards-spec : {M : Type 1} → statement M
-boards-spec =
+pub eight-spec : {M : Type 1} → statement M
+eight-spec =
     tie.close
     (tie.spec
     Inv-loop

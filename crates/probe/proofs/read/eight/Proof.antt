@@ -3,14 +3,14 @@ use native.Mathlib.Omega.{arith}
 use Rattle.probe.proofs.Reading.{ReadUpTo, nothing-read, one-more-read}
 use Rattle.fields.specs.Fields.{byte}
 use borrow.Author.Needs.{needs}
-use Rattle.probe.proofs.read.boards.Statement.{statement}
-use Rattle.probe.proofs.read.boards.Tie as tie
+use Rattle.probe.proofs.read.eight.Statement.{statement}
+use Rattle.probe.proofs.read.eight.Tie as tie
 
 abbrev Inv-loop : tie.InvT-loop
-Inv-loop s at boards₀ i₀ boards i = (i ≤ 8) × ReadUpTo (λ x. x) (λ j. byte s (at + j)) 0 8 i boards
+Inv-loop s at numbers₀ i₀ numbers i = (i ≤ 8) × ReadUpTo (λ x. x) (λ j. byte s (at + j)) 0 8 i numbers
 
 abbrev μ-loop : tie.MeasureT-loop
-μ-loop s at boards₀ i₀ boards i = 8 - i
+μ-loop s at numbers₀ i₀ numbers i = 8 - i
 
 loop-holds : tie.Need-loop-holds Inv-loop μ-loop
 loop-holds c = (omega arith, nothing-read _ _ _ _ (search needs))
@@ -21,8 +21,8 @@ add-byte c = omega arith
 byte-requires : tie.Need-byte-requires Inv-loop μ-loop
 byte-requires c κs = search needs
 
-array-write-boards : tie.Need-array-write-boards Inv-loop μ-loop
-array-write-boards c = omega arith
+array-write-numbers : tie.Need-array-write-numbers Inv-loop μ-loop
+array-write-numbers c = omega arith
 
 add-i : tie.Need-add-i Inv-loop μ-loop
 add-i c = omega arith
@@ -38,8 +38,8 @@ loop-again c =
 returns : tie.Need-returns Inv-loop μ-loop
 returns c = λ j l. c .before .loop .inv .1 .first j (omega arith)
 
-pub boards-spec : {M : Type 1} → statement M
-boards-spec =
+pub eight-spec : {M : Type 1} → statement M
+eight-spec =
     tie.close
     (tie.spec
     Inv-loop
@@ -47,7 +47,7 @@ boards-spec =
     loop-holds
     add-byte
     byte-requires
-    array-write-boards
+    array-write-numbers
     add-i
     loop-less
     loop-again

@@ -3,14 +3,14 @@ use mathlib.Core.Path.{_≡_}
 use Prim.Native.Nat.{_+_, _-_, _≤_}
 use lib.ListN.{length}
 use borrow.Author.Needs.{needs}
-use Rattle.probe.proofs.write.boards.Statement.{statement}
-use Rattle.probe.proofs.write.boards.Tie as tie
+use Rattle.probe.proofs.write.eight.Statement.{statement}
+use Rattle.probe.proofs.write.eight.Tie as tie
 
 abbrev Inv-loop : tie.InvT-loop
-Inv-loop out₀ at boards next₀ i₀ out next i = (i ≤ 8) × ((next ≡ at + i) × (length out ≡ length out₀))
+Inv-loop out₀ at numbers next₀ i₀ out next i = (i ≤ 8) × ((next ≡ at + i) × (length out ≡ length out₀))
 
 abbrev μ-loop : tie.MeasureT-loop
-μ-loop out₀ at boards next₀ i₀ out next i = 8 - i
+μ-loop out₀ at numbers next₀ i₀ out next i = 8 - i
 
 loop-holds : tie.Need-loop-holds Inv-loop μ-loop
 loop-holds c = search needs
@@ -36,8 +36,8 @@ same-length c = search needs
 returns : tie.Need-returns Inv-loop μ-loop
 returns c = search needs
 
-pub boards-spec : {M : Type 1} → statement M
-boards-spec =
+pub eight-spec : {M : Type 1} → statement M
+eight-spec =
     tie.close
     (tie.spec
     Inv-loop

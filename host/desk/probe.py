@@ -1,0 +1,134 @@
+"""A client of the probe (crates/probe): it builds requests and takes answers apart. It judges nothing: whether a table is taken, who runs and on
+which core, who is late and what is refused is what the probe answers.
+
+Numbers are little-endian. A table value is L (4), M (1), 8 board numbers, n (1) and 32 rows of 9 bytes; a placement a count (1), 8 rows and 8
+cores; a state a table value, the time (8), a stopped mark (1), 32 quanta (8 each), and the placement of the last slot.
+"""
+from __future__ import annotations
+
+import struct
+import subprocess
+from dataclasses import dataclass
+from pathlib import Path
+from typing import Sequence
+
+CORES, ROWS, ROW = 8, 32, 9  # places for cores and for rows, and the bytes of a row
+CORE_COUNT_AT = 4
+ROWS_AT = CORE_COUNT_AT + 1 + CORES + 1
+TABLE_VALUE = ROWS_AT + ROWS * ROW
+TIME_AT = TABLE_VALUE
+MEMORY_AT = TIME_AT + 8 + 1 + ROWS * 8
+PLACEMENT = 1 + CORES + CORES
+STATE = MEMORY_AT + PLACEMENT
+RECORD = 2 + CORES  # the longest record of a slot: each slot is lent a buffer of this length, with place 0
+
+TABLE_REQUEST = struct.Struct("<cI")  # T, length; the table's bytes follow
+TABLE_ANSWER = struct.Struct(f"<B{TABLE_VALUE}s")  # number, table value
+SLOT_REQUEST = struct.Struct(f"<c{STATE}sIQI{RECORD}s")  # K, state, set of free cores, place, length, buffer
+SLOT_ANSWER = struct.Struct(f"<BBQ{PLACEMENT}s{STATE}s{RECORD}s")  # number, row, time, placement, state, buffer
+
+# Found from this file's own place, through symlinks, so that it does not matter where a user stands.
+RUN = (str(Path(__file__).resolve().parent.parent / "run"), "probe")
+
+
+class Trouble(Exception):
+    """No answer can be had; the sentence for the user says why."""
+
+
+@dataclass(frozen=True)
+class Placement:
+    """The rows of a slot, each with its core, as pairs in the order in which the probe names them."""
+
+    pairs: tuple[tuple[int, int], ...]
+
+    @classmethod
+    def of(cls, raw: bytes) -> Placement:
+        count = raw[0]
+        if count > CORES:
+            raise Trouble(f"the probe names {count} rows in one slot, and there are {CORES} cores at most")
+        return cls(tuple(zip(raw[1 : 1 + count], raw[1 + CORES : 1 + CORES + count])))
+
+
+@dataclass(frozen=True)
+class State:
+    """A state as the probe gave it, handed back to it unread; only what a listing shows is looked at."""
+
+    raw: bytes
+
+    @property
+    def time(self) -> int:
+        return int.from_bytes(self.raw[TIME_AT : TIME_AT + 8], "little")
+
+    @property
+    def memory(self) -> Placement:
+        """Which row ran on which core in the last slot."""
+        return Placement.of(self.raw[MEMORY_AT:])
+
+
+@dataclass(frozen=True)
+class Table:
+    """What the probe answered about a table: 0 and its value, or why it is refused and a value that is all 0."""
+
+    number: int
+    value: bytes
+
+    @property
+    def cores(self) -> int:
+        return self.value[CORE_COUNT_AT]
+
+    def tank(self, row: int) -> int:
+        if row >= ROWS:
+            raise Trouble(f"the probe names row {row}, and a table has {ROWS} rows at most")
+        at = ROWS_AT + ROW * row
+        return int.from_bytes(self.value[at : at + 2], "little")
+
+    def fresh(self) -> State:
+        """Time 0, not stopped, no quanta given, nobody remembered: nothing but 0 behind the table."""
+        return State(self.value.ljust(STATE, b"\0"))
+
+
+@dataclass(frozen=True)
+class Slot:
+    """What the probe answered for one slot. `row` and `time` name the late row, if the number is 1."""
+
+    number: int
+    row: int
+    time: int
+    placement: Placement
+    state: State
+
+
+class Probe:
+    """The program, and the requests that it is asked here."""
+
+    def __init__(self, command: Sequence[str] = RUN) -> None:
+        self.command = command
+
+    def read_table(self, table: bytes) -> Table:
+        request = TABLE_REQUEST.pack(b"T", len(table)) + table
+        return Table(*TABLE_ANSWER.unpack(self.ask(request, TABLE_ANSWER.size)))
+
+    def run_slot(self, state: State, free: int) -> Slot:
+        """One slot; bit c of `free` says that core c is free."""
+        request = SLOT_REQUEST.pack(b"K", state.raw, free, 0, RECORD, bytes(RECORD))
+        answer = self.ask(request, SLOT_ANSWER.size)
+        number, row, time, placement, after, _ = SLOT_ANSWER.unpack(answer)
+        return Slot(number, row, time, Placement.of(placement), State(after))
+
+    def ask(self, request: bytes, length: int) -> bytes:
+        """The answer to one request, which has `length` bytes.
+
+        The probe reads all its requests before it answers, and a slot needs the state that the one before gave back: so a run of slots is one
+        process for each slot. It is started without a shell in between.
+        """
+        try:
+            run = subprocess.run(self.command, input=request, capture_output=True)
+        except OSError as error:
+            raise Trouble(f"the probe does not start: {error}") from None
+        if run.returncode != 0:
+            said = " ".join(run.stderr.decode(errors="replace").split())
+            raise Trouble(said or f"the probe ended with status {run.returncode}")
+        if len(run.stdout) != length:
+            letter = request[:1].decode()
+            raise Trouble(f"the probe is of another version, or was cut short: {len(run.stdout)} bytes answer {letter}, not {length}")
+        return run.stdout
