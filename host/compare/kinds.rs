@@ -49,6 +49,7 @@ kinds! {
     mod value,   value::Case<false>:           "table values",                 PROBE,          5_000;
     mod slot,    slot::Case<u8>:               "slots",                        PROBE,          20_000;
     mod cores,   cores::Case:                  "slots with a set of cores",    PROBE,          20_000;
+    mod why,     why::Case:                    "why rows wait",                PROBE,          20_000;
     mod record,  record::Case:                 "records",                      PROBE,          5_000;
     mod check,   Lent<check::Checks, false>:   "checks",                       PROBE,          14_000;
     mod by_hand, Lent<by_hand::ByHand, false>: "made by hand, of the probe",   PROBE,          ALL;

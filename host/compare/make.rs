@@ -16,4 +16,5 @@ pub mod spoil;
 pub mod states;
 pub mod values;
 pub mod weight;
+pub mod why_seen;
 pub mod written;

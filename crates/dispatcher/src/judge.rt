@@ -13,23 +13,25 @@ ghost use Rattle.dispatcher.specs.Broken.{ofRowAt, broken};
 ghost use Rattle.counts.specs.Numbers.{numbersOf};
 ghost use Rattle.dispatcher.specs.Usable.{Testable, brokenRow};
 
-// Whether the state is broken. The state may be wild: only what passed is looked at further.
-pub(crate) fn is_broken(state: State) -> bool
-    ensures { λ r. ⌜ r ≡ broken state ⌝ }
-{
-    if table::fault(state.table) != 0 {
-        return true;
+impl State {
+    // Whether the state is broken. The state may be wild: only what passed is looked at further.
+    pub fn is_broken(self) -> bool
+        ensures { λ r. ⌜ r ≡ broken self ⌝ }
+    {
+        if table::fault(self.table) != 0 {
+            return true;
+        }
+        if counts::TIME_LIMIT < self.time.time() {
+            return true;
+        }
+        let n = self.table.n as usize;
+        let rows = self.table.rows;
+        let quanta = self.quanta;
+        if has_broken_row(rows, quanta, n, self.time, self.stopped) {
+            return true;
+        }
+        self.last.is_faulty(self.table.cores, self.table.n)
     }
-    if counts::TIME_LIMIT < state.time.time() {
-        return true;
-    }
-    let n = state.table.n as usize;
-    let rows = state.table.rows;
-    let quanta = state.quanta;
-    if has_broken_row(rows, quanta, n, state.time, state.stopped) {
-        return true;
-    }
-    state.last.is_faulty(state.table.cores, state.table.n)
 }
 
 // Whether some row breaks the state.

@@ -131,7 +131,7 @@ impl State {
     fn cause(self, free: [bool; 32], len: usize, place: usize) -> Answer
         ensures { λ r. ⌜ CauseIs self free len place r ⌝ }
     {
-        if judge::is_broken(self) {
+        if self.is_broken() {
             return Answer::Broken;
         }
         if self.stopped {

@@ -137,6 +137,26 @@ fn tell_with_cores(outcome: Outcome) {
     io::write_all(STDOUT_FILENO, &out);
 }
 
+// Y: a state (584), k (1) and a row (1). A mark that is neither 0 nor 1 counts as cut.
+pub(crate) fn reason(request: &[u8]) -> usize
+    ensures { λ r. ⌜ r ≤ length (now (request .entry)) ⌝ }
+{
+    if request.len() < 587 {
+        return 0;
+    }
+    if 1 < fields::byte(request, 311) {
+        return 0;
+    }
+    let state = read::state(request, 1);
+    let k = fields::byte(request, 585);
+    let row = fields::byte(request, 586);
+    let answer = why::of_row(state, k, row);
+    let mut out = [0u8; 12];
+    write::reason(&mut out, answer.told());
+    io::write_all(STDOUT_FILENO, &out);
+    587
+}
+
 // R: a slot (8), the length (4) of a trace, and its bytes. The answer says where the part begins, so that it is told from an equal one elsewhere.
 pub(crate) fn record(request: &[u8]) -> usize
     ensures { λ r. ⌜ r ≤ length (now (request .entry)) ⌝ }

@@ -59,6 +59,7 @@ fn answer(requests: &mut [u8]) -> usize
         b'V' => answers::fault(requests),
         b'S' => answers::slot(requests),
         b'K' => answers::slot_on_set(requests),
+        b'Y' => answers::reason(requests),
         b'R' => answers::record(requests),
         b'C' => answers::check(requests),
         _ => 0,

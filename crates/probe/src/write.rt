@@ -42,6 +42,17 @@ pub(crate) fn told(out: &mut [u8], at: usize, told: Told) -> usize
     put::long(out, past_row, told.time)
 }
 
+// The whole answer to why a row waits: number, reason, slot, row and rule.
+pub(crate) fn reason(out: &mut [u8], told: why::Told)
+    requires { ⌜ 12 ≤ length (now out) ⌝ }
+{
+    let past_number = put::byte(out, 0, told.number);
+    let past_reason = put::byte(out, past_number, told.reason);
+    let past_slot = put::long(out, past_reason, told.slot);
+    let past_row = put::byte(out, past_slot, told.row);
+    put::byte(out, past_row, told.rule);
+}
+
 pub(crate) fn state(out: &mut [u8], at: usize, state: State) -> usize
     requires { ⌜ at + 584 ≤ length (now out) ⌝ }
     ensures { λ r. ⌜ r ≡ at + 584 ⌝ }

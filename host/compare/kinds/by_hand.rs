@@ -1,6 +1,7 @@
 //! Cases made by hand, each with the number that 01 gives it: those of by_hand.txt, and what lies around the example of 01.
 
 use super::slot::{Case, Free, Outcome};
+use super::why;
 use crate::kind::*;
 use crate::make::hex::bytes_of;
 use crate::make::lent::{given, Given, Maker};
@@ -44,6 +45,9 @@ impl Maker for ByHand {
     }
 }
 
+/// So many bytes follow the number in the answer to a question why a row waits.
+const TOLD: usize = 11;
+
 type Names = BTreeMap<&'static str, Vec<u8>>;
 
 /// A number, words, and parts with a slash between two.
@@ -77,9 +81,10 @@ fn of_text(line: &'static str, names: &Names) -> Line {
     let right = match &parts[..] {
         [_] | [_, _] => true,
         [_, _, free, room, _] => [1, 4].contains(&free.len()) && room.len() == 1,
+        [_, _, asked, told] => asked.len() == 2 && [0, TOLD].contains(&told.len()),
         _ => false,
     };
-    assert!(right, "no table, no trace and no slot: {}", line);
+    assert!(right, "no table, no trace, no slot and no question: {}", line);
     Line {
         number: number.parse().expect("a line begins with its number"),
         words,
@@ -108,7 +113,7 @@ pub fn slots<F: Free>() -> Vec<Case<F>> {
     let slot = |line: &Line| match &line.parts[..] {
         [table, state, free, room, placed] if free.len() == F::WIDTH => {
             let case = Case {
-                state: state_of(table, state),
+                state: state_of::<1>(table, state),
                 free: F::read(free),
                 place: 0,
                 buffer: vec![0xEE; usize::from(room[0])],
@@ -121,15 +126,34 @@ pub fn slots<F: Free>() -> Vec<Case<F>> {
     lines().1.iter().filter_map(slot).collect()
 }
 
-/// Time (4), stopped (1), the quanta of each row (1 each), and what is remembered.
-fn state_of(table: &[u8], bytes: &[u8]) -> State {
+/// The questions why a row waits.
+pub fn questions() -> Vec<why::Case> {
+    let question = |line: &Line| match &line.parts[..] {
+        [table, state, asked, told] => {
+            let mut answer = vec![line.number];
+            answer.extend(told);
+            answer.resize(1 + TOLD, 0);
+            Some(why::Case {
+                state: state_of::<4>(table, state),
+                k: asked[0],
+                row: asked[1],
+                known: Some((answer, line.words.to_string())),
+            })
+        }
+        _ => None,
+    };
+    lines().1.iter().filter_map(question).collect()
+}
+
+/// Time (4), stopped (1), the quanta of each row (so many bytes each), and what is remembered.
+fn state_of<const WIDTH: usize>(table: &[u8], bytes: &[u8]) -> State {
     let mut state = fresh(read(table).expect("a table that is taken"));
     let (time, rest) = bytes.split_at(4);
-    let (quanta, last) = rest[1..].split_at(usize::from(state.table.count));
+    let (quanta, last) = rest[1..].split_at(WIDTH * usize::from(state.table.count));
     state.time = u64::read(time);
     state.stopped = bool::read(&rest[..1]);
-    for (of_row, &quanta) in state.quanta.iter_mut().zip(quanta) {
-        *of_row = quanta.into();
+    for (of_row, quanta) in state.quanta.iter_mut().zip(quanta.chunks(WIDTH)) {
+        *of_row = u64::read(quanta);
     }
     state.last = placement_of(last);
     state

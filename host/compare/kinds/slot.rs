@@ -1,4 +1,5 @@
-//! Single slots, of wild states: with k free cores, the first k; and what they have in common with those of cores.rs, which have a set of them.
+//! Single slots, of wild states: with k free cores, the first k; and what they have in common with those of cores.rs, which have a set of them, and
+//! with the questions of why.rs.
 
 use super::by_hand;
 use crate::kind::*;
@@ -73,16 +74,7 @@ impl<F: Free> Kind for Case<F> {
             let k = late.trace.records.last().map_or(0, |record| record.k);
             return with_room(random, late.before, k);
         }
-        let mut state = states::state(random);
-        if random.one_in(3) {
-            disturb(random, &mut state);
-        }
-        while random.one_in(12) {
-            disturb(random, &mut state);
-        }
-        if random.one_in(10) {
-            memory::damage(random, &state.table, &mut state.last);
-        }
+        let state = wild_state(random);
         let k = free_cores(random, state.table.cores);
         with_room(random, state, k)
     }
@@ -180,7 +172,22 @@ fn with_room<F: Free>(random: &mut Random, state: State, k: u8) -> Case<F> {
     }
 }
 
-fn free_cores(random: &mut Random, cores: u8) -> u8 {
+/// One that is not broken, or one of which something has another value.
+pub fn wild_state(random: &mut Random) -> State {
+    let mut state = states::state(random);
+    if random.one_in(3) {
+        disturb(random, &mut state);
+    }
+    while random.one_in(12) {
+        disturb(random, &mut state);
+    }
+    if random.one_in(10) {
+        memory::damage(random, &state.table, &mut state.last);
+    }
+    state
+}
+
+pub fn free_cores(random: &mut Random, cores: u8) -> u8 {
     match random.below(12) {
         0 => random.pick(&[cores.wrapping_add(1), 32, 255]),
         1 => 0,

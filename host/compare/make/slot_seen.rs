@@ -7,15 +7,18 @@ use second::share::inside;
 use second::slot::{deciding_rule, ready_rows, Rule, State, LAST_TIME};
 use second::table::{fault, Row};
 
+pub const CAUSES_OF_30: Group = "the only cause of 30 (1 in 2000): \
+    table fault 12 | table fault 13 | table fault 14 | table fault 15 | table fault 16 | \
+    table fault 17 | table fault 18 | table fault 19 | table fault 20 | table fault 22 | \
+    time above the limit | quanta above time | outside the share | \
+    core M | a core above M | a core of two rows | row n | a row above n | a row on two cores | \
+    a row and its core twice | a count above 8";
+
 /// With what is counted of the way in which the free cores are told.
 pub const fn groups(free: Group) -> [Group; 17] {
     [
         "answer (1 in 100): 0 | 1 | 30..32 | 34..35",
-        "the only cause of 30 (1 in 2000): table fault 12 | table fault 13 | \
-        table fault 14 | table fault 15 | table fault 16 | table fault 17 | table fault 18 | \
-        table fault 19 | table fault 20 | table fault 22 | time above the limit | \
-        quanta above time | outside the share | core M | a core above M | a core of two rows | \
-        row n | a row above n | a row on two cores | a row and its core twice | a count above 8",
+        CAUSES_OF_30,
         "decided by (1 in 150): deadline | bit | group deadline | row number",
         "picked (1 in 50): plain | early release | phase above 0",
         "done at a time (1 in 60): below 1,000 | above 900,000,000",
@@ -42,13 +45,17 @@ pub fn count<F: Free>(case: &Case<F>, answer: &[u8], tally: &mut Tally) {
     if number <= 1 {
         count_done(case, tally);
     }
-    if let (30, Some(cause)) = (number, only_cause(&case.state)) {
-        tally.saw("the only cause of 30", cause);
-    }
+    count_cause_of_30(&case.state, number, tally);
     let low_right = number == 34 && low_place_right(case);
     tally.saw_each("refused by a place", [low_right]);
     let late = |met| number == 1 && met;
     tally.saw_each("late row", [late(answer[1] > 0), late(answer[1] == 31)]);
+}
+
+pub fn count_cause_of_30(state: &State, number: u8, tally: &mut Tally) {
+    if let (30, Some(cause)) = (number, only_cause(state)) {
+        tally.saw("the only cause of 30", cause);
+    }
 }
 
 /// The name of the cause for which a state is broken, if there is one alone: a slot answers 30 for each, so a cause shows only without another.

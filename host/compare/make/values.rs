@@ -61,8 +61,8 @@ pub fn ways_of_state(state: &State) -> usize {
     4 + state.table.named_rows().len() + state.last.named_rows().len()
 }
 
-/// A fresh state, earlier by all cycles or by one, nobody remembered, a row less, a remembered one less.
-pub fn make_smaller(state: &mut State, way: usize) {
+/// A fresh state, earlier by all cycles or by one, nobody remembered, a row less, a remembered one less. The row that is lost, if one is.
+pub fn make_smaller(state: &mut State, way: usize) -> Option<u8> {
     let n = state.table.named_rows().len();
     match way {
         0 => *state = fresh(state.table),
@@ -74,9 +74,11 @@ pub fn make_smaller(state: &mut State, way: usize) {
             state.quanta[way - 4..].rotate_left(1);
             state.quanta[31] = 0;
             forget_row(&mut state.last, (way - 4) as u8);
+            return Some((way - 4) as u8);
         }
         _ => drop_place(&mut state.last, way - 4 - n),
     }
+    None
 }
 
 /// The rows after it get the number before their own.

@@ -1,16 +1,18 @@
-//! A real-time dispatcher after the paper "Exact scope and rules", called 01 below, and after
-//! request One, "A core for each picked row", of the paper "More requests from customers", called
-//! 02, One. Where One changes 01, One is followed.
+//! A real-time dispatcher after the paper "Exact scope and rules", called 01 below, and after two
+//! requests of the paper "More requests from customers": "A core for each picked row", called
+//! 02, One, and "Why did tank 14 wait?", called 02, Two. Where One changes 01, One is followed; Two
+//! asks of the slot that is about to run and changes nothing.
 //!
-//! One module for each part of 01, and one for the request; the papers' words stand in the comments
-//! beside the code that follows them, and their numbers stand in the code as they are written
-//! there.
+//! One module for each part of 01, and one for each request; the papers' words stand in the
+//! comments beside the code that follows them, and their numbers stand in the code as they are
+//! written there.
 //!
 //! * `table`: the table, in bytes, and the faults of a table value.
 //! * `windows`: start, deadline, bit and group deadline of a subtask.
 //! * `share`: the exact share of a row.
 //! * `cores`: a core for each picked row (02, One).
 //! * `slot`: who is ready, who goes first, one slot's choice, and what decided it.
+//! * `why`: why a row is picked in the slot about to run, or waits (02, Two).
 //! * `trace`: the record of one slot inside a trace.
 //! * `checker`: the judge of traces from any origin.
 //! * `printer`: the slot printer's whole output.
@@ -24,7 +26,7 @@
 //! place. The first five are those of 01's "Slips we have made", the next three are of the kind
 //! that is off by one. The next show at the ends of what may be asked alone: a number cut to
 //! fewer bytes, a limit that lets one too many or too few pass, a kind or a place that is not
-//! looked at. The last four are of 02, One.
+//! looked at. The next four are of 02, One, and the last three of 02, Two.
 //!
 //! | name | place | the mistake |
 //! |---|---|---|
@@ -47,6 +49,9 @@
 //! | `set_as_8_bits` | `slot::slot_on` | the set cut to its low 8 bits |
 //! | `memory_kept` | `slot::slot_on` | a slot that picks nobody keeps the old memory |
 //! | `core_m_allowed` | `slot::is_core` | a remembered core equal to M is no fault |
+//! | `best_in_place_of_lowest` | `why::named_of` | the first of the picked is named, not the last |
+//! | `no_core_before_ready` | `why::reason` | at k = 0 every row has no core free |
+//! | `row_before_cores` | `why::refusal` | 36 is tested before 33 |
 
 // compilers that know the lint warn of a cfg name they were not told of; older ones do not know
 // the lint
@@ -62,4 +67,5 @@ pub mod share;
 pub mod slot;
 pub mod table;
 pub mod trace;
+pub mod why;
 pub mod windows;

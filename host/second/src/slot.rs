@@ -62,16 +62,20 @@ pub(crate) fn next_subtask(quanta: u64) -> u64 {
 
 /// Is the row ready in slot t?
 pub fn ready(row: &Row, quanta: u64, time: u64) -> bool {
+    u128::from(time) >= ready_from(row, quanta)
+}
+
+/// The slot from which on the row is ready, while no quantum more is given to it.
+pub(crate) fn ready_from(row: &Row, quanta: u64) -> u128 {
     let i = next_subtask(quanta);
     let phase = u64::from(row.phase);
-    let begin = if row.early_release() {
+    if row.early_release() {
         // "An early-release row is ready if t is at or past the start of the job that holds it"
         windows::job_start(row.cost, row.period, phase, i)
     } else {
         // "A plain row is ready in slot t if t is at or past r of its next subtask."
         windows::start(row.cost, row.period, phase, i)
-    };
-    u128::from(time) >= begin
+    }
 }
 
 /// "A row is late at time t if its next subtask has d at or before t."
@@ -190,7 +194,7 @@ pub(crate) fn in_order(
 }
 
 /// A row's next subtask, as the order sees it.
-fn next_of(number: u8, row: &Row, quanta: u64) -> Next {
+pub(crate) fn next_of(number: u8, row: &Row, quanta: u64) -> Next {
     let (e, p, f) = (row.cost, row.period, u64::from(row.phase));
     let i = next_subtask(quanta);
     Next {
@@ -212,13 +216,17 @@ fn put_in_order(others: &mut Vec<Next>, next: Next) {
     }
 }
 
-/// "The first min(free cores, ready rows) are picked." Row numbers, rising.
+/// "The first min(free cores, ready rows) are picked." First those that go first.
+pub(crate) fn picked_in_order(state: &State, k: u8) -> Vec<Next> {
+    let mut picked = ready_rows(state);
+    picked.truncate(usize::from(k));
+    picked
+}
+
+/// The rows that are picked: their numbers, rising.
 fn pick(state: &State, k: u8) -> Vec<u8> {
-    let mut picked: Vec<u8> = ready_rows(state)
-        .iter()
-        .take(usize::from(k))
-        .map(|next| next.row)
-        .collect();
+    let in_order = picked_in_order(state, k);
+    let mut picked: Vec<u8> = in_order.iter().map(|next| next.row).collect();
     picked.sort_unstable();
     picked
 }
@@ -328,9 +336,8 @@ pub(crate) fn write_record(buffer: &mut [u8], place: u64, k: u8, picked: &[u8]) 
     true
 }
 
-/// The refusals that are given before any row is picked, in the order "30, 31, 32, 33", with 35 "in
-/// the place of 33" (02, One). `None` if the slot may go on.
-fn refusal(state: &State, free: u32) -> Option<u8> {
+/// The refusals that hang on the state alone, in the order "30, 31, 32".
+pub(crate) fn state_refusal(state: &State) -> Option<u8> {
     // 30: "broken state"
     if broken(state) {
         return Some(30);
@@ -342,6 +349,15 @@ fn refusal(state: &State, free: u32) -> Option<u8> {
     // 32: "time is already 1,000,000,000"
     if state.time == LAST_TIME {
         return Some(32);
+    }
+    None
+}
+
+/// The refusals that are given before any row is picked, in the order "30, 31, 32, 33", with 35 "in
+/// the place of 33" (02, One). `None` if the slot may go on.
+fn refusal(state: &State, free: u32) -> Option<u8> {
+    if let Some(number) = state_refusal(state) {
+        return Some(number);
     }
     // 02, One: "35 for a set naming a core not below M"
     if free & !first_cores(state.table.cores) != 0 {

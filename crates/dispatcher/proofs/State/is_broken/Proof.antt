@@ -10,17 +10,17 @@ use Rattle.cores.specs.Fault.{misremembers}
 use Rattle.dispatcher.specs.State.{timeOf}
 use Rattle.dispatcher.proofs.BrokenBy.{by-fault, by-time, in-place, testable, by-rows, by-memory}
 use borrow.Author.Needs.{needs}
-use Rattle.dispatcher.proofs.judge.is_broken.Statement.{statement}
-use Rattle.dispatcher.proofs.judge.is_broken.Tie as tie
+use Rattle.dispatcher.proofs.State.is_broken.Statement.{statement}
+use Rattle.dispatcher.proofs.State.is_broken.Tie as tie
 
 fault-requires : tie.Need-fault-requires
 fault-requires c κs = search needs
 
 -- what is known past the tests of the table and the time
-no-fault : (c : tie.Else1) → faultOf (c .before .before .args .state .table) ≡ 0
+no-fault : (c : tie.Else1) → faultOf (c .before .before .args .self .table) ≡ 0
 no-fault c = sym (c .before .fault .ensures) ∙ c .if1 .left
 
-in-time : (c : tie.Else2) → timeOf (c .before .before .before .before .args .state) ≤ timeLimit
+in-time : (c : tie.Else2) → timeOf (c .before .before .before .before .args .self) ≤ timeLimit
 in-time c = omega (arith, c .if2 .left, c .before .time .ensures)
 
 returns : tie.Need-returns
@@ -36,18 +36,18 @@ cast-n : tie.Need-cast-n
 cast-n c = omega arith
 
 -- the arrays of a state have 32 places
-arrays : (c : tie.After-quanta) → let s = c .before .before .before .before .before .before .before .args .state in InPlace (s .table .rows) (s .quanta) (s .table .n)
+arrays : (c : tie.After-quanta) → let s = c .before .before .before .before .before .before .before .args .self in InPlace (s .table .rows) (s .quanta) (s .table .n)
 arrays c =
     let passed = c .before .before .before in
     let a = passed .before .before .before .before in
-    in-place (a .args .state) (no-fault (passed .before .before))
-    (sym (length-map (a .args .state .table .rows) _) ∙ a .good .0 .1 .1 .0 .1 .1 .1 .1 .1 .1 .0 .1 .0 .1)
-    (sym (length-map (a .args .state .quanta) _) ∙ a .good .0 .1 .1 .1 .1 .1 .0 .1 .0 .1)
+    in-place (a .args .self) (no-fault (passed .before .before))
+    (sym (length-map (a .args .self .table .rows) _) ∙ a .good .0 .1 .1 .0 .1 .1 .1 .1 .1 .1 .0 .1 .0 .1)
+    (sym (length-map (a .args .self .quanta) _) ∙ a .good .0 .1 .1 .1 .1 .1 .0 .1 .0 .1)
 
 has-broken-row-requires : tie.Need-has-broken-row-requires
 has-broken-row-requires c κs =
     let passed = c .before .before .before in
-    testable (passed .before .before .before .before .args .state) (no-fault (passed .before .before)) (arrays c) (in-time passed)
+    testable (passed .before .before .before .before .args .self) (no-fault (passed .before .before)) (arrays c) (in-time passed)
 
 returns-3 : tie.Need-returns-3
 returns-3 c =
@@ -61,7 +61,7 @@ returns-4 : tie.Need-returns-4
 returns-4 c =
     let judged = c .before .before in
     let passed = judged .before .before .before .before in
-    let s = passed .before .before .before .before .args .state in
+    let s = passed .before .before .before .before .args .self in
     c .is-faulty .ensures
     ∙ (ap (λ n. misremembers (s .last) (λ row. ltb row n) (s .table .cores)) (sym (arrays (judged .before) .all))
     ∙ by-memory s (no-fault (passed .before .before)) (in-time passed) (sym (judged .has-broken-row .ensures) ∙ c .before .if3 .left))

@@ -1,0 +1,97 @@
+//! Why a row is picked in the slot about to run, or waits: of the states and the free cores that slots are asked with.
+
+use super::by_hand;
+use super::slot::{free_cores, wild_state};
+use crate::kind::*;
+use crate::make::{values, why_seen};
+use second::slot::{broken, ready_rows, State};
+use second::why::answer;
+use std::iter::repeat_with;
+
+#[derive(Clone)]
+pub struct Case {
+    pub state: State,
+    pub k: u8,
+    pub row: u8,
+    /// the answer and of what it is, where it was made by hand
+    pub known: Option<(Vec<u8>, String)>,
+}
+
+impl Kind for Case {
+    const GROUPS: &'static [Group] = &why_seen::GROUPS;
+
+    fn wild(random: &mut Random) -> Case {
+        let state = wild_state(random);
+        let k = free_cores(random, state.table.cores);
+        Case {
+            row: row(random, &state, k),
+            state,
+            k,
+            known: None,
+        }
+    }
+
+    fn cases(mut random: Random) -> Box<dyn Iterator<Item = Case>> {
+        let wild = repeat_with(move || Case::wild(&mut random));
+        Box::new(by_hand::questions().into_iter().chain(wild))
+    }
+
+    fn asked(&mut self, to: &mut Message) {
+        // where a row less will do, a free core less may have to go with it, or must not
+        for cores_less in [1, 0] {
+            if let Some(way) = to.turn(values::ways_of_state(&self.state)) {
+                self.make_smaller(way, cores_less);
+            }
+        }
+        values::state(to.letter(b'Y'), &mut self.state)
+            .part("k", &mut self.k)
+            .part("row", &mut self.row);
+    }
+
+    fn answered(&self, to: &mut Message) {
+        let answer = answer(&self.state, self.k, self.row);
+        to.number("number", answer.number)
+            .number("reason", answer.reason)
+            .number("first slot", answer.slot)
+            .number("row", answer.row)
+            .number("rule", answer.rule);
+    }
+
+    fn known(&self) -> Option<(&[u8], &str)> {
+        let known = self.known.as_ref();
+        known.map(|(answer, words)| (&answer[..], &words[..]))
+    }
+
+    fn count(&self, _answer: &[u8], tally: &mut Tally) {
+        why_seen::count(self, tally);
+    }
+}
+
+impl Case {
+    /// The same row is asked about: where one before it is lost, it has the number before its own.
+    fn make_smaller(&mut self, way: usize, cores_less: u8) {
+        let lost = values::make_smaller(&mut self.state, way);
+        if lost.map_or(false, |lost| lost < self.row) {
+            self.row -= 1;
+        }
+        self.k = self.k.saturating_sub(cores_less);
+    }
+}
+
+/// Any row of the table, one that is not there, or one between which and the picked ones the order may have to go far.
+fn row(random: &mut Random, state: &State, k: u8) -> u8 {
+    let n = state.table.count;
+    match random.below(12) {
+        0 => random.pick(&[n, n.wrapping_add(1), 31, 32, 255]),
+        1..=5 if !broken(state) => near_the_last_picked(random, state, k),
+        _ => random.below(usize::from(n).max(1)) as u8,
+    }
+}
+
+/// The row that is picked last, or one of the two that come after it; of a state that is not broken.
+fn near_the_last_picked(random: &mut Random, state: &State, k: u8) -> u8 {
+    let ready = ready_rows(state);
+    let place = (usize::from(k) + random.below(3)).saturating_sub(1);
+    let place = place.min(ready.len().saturating_sub(1));
+    ready.get(place).map_or(0, |next| next.row)
+}

@@ -1,0 +1,160 @@
+//! What is met in questions why a row waits.
+
+use crate::kinds::why::Case;
+use crate::make::slot_seen::{count_cause_of_30, rule_name, CAUSES_OF_30};
+use crate::tally::{Group, Tally};
+use second::slot::{broken, ready, ready_rows, rule_between, Next, Rule, LAST_TIME};
+use second::table::Row;
+use second::why::{why, Reason};
+
+pub const GROUPS: [Group; 15] = [
+    "answer (1 in 50): 0 | 30..33 | 36",
+    CAUSES_OF_30,
+    "refused, and there is cause for another (1 in 1000): 30 before 31 | 30 before 32 | \
+     30 before 33 | 30 before 36 | 31 before 32 | 31 before 33 | 31 before 36 | 32 before 33 | \
+     32 before 36 | 33 before 36",
+    "33 by k of (1 in 500): M + 1 | 32 | 255",
+    "36 by row (1 in 500): n | n + 1 | 31 | 32 | 255",
+    "36 with (1 in 500): n of 0 | n of 32 | something at the row's place",
+    "reason (1 in 50): picked | not ready | no core free | passed over",
+    "answered with (1 in 100): row 31 | k of M | k of 8 | time above 900,000,000",
+    "k of 0, and the row is (1 in 100): ready | not ready",
+    "not ready (1 in 100): plain | early release | before its phase | after a phase above 0",
+    "first slot (1 in 200): the next | a later one | the time limit | past the time limit",
+    "before its start, by early release (1 in 200): picked | no core free | passed over",
+    "passed over by (1 in 100): deadline | bit | group deadline | row number",
+    "passed over, and (1 in 100): the named row is not the lowest of the picked | \
+     it is not the highest | it is not the first in the order | \
+     another of the picked goes before by another rule | \
+     the named row goes before the first left out by another rule | \
+     the named row has the larger group deadline, which is not asked",
+    "passed over by a rule against another (1 in 200): deadline against bit | \
+     deadline against group deadline | deadline against row number | \
+     bit against group deadline | bit against row number | group deadline against row number | \
+     row number against group deadline",
+];
+
+pub fn count(case: &Case, tally: &mut Tally) {
+    match why(&case.state, case.k, case.row) {
+        Err(number) => count_refused(case, number, tally),
+        Ok(reason) => count_answered(case, reason, tally),
+    }
+}
+
+fn count_refused(case: &Case, number: u8, tally: &mut Tally) {
+    let (state, table) = (&case.state, &case.state.table);
+    tally.saw("answer", number);
+    count_cause_of_30(state, number, tally);
+    let causes = [
+        (30, broken(state)),
+        (31, state.stopped),
+        (32, state.time == LAST_TIME),
+        (33, case.k > table.cores),
+        (36, case.row >= table.count),
+    ];
+    for (other, met) in causes {
+        let name = format!("{} before {}", number, other);
+        let title = "refused, and there is cause for another";
+        tally.saw_if(met && other > number, title, name);
+    }
+    let by = |k| number == 33 && case.k == k;
+    let past = table.cores.wrapping_add(1);
+    tally.saw_each("33 by k of", [by(past), by(32), by(255)]);
+    if number == 36 {
+        count_no_row(case.row, &table.rows, table.count, tally);
+    }
+}
+
+/// Of n rows there is none of this number.
+fn count_no_row(row: u8, rows: &[Row], n: u8, tally: &mut Tally) {
+    let met = [n, n + 1, 31, 32, 255].map(|other| row == other);
+    tally.saw_each("36 by row", met);
+    let place = rows.get(usize::from(row));
+    let stands = place.map_or(false, |place| *place != Row::zero());
+    tally.saw_each("36 with", [n == 0, n == 32, stands]);
+}
+
+fn count_answered(case: &Case, reason: Reason, tally: &mut Tally) {
+    let (state, k, cores) = (&case.state, case.k, case.state.table.cores);
+    let number = usize::from(case.row);
+    let (row, quanta) = (&state.table.rows[number], state.quanta[number]);
+    tally.saw("answer", 0);
+    tally.saw("reason", name(reason));
+    let met = [case.row == 31, k == cores, k == 8, state.time > 900_000_000];
+    tally.saw_each("answered with", met);
+    let is_ready = ready(row, quanta, state.time);
+    let none_free = [k == 0 && is_ready, k == 0 && !is_ready];
+    tally.saw_each("k of 0, and the row is", none_free);
+    let plain = Row { kind: 0, ..*row };
+    let early = is_ready && !ready(&plain, quanta, state.time);
+    tally.saw_if(early, "before its start, by early release", name(reason));
+    match reason {
+        Reason::NotReady { first_slot } => count_not_ready(state.time, row, first_slot, tally),
+        Reason::PassedOver { row, rule } => count_passed_over(case, row, rule, tally),
+        _ => (),
+    }
+}
+
+/// A row that has to wait for a slot.
+fn count_not_ready(time: u64, row: &Row, first_slot: u64, tally: &mut Tally) {
+    let phase = u64::from(row.phase);
+    let met = [
+        row.kind == 0,
+        row.kind == 1,
+        time < phase,
+        0 < phase && phase <= time,
+    ];
+    tally.saw_each("not ready", met);
+    let is_next = first_slot == time + 1;
+    let met = [
+        is_next,
+        !is_next,
+        first_slot == LAST_TIME,
+        first_slot > LAST_TIME,
+    ];
+    tally.saw_each("first slot", met);
+}
+
+/// A row that has to wait for another, which goes before it by a rule.
+fn count_passed_over(case: &Case, named: u8, rule: Rule, tally: &mut Tally) {
+    tally.saw("passed over by", rule_name(rule));
+    let ready = ready_rows(&case.state);
+    let (picked, left) = ready.split_at(usize::from(case.k));
+    let of = |number| ready.iter().find(|next| next.row == number);
+    let of = |number| of(number).expect("a ready row");
+    let (asked, named) = (of(case.row), of(named));
+    let rows = || picked.iter().map(|next| next.row);
+    let met = [
+        rows().min() != Some(named.row),
+        rows().max() != Some(named.row),
+        picked[0] != *named,
+        picked.iter().any(|one| rule_between(one, asked) != rule),
+        rule_between(named, &left[0]) != rule,
+        rule == Rule::RowNumber && named.group > asked.group,
+    ];
+    tally.saw_each("passed over, and", met);
+    for other in against(asked, named) {
+        let name = format!("{} against {}", rule_name(rule), rule_name(other));
+        tally.saw("passed over by a rule against another", name);
+    }
+}
+
+/// The rules that, asked alone, would put the first of two before the second. The deadline is never among those of a row that waits.
+fn against(asked: &Next, named: &Next) -> Vec<Rule> {
+    let speaks = [
+        (Rule::Bit, asked.bit > named.bit),
+        (Rule::GroupDeadline, asked.group > named.group),
+        (Rule::RowNumber, asked.row < named.row),
+    ];
+    let met = speaks.iter().filter(|(_, met)| *met);
+    met.map(|(rule, _)| *rule).collect()
+}
+
+fn name(reason: Reason) -> &'static str {
+    match reason {
+        Reason::Picked => "picked",
+        Reason::NotReady { .. } => "not ready",
+        Reason::NoCoreFree => "no core free",
+        Reason::PassedOver { .. } => "passed over",
+    }
+}
