@@ -50,12 +50,14 @@ module _ (isPicked : ℕ → Bool) (goesBefore : ℕ → ℕ → Bool) (n : ℕ)
   passes : (m : ℕ) → isPicked m ≡ false → NoneOrLowest m → NoneOrLowest (suc m)
   passes m e (inl none) = inl (λ i h. ⊎-elim (none i) (λ s. ap isPicked s ∙ e) (last-or-not i m h))
   passes m e (inr (i, b)) =
-      inr
-      (i, record {
-        low = omega (arith, b .low);
-        is-in = b .is-in;
-        behind = λ other h p d. ⊎-elim (λ y. b .behind other y p d) (λ s. absurd (true≢false (sym p ∙ ap isPicked s ∙ e))) (last-or-not other m h);
-      })
+      inr (
+        i,
+        record {
+          low = omega (arith, b .low);
+          is-in = b .is-in;
+          behind = λ other h p d. ⊎-elim (λ y. b .behind other y p d) (λ s. absurd (true≢false (sym p ∙ ap isPicked s ∙ e))) (last-or-not other m h);
+        },
+      )
 
   -- row m is picked: it is the lowest, or the one before stays
   takes : (m : ℕ) → m < n → isPicked m ≡ true → NoneOrLowest m → Below (suc m) m ⊎ ((i : ℕ) × Below (suc m) i)

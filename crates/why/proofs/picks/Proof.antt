@@ -11,7 +11,7 @@ picks-requires : tie.Need-picks-requires
 picks-requires c κs = search needs
 
 returns : tie.Need-returns
-returns c = 
+returns c =
     let a = c .before .before .before .before in
     c .picks .ensures .1 ∙ state-chosen-as-pd2 (a .args .state) (a .args .k) (a .pre .0) (a .pre .1)
 

@@ -17,7 +17,7 @@ time-of-requires : tie.Need-time-of-requires
 time-of-requires c κs = search needs
 
 returns : tie.Need-returns
-returns c = 
+returns c =
     let a = c .before .before .before .before .before in
     let small : a .args .row .phase < 65_536 = search needs in
     c .time-of .ensures _ (moment-is-said _ _ (a .pre) small (c .before .before .before .before .origin .ensures) jobStart (c .before .next-job-start .ensures))
@@ -30,7 +30,7 @@ time-of-requires-2 : tie.Need-time-of-requires-2
 time-of-requires-2 c κs = search needs
 
 returns-2 : tie.Need-returns-2
-returns-2 c = 
+returns-2 c =
     let a = c .before .before .before .before .before in
     let small : a .args .row .phase < 65_536 = search needs in
     c .time-of2 .ensures _ (moment-is-said _ _ (a .pre) small (c .before .before .before .before .origin .ensures) start (c .before .next-start .ensures))

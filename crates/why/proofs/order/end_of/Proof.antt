@@ -39,7 +39,7 @@ time-requires : tie.Need-time-requires
 time-requires c κs = search needs
 
 returns-2 : tie.Need-returns-2
-returns-2 c = 
+returns-2 c =
     let is = sym (c .before .before .due .given .1) ∙ said (c .before .before .before .before) in
     (c .time .ensures ∙ ap dueTime is, ap dueBit is)
 

@@ -19,7 +19,7 @@ time-requires : tie.Need-time-requires
 time-requires c κs = search needs
 
 returns : tie.Need-returns
-returns c = 
+returns c =
     let a = c .before .before .before .before in
     let small : a .args .row .phase < 65_536 = search needs in
     c .time .ensures ∙ c .before .time-of .ensures _ (moment-is-said _ _ (a .pre) small (c .before .before .before .origin .ensures) groupDeadline (c .before .before .next-group-deadline .ensures))

@@ -55,9 +55,10 @@ both-1 c =
     let ends = bits .before .before .before .before .before .before in
     let a = ends .before .before in
     let one = bit-is-small (a .args .ahead) (a .args .had .0) in
-    let other = bit-is-small (a .args .behind) (a .args .given .0) in
-    (omega (arith, one, c .if3 .left, ends .before .end-of .ensures),
-    omega (arith, one, other, c .if3 .left, bits .if2 .left, ends .end-of2 .ensures, ends .before .end-of .ensures))
+    let other = bit-is-small (a .args .behind) (a .args .given .0) in (
+      omega (arith, one, c .if3 .left, ends .before .end-of .ensures),
+      omega (arith, one, other, c .if3 .left, bits .if2 .left, ends .end-of2 .ensures, ends .before .end-of .ensures),
+    )
 
 group-of-requires : tie.Need-group-of-requires
 group-of-requires c κs = search needs
