@@ -12,6 +12,7 @@ use Rattle.demands.proofs.Confession.{confession}
 use Rattle.demands.proofs.ShutOut.{shut-out}
 use Rattle.demands.proofs.NeverLate.{never-late}
 use Rattle.demands.proofs.Cores.{cores}
+use Rattle.demands.proofs.Why.{why}
 
 pub all : All
 all =
@@ -28,4 +29,5 @@ all =
       shut-out = shut-out;
       never-late = never-late;
       cores = cores;
+      why = why;
     }

@@ -1,6 +1,6 @@
 -- What each case of an answer says is so by definition. Assumes nothing.
 use mathlib.Core.Path.{refl}
-use Rattle.demands.specs.Cases.{WindowCases, StoredCases, SlotCases, TableCases, CheckCases, OwnCases, Cases}
+use Rattle.demands.specs.Cases.{WindowCases, StoredCases, SlotCases, WhyCases, TableCases, CheckCases, OwnCases, Cases}
 
 window-cases : WindowCases
 window-cases = record { window = λ r d D b. refl; refused = refl }
@@ -18,6 +18,24 @@ slot-cases =
       at-limit = refl;
       no-such-core = refl;
       no-room = refl;
+    }
+
+why-cases : WhyCases
+why-cases =
+    record {
+      picked = refl;
+      not-ready = λ until. refl;
+      no-core-free = refl;
+      passed-over = λ by r. refl;
+      deadline = refl;
+      bit = refl;
+      group-deadline = refl;
+      row-number = refl;
+      broken = refl;
+      stopped = refl;
+      at-limit = refl;
+      too-many-cores = refl;
+      no-such-row = refl;
     }
 
 table-cases : TableCases
@@ -68,4 +86,4 @@ own-cases =
     }
 
 pub cases : Cases
-cases = record { windows = window-cases; stored = stored-cases; slots = slot-cases; checks = check-cases; own = own-cases }
+cases = record { windows = window-cases; stored = stored-cases; slots = slot-cases; why = why-cases; checks = check-cases; own = own-cases }

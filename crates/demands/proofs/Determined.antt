@@ -62,8 +62,11 @@ every-promise-determines =
       cores-place = λ rows free last. by-value;
       dispatcher-Answer-told = λ self. dispatcher.told-is-determined self;
       dispatcher-State-fresh = λ table. dispatcher.fresh-is-determined table;
+      dispatcher-State-is-broken = λ self. by-value;
       dispatcher-State-slot = λ self free buffer place a b p q.
           dispatcher.slot-is-determined self free buffer place a b (p .0, (p .1, (p .2, p .3))) (q .0, (q .1, (q .2, q .3)));
+      why-Answer-told = λ self. by-value;
+      why-of-row = λ state k row. by-value;
       checker-check = λ table trace. check-is-determined table trace;
       checker-number = λ answer. by-value;
       firmware-zb-table-check = λ table. by-value;

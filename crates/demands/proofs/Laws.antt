@@ -26,6 +26,9 @@ use Rattle.cores.specs.Fault.{misremembers}
 use Rattle.cores.specs.Cores.{wanted, leftOver, inTurn, coresFor}
 use Rattle.dispatcher.specs.Broken.{broken}
 use Rattle.dispatcher.specs.Slot.{refusal, slotOf}
+use Rattle.why.specs.Rules.{ruleFor}
+use Rattle.why.specs.Lowest.{lowestPicked}
+use Rattle.why.specs.Why.{readyFrom, reasonOf, whyOf}
 use Rattle.checker.specs.Causes.{badRows}
 use Rattle.checker.specs.Check.{recordsFindings, traceSaid, checkOf}
 use Rattle.printer.specs.Input.{freeIn, unfit}
@@ -40,6 +43,7 @@ use Rattle.demands.specs.TableLaws.{tableLaws}
 use Rattle.demands.specs.ReadingLaws.{readingOrder, valueLaws}
 use Rattle.demands.specs.SlotLaws.{slotLaws}
 use Rattle.demands.specs.CoreLaws.{coreLaws}
+use Rattle.demands.specs.WhyLaws.{whyLaws}
 use Rattle.demands.specs.TraceLaws.{partLaws, traceLaws}
 use Rattle.demands.specs.PrinterLaws.{idleSlots, printerLaws}
 use Rattle.demands.specs.Laws.{windowLaws, LawsHold}
@@ -75,6 +79,10 @@ core-laws : allLawsHold coreLaws ≡ true
 unfolding ceilDiv atFirst howMany those firstFound rising places padded start deadline bit windowLength jobStart heavy stops stopTime groupDeadline windowReply load faultOf tableNumber reading ready late lower upper before picked given withFront withRecord placeOf names isFound misremembers wanted leftOver inTurn coresFor broken refusal slotOf badRows recordsFindings traceSaid checkOf freeIn unfit digitsBy decimal spaced slotsText textOf wordBytes same allLawsHold alikeRows risingRows idleSlots
 core-laws = refl
 
+why-laws : allLawsHold whyLaws ≡ true
+unfolding ceilDiv atFirst howMany those firstFound rising start deadline bit windowLength jobStart heavy stops stopTime groupDeadline load faultOf ready lower upper before picked names misremembers broken ruleFor lowestPicked readyFrom reasonOf whyOf allLawsHold
+why-laws = refl
+
 part-laws : allLawsHold partLaws ≡ true
 unfolding ceilDiv atFirst howMany those firstFound rising places padded start deadline bit windowLength jobStart heavy stops stopTime groupDeadline windowReply load faultOf tableNumber reading ready late lower upper before picked given withFront withRecord placeOf names isFound misremembers wanted leftOver inTurn coresFor broken refusal slotOf badRows recordsFindings traceSaid checkOf freeIn unfit digitsBy decimal spaced slotsText textOf wordBytes same allLawsHold alikeRows risingRows idleSlots
 part-laws = refl
@@ -92,4 +100,4 @@ laws-hold =
     both-hold windowLaws _ window-laws
     (both-hold tableLaws _ table-laws
     (both-hold readingOrder _ reading-laws
-    (both-hold valueLaws _ value-laws (both-hold slotLaws _ slot-laws (both-hold coreLaws _ core-laws (both-hold partLaws _ part-laws (both-hold traceLaws _ trace-laws printer-laws)))))))
+    (both-hold valueLaws _ value-laws (both-hold slotLaws _ slot-laws (both-hold coreLaws _ core-laws (both-hold whyLaws _ why-laws (both-hold partLaws _ part-laws (both-hold traceLaws _ trace-laws printer-laws))))))))

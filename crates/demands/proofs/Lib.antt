@@ -14,4 +14,5 @@ pub mod Confession
 pub mod ShutOut
 pub mod NeverLate
 pub mod Cores
+pub mod Why
 pub mod All

@@ -62,11 +62,11 @@ broken-exactly s = (
     remembers w = misremembers-or-remembers (s .last) (isRow s) (s .table .cores) .0 (w .memory)
 
 -- A number that is another one, and a cause that is not there.
-neither-is : {P : Type 0} {number other : ℕ} → (number ≡ other → ⊥) → (P → ⊥) → (number ≡ other) ↔ P
+pub neither-is : {P : Type 0} {number other : ℕ} → (number ≡ other → ⊥) → (P → ⊥) → (number ≡ other) ↔ P
 neither-is differs none = (λ e. absurd (differs e), λ p. absurd (none p))
 
 -- A number that is so, and a cause that is there.
-both-are : {P : Type 0} {number other : ℕ} → number ≡ other → P → (number ≡ other) ↔ P
+pub both-are : {P : Type 0} {number other : ℕ} → number ≡ other → P → (number ≡ other) ↔ P
 both-are same there = (λ _. there, λ _. same)
 
 -- The causes are gone through in 01's order: each decides the number, or is not there.

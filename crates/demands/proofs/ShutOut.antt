@@ -2,7 +2,7 @@
 use Prim.Native.Nat.{ℕ}
 use mathlib.Core.Path.{_≡_, refl, sym, ap, _∙_}
 use mathlib.Core.List.{List, [], _∷_}
-use mathlib.Core.Bool.{Bool, true}
+use mathlib.Core.Bool.{Bool, true, false}
 use native.Mathlib.Omega.{arith}
 use lib.ListN.{length, getD, take, replicate}
 use Rattle.facts.specs.Rounding.{ceilDiv}
@@ -33,12 +33,21 @@ use Rattle.dispatcher.specs.State.{timeOf, freshOf}
 use Rattle.cores.specs.Fault.{misremembers}
 use Rattle.cores.specs.Cores.{wanted, leftOver, inTurn, coresFor}
 use Rattle.dispatcher.specs.Broken.{broken}
-use Rattle.dispatcher.specs.Slot.{SlotReply, refusal, slotOf}
+use Rattle.dispatcher.specs.Slot.{picksIn, SlotReply, refusal, slotOf}
+use Rattle.why.specs.declared.Rule.the-variants.{GroupDeadline, RowNumber}
+use Rattle.why.specs.declared.Answer.{Answer}
+use Rattle.why.specs.declared.Answer.the-variants.{Picked, NotReady, PassedOver}
+use Rattle.why.specs.Rules.{ruleFor}
+use Rattle.why.specs.Lowest.{lowestPicked}
+use Rattle.why.specs.Answer.{rulePlace, toldOf}
+use Rattle.why.specs.Why.{readyFrom, reasonOf, whyOf}
 use Rattle.checker.specs.Causes.{badRows}
 use Rattle.checker.specs.Check.{recordsFindings, traceSaid, checkOf}
 use Rattle.demands.specs.Bench.{exampleTrace}
-use Rattle.demands.specs.Inputs.{allBelow, Bytes, rowsFit, Possible}
-use Rattle.demands.specs.ShutOut.{Dispatcher, IsDispatcher, numberOf, rowsWritten, GivesAsRecorded, ShutOutOf, ShutOut}
+use Rattle.demands.specs.LawInputs.{stateOf}
+use Rattle.demands.specs.WhyLaws.{threeHeavy}
+use Rattle.demands.specs.Inputs.{allBelow, Bytes, rowsFit, Possible, CanAsk}
+use Rattle.demands.specs.ShutOut.{Dispatcher, IsDispatcher, numberOf, rowsWritten, GivesAsRecorded, ShutOutOf, Explainer, IsExplainer, ShutOutOfWhy, ShutOut}
 use Rattle.demands.proofs.Two.{picks-are-pd2s}
 
 -- 01's example: slot 0 and slot 1 of a fresh state with both cores free, each into ten bytes
@@ -189,6 +198,46 @@ module _ (slot : Dispatcher) (is : IsDispatcher slot) where
             omega arith;
       }
 
+-- Why rows wait, in 01's example and in a box of three heavy rows.
+record WhyComputed : Type 0 where
+  can-ask : CanAsk (freshOf (tableIn example)) 2 2
+  third : whyOf (freshOf (tableIn example)) 2 2 ≡ PassedOver 1 RowNumber
+  first-picked : getD (picksIn (freshOf (tableIn example)) 2) 0 0 ≡ 0
+  can-ask-heavy : CanAsk (stateOf threeHeavy 0 false []) 1 0
+  heavy-first : whyOf (stateOf threeHeavy 0 false []) 1 0 ≡ PassedOver 2 GroupDeadline
+  can-ask-later : CanAsk (stateOf (tableIn example) 2 false (2 ∷ 1 ∷ 1 ∷ [])) 2 0
+  later : whyOf (stateOf (tableIn example) 2 false (2 ∷ 1 ∷ 1 ∷ [])) 2 0 ≡ NotReady (record { 0 = 3 })
+
+why-computed : WhyComputed
+unfolding allBelow rowsFit ceilDiv atFirst howMany those firstFound rising places padded start deadline bit windowLength jobStart heavy stops stopTime groupDeadline load faultOf tableNumber reading ready late lower upper before picked names misremembers broken ruleFor lowestPicked readyFrom reasonOf whyOf
+why-computed =
+    record {
+      can-ask = record { state = record { boards = refl; rows = refl; quanta = refl; table = refl; counts = refl; last-rows = refl; last-cores = refl; remembered = refl; marks = refl; bytes = refl }; numbers = refl };
+      third = refl;
+      first-picked = refl;
+      can-ask-heavy = record { state = record { boards = refl; rows = refl; quanta = refl; table = refl; counts = refl; last-rows = refl; last-cores = refl; remembered = refl; marks = refl; bytes = refl }; numbers = refl };
+      heavy-first = refl;
+      can-ask-later = record { state = record { boards = refl; rows = refl; quanta = refl; table = refl; counts = refl; last-rows = refl; last-cores = refl; remembered = refl; marks = refl; bytes = refl }; numbers = refl };
+      later = refl;
+    }
+
+-- Answers are told apart by the numbers that they say.
+shut-out-of-why : (explain : Explainer) → IsExplainer explain → ShutOutOfWhy explain
+shut-out-of-why explain is =
+    let c = why-computed in
+    let third = is (freshOf (tableIn example)) 2 2 (c .can-ask) ∙ c .third in
+    let heavy-first = is (stateOf threeHeavy 0 false []) 1 0 (c .can-ask-heavy) ∙ c .heavy-first in
+    let later = is (stateOf (tableIn example) 2 false (2 ∷ 1 ∷ 1 ∷ [])) 2 0 (c .can-ask-later) ∙ c .later in
+    record {
+      explains-nothing = λ h. h (freshOf (tableIn example)) 2 2 (c .can-ask) (ap (λ a. toldOf a .number) third);
+      says-picked = λ h.
+          let z : _≡_ {A = ℕ} 4 1 = sym (ap (λ a. toldOf a .reason) third) ∙ ap (λ a. toldOf a .reason) (h (freshOf (tableIn example)) 2 2 (c .can-ask) (ap (λ a. toldOf a .number) third)) in
+          omega arith;
+      names-the-first = λ h. let z : _≡_ {A = ℕ} 1 0 = h (freshOf (tableIn example)) 2 2 1 RowNumber (c .can-ask) third ∙ c .first-picked in omega arith;
+      knows-one-rule = λ h. let z : _≡_ {A = ℕ} 3 4 = ap rulePlace (h (stateOf threeHeavy 0 false []) 1 0 2 GroupDeadline (c .can-ask-heavy) heavy-first) in omega arith;
+      says-now = λ h. let z : _≡_ {A = ℕ} 3 2 = h (stateOf (tableIn example) 2 false (2 ∷ 1 ∷ 1 ∷ [])) 2 0 (record { 0 = 3 }) (c .can-ask-later) later in omega arith;
+    }
+
 -- What the definitions say of the example and of the two traces, said of a number that is equal.
 module _ {number : ℕ} where
   takes : number ≡ tableNumber example → number ≡ 0
@@ -208,6 +257,7 @@ shut-out =
     record {
       reader = λ read is none. none example b (ap (λ r. r .number) (is example b) ∙ computed .read);
       dispatcher = shut-out-of;
+      why = shut-out-of-why;
       always-passes = λ check is always. is-late (ap (λ x. x .number) (is example lateTrace b l)) (always example lateTrace b l (computed .taken));
       never-passes = λ check is never. never example exampleTrace b t (passes (ap (λ x. x .number) (is example exampleTrace b t)));
       board-takes-none = λ check is none. none example b (takes (is example b));

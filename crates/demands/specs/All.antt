@@ -12,6 +12,7 @@ use Rattle.demands.specs.Confession.{Confession}
 use Rattle.demands.specs.ShutOut.{ShutOut}
 use Rattle.demands.specs.NeverLate.{NeverLate}
 use Rattle.demands.specs.Cores.{Cores}
+use Rattle.demands.specs.Why.{Why}
 
 pub record All : Type 0 where
   -- "any two results allowed are equal", of every public function
@@ -35,3 +36,5 @@ pub record All : Type 0 where
   pub never-late : NeverLate
   -- "a core for each picked row, with as few moves as can be"
   pub cores : Cores
+  -- "The reason given must be the true one and the only true one in that list"
+  pub why : Why

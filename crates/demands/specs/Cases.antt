@@ -13,6 +13,10 @@ use Rattle.trace.specs.Record.{storedNumber}
 use Rattle.trace.specs.Said.{bare, named}
 use Rattle.dispatcher.specs.declared.Answer.the-variants as slot
 use Rattle.dispatcher.specs.Answer.{saidOf}
+use Rattle.why.specs.declared.Rule.{Rule}
+use Rattle.why.specs.declared.Rule.the-variants as rule
+use Rattle.why.specs.declared.Answer.the-variants as why
+use Rattle.why.specs.Answer.{rulePlace, told, toldOf}
 use Rattle.checker.specs.declared.TableFault.{TableFault}
 use Rattle.checker.specs.declared.TableFault.the-variants as fault
 use Rattle.checker.specs.declared.Answer.the-variants as check
@@ -39,6 +43,23 @@ pub record SlotCases : Type 0 where
   pub at-limit : saidOf slot.AtLimit ≡ bare 32
   pub no-such-core : saidOf slot.NoSuchCore ≡ bare 35
   pub no-room : saidOf slot.NoRoom ≡ bare 34
+
+-- why a row waits: number, reason, slot, row and rule. "picked; not ready, with the first slot in which it will be; no core free; or passed over", in this order,
+-- and for the last "the lowest-ranked picked row and the rule that put it ahead (deadline, bit, group deadline, row number)" (02, Two)
+pub record WhyCases : Type 0 where
+  pub picked : toldOf why.Picked ≡ told 0 1 0 0 0
+  pub not-ready : (until : Slot) → toldOf (why.NotReady until) ≡ told 0 2 (until .0) 0 0
+  pub no-core-free : toldOf why.NoCoreFree ≡ told 0 3 0 0 0
+  pub passed-over : (by : ℕ) (r : Rule) → toldOf (why.PassedOver by r) ≡ told 0 4 0 by (rulePlace r)
+  pub deadline : rulePlace rule.Deadline ≡ 1
+  pub bit : rulePlace rule.Bit ≡ 2
+  pub group-deadline : rulePlace rule.GroupDeadline ≡ 3
+  pub row-number : rulePlace rule.RowNumber ≡ 4
+  pub broken : toldOf why.Broken ≡ told 30 0 0 0 0
+  pub stopped : toldOf why.Stopped ≡ told 31 0 0 0 0
+  pub at-limit : toldOf why.AtLimit ≡ told 32 0 0 0 0
+  pub too-many-cores : toldOf why.TooManyCores ≡ told 33 0 0 0 0
+  pub no-such-row : toldOf why.NoSuchRow ≡ told 36 0 0 0 0
 
 -- a check: the table's refusals,
 pub record TableCases : Type 0 where
@@ -85,5 +106,6 @@ pub record Cases : Type 0 where
   pub windows : WindowCases
   pub stored : StoredCases
   pub slots : SlotCases
+  pub why : WhyCases
   pub checks : CheckCases
   pub own : OwnCases

@@ -8,6 +8,7 @@ use lib.Dec.{ltb}
 use lib.ListN.{length}
 use Rattle.table.specs.declared.Row.{Row}
 use Rattle.table.specs.declared.Table.{Table}
+use Rattle.cores.specs.Sets.{firstCores}
 use Rattle.dispatcher.specs.declared.State.{State}
 use Rattle.dispatcher.specs.State.{quantaIn, timeOf}
 
@@ -44,3 +45,8 @@ pub record Possible (s : State) (free : List Bool) (buffer : List ℕ) (place : 
   pub remembered : allBelow 256 (s .last .count ∷ s .last .rows ++ s .last .cores) ≡ true
   pub marks : length free ≡ 32
   pub bytes : Bytes buffer
+
+-- Why a row waits can be asked so: of such a state, with a k and a row in one byte each.
+pub record CanAsk (s : State) (k row : ℕ) : Type 0 where
+  pub state : Possible s (firstCores k) [] 0
+  pub numbers : allBelow 256 (k ∷ row ∷ []) ≡ true

@@ -17,6 +17,8 @@ use Rattle.cores.specs.Placement.{nobody, placement}
 use Rattle.dispatcher.specs.declared.State.{State}
 use Rattle.dispatcher.specs.State.{quantaIn, timeOf}
 use Rattle.dispatcher.specs.Slot.{slotOf}
+use Rattle.why.specs.Answer.{toldOf}
+use Rattle.why.specs.Why.{whyOf}
 use Rattle.checker.specs.Check.{checkOf}
 use Rattle.printer.specs.Text.{textOf}
 use Rattle.demands.specs.Bench.{same, sameSaid}
@@ -42,6 +44,8 @@ pub data Law : Type 0 where
   places : (s : State) (free : List Bool) (bytes : ℕ) (said : Said) (rows cores : List ℕ) → Law
   -- such a slot that is refused: it places nobody, and remembers what it came with
   refuses : (s : State) (free : List Bool) (bytes number : ℕ) → Law
+  -- why a row of a state waits with k cores free: the number, the reason and the rule by their places in 02's lists, the slot and the row that are named
+  explains : (s : State) (k row number reason until by rule : ℕ) → Law
   -- the record of slot s in a trace: where the part begins, and its bytes
   part : (trace : List ℕ) (s begins : ℕ) (bytes : List ℕ) → Law
   -- checking a trace against the bytes of a table
@@ -91,6 +95,9 @@ lawHolds (places s free bytes said rows cores) =
 lawHolds (refuses s free bytes number) =
     let after = slotOf s free (replicate bytes 99) 0 in
     sameSaid (after .said) (bare number) && samePlaces (after .placed) nobody && samePlaces (after .state .last) (s .last)
+lawHolds (explains s k row number reason until by rule) =
+    let told = toldOf (whyOf s k row) in
+    eqb (told .number) number && eqb (told .reason) reason && eqb (told .slot) until && eqb (told .row) by && eqb (told .rule) rule
 lawHolds (part trace s begins bytes) = eqb (partBegins trace s) begins && same (partFound trace s) bytes
 lawHolds (check table trace said) = sameSaid (checkOf table trace) said
 lawHolds (prints input text) = same (textOf input) text

@@ -8,6 +8,7 @@ use Rattle.demands.specs.TableLaws.{tableLaws}
 use Rattle.demands.specs.ReadingLaws.{readingOrder, valueLaws}
 use Rattle.demands.specs.SlotLaws.{slotLaws}
 use Rattle.demands.specs.CoreLaws.{coreLaws}
+use Rattle.demands.specs.WhyLaws.{whyLaws}
 use Rattle.demands.specs.TraceLaws.{partLaws, traceLaws}
 use Rattle.demands.specs.PrinterLaws.{printerLaws}
 
@@ -34,7 +35,7 @@ windowLaws =
     ∷ []
 
 abbrev pub laws : List Law
-laws = windowLaws ++ (tableLaws ++ (readingOrder ++ (valueLaws ++ (slotLaws ++ (coreLaws ++ (partLaws ++ (traceLaws ++ printerLaws)))))))
+laws = windowLaws ++ (tableLaws ++ (readingOrder ++ (valueLaws ++ (slotLaws ++ (coreLaws ++ (whyLaws ++ (partLaws ++ (traceLaws ++ printerLaws))))))))
 
 -- Every law follows from the definitions.
 abbrev pub LawsHold : Type 0

@@ -14,6 +14,7 @@ pub mod TableLaws
 pub mod ReadingLaws
 pub mod SlotLaws
 pub mod CoreLaws
+pub mod WhyLaws
 pub mod TraceLaws
 pub mod PrinterLaws
 pub mod Laws
@@ -22,4 +23,5 @@ pub mod Inputs
 pub mod ShutOut
 pub mod NeverLate
 pub mod Cores
+pub mod Why
 pub mod All

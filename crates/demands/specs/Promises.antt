@@ -46,6 +46,11 @@ use Rattle.dispatcher.specs.declared.Outcome.{Outcome}
 use Rattle.dispatcher.specs.State.{timeOf, freshOf}
 use Rattle.dispatcher.specs.Answer.{saidOf, saidBy}
 use Rattle.dispatcher.specs.Slot.{slotOf}
+use Rattle.dispatcher.specs.Broken.{broken}
+use Rattle.why.specs.declared.Answer.{Answer as Reason}
+use Rattle.why.specs.declared.Told.{Told as ToldWhy}
+use Rattle.why.specs.Answer.{toldOf}
+use Rattle.why.specs.Why.{whyOf}
 use Rattle.checker.specs.declared.Answer.{Answer as Checked}
 use Rattle.checker.specs.Answer as checked
 use Rattle.checker.specs.Check.{checkOf}
@@ -223,6 +228,10 @@ dispatcher·Answer·told self r = saidBy r ≡ saidOf self
 abbrev pub dispatcher·State·fresh : Table → State → Type 0
 dispatcher·State·fresh table r = r ≡ freshOf table
 
+-- dispatcher::State::is_broken
+abbrev pub dispatcher·State·is-broken : State → Bool → Type 0
+dispatcher·State·is-broken self r = r ≡ broken self
+
 -- dispatcher::State::slot
 abbrev pub dispatcher·State·slot : State → List Bool → List ℕ → ℕ → Outcome → List ℕ → Type 0
 dispatcher·State·slot self free buffer place r buffer-after =
@@ -230,6 +239,14 @@ dispatcher·State·slot self free buffer place r buffer-after =
     × (r .placed ≡ slotOf self free buffer place .placed)
     × (r .state ≡ slotOf self free buffer place .state)
     × (buffer-after ≡ slotOf self free buffer place .bytes)
+
+-- why::Answer::told
+abbrev pub why·Answer·told : Reason → ToldWhy → Type 0
+why·Answer·told self r = r ≡ toldOf self
+
+-- why::of_row
+abbrev pub why·of-row : State → ℕ → ℕ → Reason → Type 0
+why·of-row state k row r = r ≡ whyOf state k row
 
 -- checker::check
 abbrev pub checker·check : List ℕ → List ℕ → Checked → Type 0

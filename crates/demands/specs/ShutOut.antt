@@ -4,7 +4,8 @@ use Prim.Native.Nat.{ℕ, _+_, _<_}
 use mathlib.Core.Path.{_≡_}
 use mathlib.Core.List.{List, []}
 use mathlib.Core.Bool.{Bool, true, cond}
-use lib.ListN.{length, take}
+use lib.ListN.{length, getD, take}
+use Rattle.counts.specs.declared.Slot.{Slot}
 use Rattle.table.specs.declared.Reading.{Reading}
 use Rattle.table.specs.Bytes.{tableNumber}
 use Rattle.pd2.specs.Choice.{quantaAt}
@@ -13,12 +14,18 @@ use Rattle.trace.specs.Records.{rowsAt, names}
 use Rattle.cores.specs.Placement.{coresPlaced}
 use Rattle.dispatcher.specs.declared.State.{State}
 use Rattle.dispatcher.specs.declared.Outcome.{Outcome}
-use Rattle.dispatcher.specs.State.{quantaIn, freshOf}
+use Rattle.dispatcher.specs.State.{quantaIn, timeOf, freshOf}
 use Rattle.dispatcher.specs.Answer.{saidOf}
+use Rattle.dispatcher.specs.Slot.{picksIn}
+use Rattle.why.specs.declared.Rule.{Rule}
+use Rattle.why.specs.declared.Rule.the-variants.{RowNumber}
+use Rattle.why.specs.declared.Answer.{Answer as Reason}
+use Rattle.why.specs.declared.Answer.the-variants.{Picked, NotReady, PassedOver}
+use Rattle.why.specs.Answer as why
 use Rattle.checker.specs.declared.Answer.{Answer as Checked}
 use Rattle.checker.specs.Answer as checked
-use Rattle.demands.specs.Promises.{table·read, dispatcher·State·slot, checker·check, firmware·zb-table-check, firmware·zb-trace-check}
-use Rattle.demands.specs.Inputs.{Bytes, Possible}
+use Rattle.demands.specs.Promises.{table·read, dispatcher·State·slot, why·of-row, checker·check, firmware·zb-table-check, firmware·zb-trace-check}
+use Rattle.demands.specs.Inputs.{Bytes, Possible, CanAsk}
 
 -- A reader keeps the promise of `read`, and the board's table check that of `zb_table_check`.
 abbrev pub IsReader : (List ℕ → Reading) → Type 0
@@ -110,6 +117,36 @@ pub record ShutOutOf (slot : Dispatcher) : Type 0 where
   pub lowest-in-turn : LowestInTurn slot → ⊥
   pub remembers-nothing : RemembersNothing slot → ⊥
 
+-- Who says why a row waits keeps the promise of `of_row` (02, Two). Shut out are one that refuses all, one that says 'picked' of every row, one that names the first of the
+-- picked rows in place of the lowest-ranked, one that knows no rule but the row number, and one that gives the present slot as the first in which a row will be ready.
+abbrev pub Explainer : Type 0
+Explainer = State → ℕ → ℕ → Reason
+
+abbrev pub IsExplainer : Explainer → Type 0
+IsExplainer why = (s : State) (k row : ℕ) → CanAsk s k row → why·of-row s k row (why s k row)
+
+abbrev pub ExplainsNothing : Explainer → Type 0
+ExplainsNothing explain = (s : State) (k row : ℕ) → CanAsk s k row → why.numberOf (explain s k row) ≡ 0 → ⊥
+
+abbrev pub SaysPicked : Explainer → Type 0
+SaysPicked explain = (s : State) (k row : ℕ) → CanAsk s k row → why.numberOf (explain s k row) ≡ 0 → explain s k row ≡ Picked
+
+abbrev pub NamesTheFirst : Explainer → Type 0
+NamesTheFirst explain = (s : State) (k row by : ℕ) (rule : Rule) → CanAsk s k row → explain s k row ≡ PassedOver by rule → by ≡ getD (picksIn s k) 0 0
+
+abbrev pub KnowsOneRule : Explainer → Type 0
+KnowsOneRule explain = (s : State) (k row by : ℕ) (rule : Rule) → CanAsk s k row → explain s k row ≡ PassedOver by rule → rule ≡ RowNumber
+
+abbrev pub SaysNow : Explainer → Type 0
+SaysNow explain = (s : State) (k row : ℕ) (until : Slot) → CanAsk s k row → explain s k row ≡ NotReady until → until .0 ≡ timeOf s
+
+pub record ShutOutOfWhy (explain : Explainer) : Type 0 where
+  pub explains-nothing : ExplainsNothing explain → ⊥
+  pub says-picked : SaysPicked explain → ⊥
+  pub names-the-first : NamesTheFirst explain → ⊥
+  pub knows-one-rule : KnowsOneRule explain → ⊥
+  pub says-now : SaysNow explain → ⊥
+
 -- A checker keeps the promise of `check`, and the board's trace check that of `zb_trace_check`.
 abbrev pub IsChecker : (List ℕ → List ℕ → Checked) → Type 0
 IsChecker check = (bytes s : List ℕ) → Bytes bytes → Bytes s → checker·check bytes s (check bytes s)
@@ -131,6 +168,7 @@ NeverPasses number = (bytes s : List ℕ) → Bytes bytes → Bytes s → number
 pub record ShutOut : Type 0 where
   pub reader : (read : List ℕ → Reading) → IsReader read → TakesNoTable (λ bytes. read bytes .number) → ⊥
   pub dispatcher : (slot : Dispatcher) → IsDispatcher slot → ShutOutOf slot
+  pub why : (explain : Explainer) → IsExplainer explain → ShutOutOfWhy explain
   pub always-passes : (check : List ℕ → List ℕ → Checked) → IsChecker check → AlwaysPasses (numberChecked check) → ⊥
   pub never-passes : (check : List ℕ → List ℕ → Checked) → IsChecker check → NeverPasses (numberChecked check) → ⊥
   -- the same of what the board calls

@@ -1,5 +1,4 @@
-// Whether a state is broken.
-use crate::State;
+// Whether rows break a state.
 use counts::Quanta;
 use counts::Slot;
 use table::Row;
@@ -9,33 +8,12 @@ ghost use lib.ListN.{length, take};
 ghost use Rattle.facts.specs.Counting.{some};
 ghost use Rattle.counts.specs.Limits.{timeLimit};
 ghost use Rattle.pd2.specs.Share.{CanBe};
-ghost use Rattle.dispatcher.specs.Broken.{ofRowAt, broken};
+ghost use Rattle.dispatcher.specs.Broken.{ofRowAt};
 ghost use Rattle.counts.specs.Numbers.{numbersOf};
 ghost use Rattle.dispatcher.specs.Usable.{Testable, brokenRow};
 
-impl State {
-    // Whether the state is broken. The state may be wild: only what passed is looked at further.
-    pub fn is_broken(self) -> bool
-        ensures { λ r. ⌜ r ≡ broken self ⌝ }
-    {
-        if table::fault(self.table) != 0 {
-            return true;
-        }
-        if counts::TIME_LIMIT < self.time.time() {
-            return true;
-        }
-        let n = self.table.n as usize;
-        let rows = self.table.rows;
-        let quanta = self.quanta;
-        if has_broken_row(rows, quanta, n, self.time, self.stopped) {
-            return true;
-        }
-        self.last.is_faulty(self.table.cores, self.table.n)
-    }
-}
-
 // Whether some row breaks the state.
-fn has_broken_row(
+pub(crate) fn has_broken_row(
     rows: [Row; 32],
     quanta: [Quanta; 32],
     n: usize,

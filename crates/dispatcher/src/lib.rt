@@ -18,7 +18,7 @@ ghost use Rattle.trace.specs.Said.{bare, named};
 ghost use Rattle.cores.specs.Placement.{nobody};
 ghost use Rattle.cores.specs.Cores.{placedFor};
 ghost use Rattle.dispatcher.specs.State.{rowsIn, timeOf, freshOf};
-ghost use Rattle.dispatcher.specs.Broken.{ofRow};
+ghost use Rattle.dispatcher.specs.Broken.{ofRow, broken};
 ghost use Rattle.dispatcher.specs.Answer.{saidOf, saidBy};
 ghost use Rattle.dispatcher.specs.Slot.{picksIn, lateAt, stepped, slotOf};
 ghost use Rattle.dispatcher.specs.Usable.{UsableState, CanRun, CauseIs, Judged};
@@ -104,6 +104,25 @@ impl State {
             quanta,
             last,
         }
+    }
+
+    // Whether the state is broken. The state may be wild: only what passed is looked at further.
+    pub fn is_broken(self) -> bool
+        ensures { λ r. ⌜ r ≡ broken self ⌝ }
+    {
+        if table::fault(self.table) != 0 {
+            return true;
+        }
+        if counts::TIME_LIMIT < self.time.time() {
+            return true;
+        }
+        let n = self.table.n as usize;
+        let rows = self.table.rows;
+        let quanta = self.quanta;
+        if judge::has_broken_row(rows, quanta, n, self.time, self.stopped) {
+            return true;
+        }
+        self.last.is_faulty(self.table.cores, self.table.n)
     }
 
     // One slot with a set of cores free: its record stands at the given place in the buffer, and each picked row has a core.

@@ -1,23 +1,27 @@
 -- Each refusal is answered exactly when its cause is the first met. Assumes nothing.
-use Prim.Native.Nat.{ℕ}
+use Prim.Native.Nat.{ℕ, _≤_}
 use mathlib.Core.Path.{_≡_, refl, sym, ap, _∙_}
 use mathlib.Core.Bool.{Bool, true, false, cond, not}
-use lib.Dec.{eqb}
-use Rattle.facts.specs.Findings.{FirstFound, NoneFound}
-use Rattle.facts.proofs.Findings.{none-says-otherwise, first-is-said, said-exactly}
+use mathlib.Core.Logic.{_⊎_, inl, inr, ⊎-elim}
+use native.Mathlib.Omega.{arith}
+use lib.Dec.{ltb, eqb}
+use Rattle.facts.specs.Findings.{_says_, FirstFound, NoneFound}
+use Rattle.facts.proofs.Findings.{AllSay, none-says-otherwise, first-is-said, said-exactly, none-or-first, first-is-such, otherwise-or-such}
+use Rattle.counts.specs.Limits.{timeLimit}
 use Rattle.trace.specs.Records.{names}
 use Rattle.dispatcher.specs.declared.State.{State}
-use Rattle.dispatcher.specs.State.{timeOf}
+use Rattle.dispatcher.specs.State.{isRow, timeOf}
+use Rattle.dispatcher.specs.Broken.{broken}
 use Rattle.dispatcher.specs.Slot.{picksIn}
 use Rattle.why.specs.declared.Answer.{Answer}
-use Rattle.why.specs.declared.Answer.the-variants.{Picked, NotReady, NoCoreFree, PassedOver}
+use Rattle.why.specs.declared.Answer.the-variants.{Picked, NotReady, NoCoreFree, PassedOver, Broken, Stopped, AtLimit, TooManyCores, NoSuchRow}
 use Rattle.why.specs.Rules.{ruleFor}
 use Rattle.why.specs.Reasons.{isReady, rankIn}
 use Rattle.why.specs.Answer.{numberOf}
-use Rattle.why.specs.Why.{readyFromIn, lowestIn, reasonOf, whyTests, whyOf, RefusedExactly}
+use Rattle.why.specs.Why.{readyFromIn, lowestIn, reasonOf, whyTests, whyOf, RefusedExactly, WhyNumbers}
 
 -- A reason has no number of its own.
-reason-is-0 : (s : State) (k row : ℕ) → numberOf (reasonOf s k row) ≡ 0
+pub reason-is-0 : (s : State) (k row : ℕ) → numberOf (reasonOf s k row) ≡ 0
 unfolding reasonOf
 reason-is-0 s k row = go (names (picksIn s k) row) (not (isReady s row (timeOf s))) (eqb k 0)
   where
@@ -31,6 +35,32 @@ reason-is-0 s k row = go (names (picksIn s k) row) (not (isReady s row (timeOf s
     go false true c = refl
     go false false true = refl
     go false false false = refl
+
+-- A refusal has one of its numbers,
+abbrev IsRefusal : Answer → Type 0
+IsRefusal x = ((30 ≤ numberOf x) × (numberOf x ≤ 33)) ⊎ (numberOf x ≡ 36)
+
+all-refuse : (s : State) (k row : ℕ) → AllSay IsRefusal (whyTests s k row)
+all-refuse s k row =
+    AllSay.next {f = broken s says Broken} (inl (omega arith))
+    (AllSay.next {f = s .stopped says Stopped} (inl (omega arith))
+    (AllSay.next {f = eqb (timeOf s) timeLimit says AtLimit} (inl (omega arith))
+    (AllSay.next {f = ltb (s .table .cores) k says TooManyCores} (inl (omega arith)) (AllSay.next {f = not (isRow s row) says NoSuchRow} (inr refl) AllSay.end))))
+
+not-0 : (x : Answer) → IsRefusal x → numberOf x ≡ 0 → ⊥
+not-0 x is e = ⊎-elim (λ l. omega (arith, l, e)) (λ l. omega (arith, l, e)) is
+
+pub why-numbers : WhyNumbers
+unfolding whyOf
+why-numbers s k row = ⊎-elim (λ e. inl (ap numberOf e ∙ reason-is-0 s k row)) inr (otherwise-or-such (reasonOf s k row) (all-refuse s k row))
+
+-- so that nothing was found where the number is 0.
+pub none-if-answered : (s : State) (k row : ℕ) → numberOf (whyOf s k row) ≡ 0 → NoneFound (whyTests s k row)
+unfolding whyOf
+none-if-answered s k row e =
+    ⊎-elim (λ none. none)
+    (λ one. absurd (not-0 (one .0) (first-is-such (all-refuse s k row) (one .1)) (sym (ap numberOf (first-is-said (reasonOf s k row) (one .1))) ∙ e)))
+    (none-or-first (whyTests s k row))
 
 pub refused-exactly : RefusedExactly
 unfolding whyOf

@@ -21,6 +21,7 @@ use Rattle.why.specs.Reasons.{isReady, rankIn, goesBefore, Holds}
 use Rattle.why.specs.Why.{readyFromIn, lowestIn, reasonOf, whyTests, whyOf, TrueAndOnly, ReasonIsTrueAndOnly}
 use Rattle.why.proofs.Rules.{one-rule}
 use Rattle.why.proofs.Lowest.{one-lowest}
+use Rattle.why.proofs.Refused.{none-if-answered}
 use Rattle.why.proofs.Picked.{first-is-one, first-ready, unready-is-not-named, nobody-without-core, strict-among-named, somebody, goes-ahead, behind-is-not-named}
 
 module _ (s : State) (k row : ℕ) where
@@ -90,7 +91,8 @@ row-if-none s k row (NoneFound.later a (NoneFound.later b (NoneFound.later c (No
 
 pub reason-is-true-and-only : ReasonIsTrueAndOnly
 unfolding whyOf
-reason-is-true-and-only s k row none =
+reason-is-true-and-only s k row answered =
+    let none = none-if-answered s k row answered in
     let is-row = row-if-none s k row none in
     let given : whyOf s k row ≡ reasonOf s k row = none-says-otherwise (reasonOf s k row) none in
     record {

@@ -7,11 +7,11 @@ use Rattle.why.specs.declared.Answer.the-variants.{Picked, NotReady, NoC
 use Rattle.why.specs.declared.Told.{Told}
 
 -- "(deadline, bit, group deadline, row number)": a rule by its place in this list
-abbrev pub placeOf : Rule → ℕ
-placeOf Deadline = 1
-placeOf Bit = 2
-placeOf GroupDeadline = 3
-placeOf RowNumber = 4
+abbrev pub rulePlace : Rule → ℕ
+rulePlace Deadline = 1
+rulePlace Bit = 2
+rulePlace GroupDeadline = 3
+rulePlace RowNumber = 4
 
 -- A refusal by its number, a reason by its place in 02's list, each part that is not named 0: "In any refused answer each part that no rule names is 0
 -- or empty".
@@ -22,7 +22,7 @@ abbrev pub toldOf : Answer → Told
 toldOf Picked = told 0 1 0 0 0
 toldOf (NotReady until) = told 0 2 (until .0) 0 0
 toldOf NoCoreFree = told 0 3 0 0 0
-toldOf (PassedOver by rule) = told 0 4 0 by (placeOf rule)
+toldOf (PassedOver by rule) = told 0 4 0 by (rulePlace rule)
 toldOf Broken = told 30 0 0 0 0
 toldOf Stopped = told 31 0 0 0 0
 toldOf AtLimit = told 32 0 0 0 0

@@ -1,12 +1,12 @@
 -- What is answered to "Why did tank 14 wait?" (02, Two).
-use Prim.Native.Nat.{ℕ, _+_}
+use Prim.Native.Nat.{ℕ, _+_, _≤_}
 use mathlib.Core.Path.{_≡_}
 use mathlib.Core.List.{List, [], _∷_}
 use mathlib.Core.Bool.{cond, not}
-use mathlib.Core.Logic.{_↔_}
+use mathlib.Core.Logic.{_↔_, _⊎_}
 use lib.Dec.{ltb, eqb}
 use lib.ListN.{length}
-use Rattle.facts.specs.Findings.{Finding, _says_, firstFound, FirstFound, NoneFound}
+use Rattle.facts.specs.Findings.{Finding, _says_, firstFound, FirstFound}
 use Rattle.counts.specs.Limits.{timeLimit}
 use Rattle.windows.specs.Windows.{start, jobStart}
 use Rattle.table.specs.declared.Row.{Row}
@@ -63,6 +63,10 @@ whyOf s k row = firstFound (reasonOf s k row) (whyTests s k row)
 abbrev pub RefusedExactly : Type 0
 RefusedExactly = (s : State) (k row : ℕ) (x : Answer) → (numberOf x ≡ 0 → ⊥) → (whyOf s k row ≡ x) ↔ FirstFound (whyTests s k row) x
 
+-- No other number is answered; a reason has none.
+abbrev pub WhyNumbers : Type 0
+WhyNumbers = (s : State) (k row : ℕ) → let number = numberOf (whyOf s k row) in (number ≡ 0) ⊎ ((30 ≤ number) × (number ≤ 33)) ⊎ (number ≡ 36)
+
 -- "The reason given must be the true one and the only true one in that list": what is answered holds, and of all other answers none does, so that the
 -- slot, the row and the rule in it are the only true ones too.
 pub record TrueAndOnly (s : State) (k row : ℕ) (answer : Answer) : Type 0 where
@@ -70,4 +74,4 @@ pub record TrueAndOnly (s : State) (k row : ℕ) (answer : Answer) : Type 0 wher
   pub only-one : (other : Answer) → Holds s k row other → other ≡ answer
 
 abbrev pub ReasonIsTrueAndOnly : Type 0
-ReasonIsTrueAndOnly = (s : State) (k row : ℕ) → NoneFound (whyTests s k row) → TrueAndOnly s k row (whyOf s k row)
+ReasonIsTrueAndOnly = (s : State) (k row : ℕ) → numberOf (whyOf s k row) ≡ 0 → TrueAndOnly s k row (whyOf s k row)

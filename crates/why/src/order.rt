@@ -7,7 +7,7 @@ ghost use mathlib.Core.Path.{_≡_};
 ghost use Rattle.pd2.specs.Near.{HasWindow};
 ghost use Rattle.pd2.specs.Order.{rankOf};
 ghost use Rattle.why.specs.Rules.{ruleFor};
-ghost use Rattle.why.specs.Answer.{placeOf};
+ghost use Rattle.why.specs.Answer.{rulePlace};
 
 // The end of a row's next window: d and b.
 struct End {
@@ -67,7 +67,7 @@ fn group_of(row: Row, given: Quanta) -> u64
 
 // The rule's place in the paper's list.
 pub(crate) fn place(rule: Rule) -> u8
-    ensures { λ r. ⌜ r ≡ placeOf rule ⌝ }
+    ensures { λ r. ⌜ r ≡ rulePlace rule ⌝ }
 {
     match rule {
         Rule::Deadline => 1,

@@ -4,7 +4,7 @@ use super::by_hand;
 use super::slot::{free_cores, wild_state};
 use crate::kind::*;
 use crate::make::{values, why_seen};
-use second::slot::{broken, ready_rows, State};
+use second::slot::{broken, ready_rows, rule_between, Next, Rule, State};
 use second::why::answer;
 use std::iter::repeat_with;
 
@@ -22,11 +22,15 @@ impl Kind for Case {
 
     fn wild(random: &mut Random) -> Case {
         let state = wild_state(random);
-        let k = free_cores(random, state.table.cores);
+        let telling = match random.below(2) {
+            0 if !broken(&state) => where_groups_differ(random, &state),
+            _ => None,
+        };
+        let (k, row) = telling.unwrap_or_else(|| any_question(random, &state));
         Case {
-            row: row(random, &state, k),
             state,
             k,
+            row,
             known: None,
         }
     }
@@ -78,17 +82,52 @@ impl Case {
     }
 }
 
-/// Any row of the table, one that is not there, or one between which and the picked ones the order may have to go far.
+/// k and a row that is then passed over by a row with another D, if there are such: by D, or by a rule with which it is not asked. The state is not
+/// broken.
+fn where_groups_differ(random: &mut Random, state: &State) -> Option<(u8, u8)> {
+    let other = random.pick(&[Rule::GroupDeadline, Rule::RowNumber]);
+    // the rarest first
+    let found = [Rule::Bit, other].map(|rule| passed_over_by(rule, state));
+    let found = found.iter().find(|found| !found.is_empty())?;
+    Some(random.pick(found))
+}
+
+/// All such by this rule; by the bit, only those whose own D is the larger.
+fn passed_over_by(rule: Rule, state: &State) -> Vec<(u8, u8)> {
+    let ready = ready_rows(state);
+    let mut found = Vec::new();
+    for (k, named) in (1..=state.table.cores).zip(&ready) {
+        let differs = |asked: &&Next| match rule {
+            Rule::Bit => asked.group > named.group,
+            _ => asked.group != named.group,
+        };
+        let left = ready.iter().skip(usize::from(k)).filter(differs);
+        let by_rule = left.filter(|asked| rule_between(named, asked) == rule);
+        found.extend(by_rule.map(|asked| (k, asked.row)));
+    }
+    found
+}
+
+fn any_question(random: &mut Random, state: &State) -> (u8, u8) {
+    let k = match random.below(12) {
+        0 => 0,
+        _ => free_cores(random, state.table.cores),
+    };
+    (k, row(random, state, k))
+}
+
+/// Any row of the table, the last, one that is not there, or one that is picked or passed over by little.
 fn row(random: &mut Random, state: &State, k: u8) -> u8 {
     let n = state.table.count;
     match random.below(12) {
         0 => random.pick(&[n, n.wrapping_add(1), 31, 32, 255]),
-        1..=5 if !broken(state) => near_the_last_picked(random, state, k),
+        1 => n.wrapping_sub(1),
+        2..=6 if !broken(state) => near_the_last_picked(random, state, k),
         _ => random.below(usize::from(n).max(1)) as u8,
     }
 }
 
-/// The row that is picked last, or one of the two that come after it; of a state that is not broken.
+/// The row that is picked last, or one of the two after it; row 0 where nobody is ready.
 fn near_the_last_picked(random: &mut Random, state: &State, k: u8) -> u8 {
     let ready = ready_rows(state);
     let place = (usize::from(k) + random.below(3)).saturating_sub(1);

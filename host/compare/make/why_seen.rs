@@ -7,31 +7,32 @@ use second::slot::{broken, ready, ready_rows, rule_between, Next, Rule, LAST_TIM
 use second::table::Row;
 use second::why::{why, Reason};
 
-pub const GROUPS: [Group; 15] = [
-    "answer (1 in 50): 0 | 30..33 | 36",
+pub const GROUPS: [Group; 17] = [
+    "answer (1 in 80): 0 | 30..33 | 36",
     CAUSES_OF_30,
-    "refused, and there is cause for another (1 in 1000): 30 before 31 | 30 before 32 | \
+    "refused, and there is cause for another (1 in 2000): 30 before 31 | 30 before 32 | \
      30 before 33 | 30 before 36 | 31 before 32 | 31 before 33 | 31 before 36 | 32 before 33 | \
      32 before 36 | 33 before 36",
-    "33 by k of (1 in 500): M + 1 | 32 | 255",
-    "36 by row (1 in 500): n | n + 1 | 31 | 32 | 255",
+    "33 by k of (1 in 200): M + 1 | 32 | 255",
+    "36 by row (1 in 400): n | n + 1 | 31 | 32 | 255",
     "36 with (1 in 500): n of 0 | n of 32 | something at the row's place",
     "reason (1 in 50): picked | not ready | no core free | passed over",
-    "answered with (1 in 100): row 31 | k of M | k of 8 | time above 900,000,000",
-    "k of 0, and the row is (1 in 100): ready | not ready",
-    "not ready (1 in 100): plain | early release | before its phase | after a phase above 0",
-    "first slot (1 in 200): the next | a later one | the time limit | past the time limit",
-    "before its start, by early release (1 in 200): picked | no core free | passed over",
-    "passed over by (1 in 100): deadline | bit | group deadline | row number",
-    "passed over, and (1 in 100): the named row is not the lowest of the picked | \
+    "answered with (1 in 250): row 31 | k of M | k of 8 | time above 900,000,000",
+    "k of 0, and the row is (1 in 150): ready | not ready",
+    "not ready (1 in 80): plain | early release | before its phase | after a phase above 0",
+    "first slot (1 in 1000): the next | a later one | the time limit | past the time limit",
+    "before its start, by early release (1 in 1500): picked | no core free | passed over",
+    "passed over by (1 in 250): deadline | bit | group deadline | row number",
+    "passed over, and (1 in 80): the named row is not the lowest of the picked | \
      it is not the highest | it is not the first in the order | \
      another of the picked goes before by another rule | \
-     the named row goes before the first left out by another rule | \
-     the named row has the larger group deadline, which is not asked",
-    "passed over by a rule against another (1 in 200): deadline against bit | \
-     deadline against group deadline | deadline against row number | \
-     bit against group deadline | bit against row number | group deadline against row number | \
-     row number against group deadline",
+     the named row goes before the first left out by another rule",
+    "passed over against a later rule (1 in 500): deadline against bit | \
+     deadline against group deadline | deadline against row number | bit against row number | \
+     group deadline against row number",
+    "passed over by the bit (1 in 2500): against a larger group deadline",
+    "passed over by row number, both bits 0, the larger group deadline (1 in 500): \
+     of the row asked about | of the named row",
 ];
 
 pub fn count(case: &Case, tally: &mut Tally) {
@@ -120,8 +121,10 @@ fn count_passed_over(case: &Case, named: u8, rule: Rule, tally: &mut Tally) {
     tally.saw("passed over by", rule_name(rule));
     let ready = ready_rows(&case.state);
     let (picked, left) = ready.split_at(usize::from(case.k));
-    let of = |number| ready.iter().find(|next| next.row == number);
-    let of = |number| of(number).expect("a ready row");
+    let of = |number| {
+        let found = ready.iter().find(|next| next.row == number);
+        found.expect("a ready row")
+    };
     let (asked, named) = (of(case.row), of(named));
     let rows = || picked.iter().map(|next| next.row);
     let met = [
@@ -130,24 +133,28 @@ fn count_passed_over(case: &Case, named: u8, rule: Rule, tally: &mut Tally) {
         picked[0] != *named,
         picked.iter().any(|one| rule_between(one, asked) != rule),
         rule_between(named, &left[0]) != rule,
-        rule == Rule::RowNumber && named.group > asked.group,
     ];
     tally.saw_each("passed over, and", met);
-    for other in against(asked, named) {
-        let name = format!("{} against {}", rule_name(rule), rule_name(other));
-        tally.saw("passed over by a rule against another", name);
-    }
+    count_against(asked, named, rule, tally);
 }
 
-/// The rules that, asked alone, would put the first of two before the second. The deadline is never among those of a row that waits.
-fn against(asked: &Next, named: &Next) -> Vec<Rule> {
-    let speaks = [
-        (Rule::Bit, asked.bit > named.bit),
-        (Rule::GroupDeadline, asked.group > named.group),
-        (Rule::RowNumber, asked.row < named.row),
+/// The rules that are not asked any more, where they would speak for the row asked about; and D, where it is not asked at all.
+fn count_against(asked: &Next, named: &Next, rule: Rule, tally: &mut Tally) {
+    let (bit, number) = (asked.bit > named.bit, asked.row < named.row);
+    let (larger, smaller) = (asked.group > named.group, asked.group < named.group);
+    let by = |other| rule == other;
+    let met = [
+        by(Rule::Deadline) && bit,
+        by(Rule::Deadline) && larger,
+        by(Rule::Deadline) && number,
+        by(Rule::Bit) && number,
+        by(Rule::GroupDeadline) && number,
     ];
-    let met = speaks.iter().filter(|(_, met)| *met);
-    met.map(|(rule, _)| *rule).collect()
+    tally.saw_each("passed over against a later rule", met);
+    tally.saw_each("passed over by the bit", [by(Rule::Bit) && larger]);
+    let met = [larger, smaller].map(|met| by(Rule::RowNumber) && met);
+    let title = "passed over by row number, both bits 0, the larger group deadline";
+    tally.saw_each(title, met);
 }
 
 fn name(reason: Reason) -> &'static str {
