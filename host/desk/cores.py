@@ -6,15 +6,14 @@ FILE is an input of the slot printer, byte for byte, or as hex text with comment
 """
 from __future__ import annotations
 
-import os
 import sys
 from typing import Iterator
 
+import endings
 import inputs
-from probe import Placement, Probe, Table, Trouble
+from probe import LATE, Placement, Probe, Table, Trouble, first_cores
 
 HEADER = "slot free moves tanks on cores"
-LATE = 1  # the answer of a slot after which a row is late; 0 is done, and any number above is a refusal
 
 
 def listing(input: bytes, probe: Probe) -> Iterator[str]:
@@ -53,11 +52,6 @@ def slot_lines(asked: inputs.Asked, table: Table, probe: Probe) -> Iterator[str]
     yield f"moves {total}"
 
 
-def first_cores(k: int) -> int:
-    """The printer's k as a set: the first k cores. A set has 32 bits; one that names a core which the table has not is the probe's to refuse."""
-    return (1 << min(k, 32)) - 1
-
-
 def moves(before: Placement, now: Placement) -> int:
     """How many rows moved: 'a row picked in this slot and the one before, on another core'."""
     last = dict(before.pairs)
@@ -66,31 +60,15 @@ def moves(before: Placement, now: Placement) -> int:
 
 def main(arguments: list[str], probe: Probe) -> int:
     """Prints the listing for the file that is named, and returns the exit status."""
-    try:
-        if len(arguments) != 1 or (arguments[0].startswith("-") and arguments[0] != "-"):
-            raise Trouble("name one input, a file or - for standard input: python3 host/desk/cores.py FILE")
-        for line in listing(inputs.read(arguments[0]), probe):
-            show(line)
-    except Trouble as trouble:
-        print(f"cores: {trouble}", file=sys.stderr)
-        return 2
-    except KeyboardInterrupt:
-        return 130  # as a shell says it of a program that Ctrl-C has ended
-    except BrokenPipeError:
-        return 141  # and of one whose reader has gone
+    return endings.status("cores", lambda: run(arguments, probe))
+
+
+def run(arguments: list[str], probe: Probe) -> int:
+    if len(arguments) != 1 or (arguments[0].startswith("-") and arguments[0] != "-"):
+        raise Trouble("name one input, a file or - for standard input: python3 host/desk/cores.py FILE")
+    for line in listing(inputs.read(arguments[0]), probe):
+        endings.show(line, "listing")
     return 0
-
-
-def show(line: str) -> None:
-    """Prints a line at once, so that a long run shows as it goes."""
-    try:
-        print(line, flush=True)
-    except OSError as error:
-        # What is left of the line goes nowhere, or Python would try to write it again at its end, and complain.
-        os.dup2(os.open(os.devnull, os.O_WRONLY), sys.stdout.fileno())
-        if isinstance(error, BrokenPipeError):
-            raise
-        raise Trouble(f"the listing cannot be written: {error.strerror}") from None
 
 
 if __name__ == "__main__":

@@ -1,8 +1,13 @@
-"""The inputs of the slot printer (01, 'Slot printer'): read from a file, and split into their parts. The table is only cut out, not judged."""
+"""Files, byte for byte or as hex text; and the inputs of the slot printer (01, 'Slot printer'), split into their parts. The table is only cut
+out, not judged.
+"""
 from __future__ import annotations
 
+import contextlib
+import io
 import re
 from dataclasses import dataclass
+from typing import BinaryIO, Iterator
 
 from probe import Trouble
 
@@ -39,12 +44,19 @@ def half(raw: bytes, at: int) -> int:
 
 
 def read(name: str) -> bytes:
-    """What a file holds: hex text if its name ends in .hex, else the input itself; - is standard input."""
+    """What a file holds; of a longer one than an input may be, enough to tell that it is too long, so that a stream need not end."""
+    with opened(name) as file:
+        return file.read(INPUT_LIMIT + 1)
+
+
+@contextlib.contextmanager
+def opened(name: str) -> Iterator[BinaryIO]:
+    """A file, to be read as far as is needed; - is standard input. If the name ends in .hex it is text, read whole, in place of which stand the
+    bytes that it names.
+    """
     try:
         with open(0 if name == "-" else name, "rb", closefd=name != "-") as file:
-            if name.endswith(".hex"):
-                return unhexed(file.read(), name)
-            return file.read(INPUT_LIMIT + 1)  # enough to tell that it is too long, so that a stream need not end
+            yield io.BytesIO(unhexed(file.read(), name)) if name.endswith(".hex") else file
     except OSError as error:
         raise Trouble(f"{name} cannot be read: {error.strerror}") from None
 

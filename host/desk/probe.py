@@ -1,5 +1,5 @@
 """A client of the probe (crates/probe): it builds requests and takes answers apart. It judges nothing: whether a table is taken, who runs and on
-which core, who is late and what is refused is what the probe answers.
+which core, who waits and why, who is late and what is refused is what the probe answers.
 
 Numbers are little-endian. A table value is L (4), M (1), 8 board numbers, n (1) and 32 rows of 9 bytes; a placement a count (1), 8 rows and 8
 cores; a state a table value, the time (8), a stopped mark (1), 32 quanta (8 each), and the placement of the last slot.
@@ -14,18 +14,28 @@ from typing import Sequence
 
 CORES, ROWS, ROW = 8, 32, 9  # places for cores and for rows, and the bytes of a row
 CORE_COUNT_AT = 4
-ROWS_AT = CORE_COUNT_AT + 1 + CORES + 1
+ROW_COUNT_AT = CORE_COUNT_AT + 1 + CORES
+ROWS_AT = ROW_COUNT_AT + 1
 TABLE_VALUE = ROWS_AT + ROWS * ROW
 TIME_AT = TABLE_VALUE
 MEMORY_AT = TIME_AT + 8 + 1 + ROWS * 8
 PLACEMENT = 1 + CORES + CORES
 STATE = MEMORY_AT + PLACEMENT
 RECORD = 2 + CORES  # the longest record of a slot: each slot is lent a buffer of this length, with place 0
+REQUEST_LIMIT = 1 << 20  # the most bytes that the probe reads
 
+STATE_PARTS = struct.Struct(f"<{TABLE_VALUE}sQB{ROWS}Q{PLACEMENT}s")  # table value, time, stopped, quanta, memory
 TABLE_REQUEST = struct.Struct("<cI")  # T, length; the table's bytes follow
 TABLE_ANSWER = struct.Struct(f"<B{TABLE_VALUE}s")  # number, table value
 SLOT_REQUEST = struct.Struct(f"<c{STATE}sIQI{RECORD}s")  # K, state, set of free cores, place, length, buffer
 SLOT_ANSWER = struct.Struct(f"<BBQ{PLACEMENT}s{STATE}s{RECORD}s")  # number, row, time, placement, state, buffer
+WHY_REQUEST = struct.Struct(f"<c{STATE}sBB")  # Y, state, number of free cores, row
+WHY_ANSWER = struct.Struct("<BBQBB")  # number, reason, first slot, row, rule
+CHECK_REQUEST = struct.Struct("<cI")  # C, length; the table's bytes follow, and behind them
+CHECK_TRACE = struct.Struct("<I")  # length; the trace's bytes follow
+CHECK_ANSWER = struct.Struct("<BBQ")  # number, row, time
+
+LATE = 1  # the answer of a slot after which a row is late; 0 is done, and any number above is a refusal
 
 # Found from this file's own place, through symlinks, so that it does not matter where a user stands.
 RUN = (str(Path(__file__).resolve().parent.parent / "run"), "probe")
@@ -76,6 +86,11 @@ class Table:
     def cores(self) -> int:
         return self.value[CORE_COUNT_AT]
 
+    @property
+    def tanks(self) -> tuple[int, ...]:
+        """The tank of each row."""
+        return tuple(self.tank(row) for row in range(self.value[ROW_COUNT_AT]))
+
     def tank(self, row: int) -> int:
         if row >= ROWS:
             raise Trouble(f"the probe names row {row}, and a table has {ROWS} rows at most")
@@ -83,19 +98,51 @@ class Table:
         return int.from_bytes(self.value[at : at + 2], "little")
 
     def fresh(self) -> State:
-        """Time 0, not stopped, no quanta given, nobody remembered: nothing but 0 behind the table."""
-        return State(self.value.ljust(STATE, b"\0"))
+        """Time 0, no quanta given."""
+        return self.at(0, ROWS * (0,))
+
+    def at(self, time: int, quanta: Sequence[int]) -> State:
+        """Not stopped, nobody remembered; of the quanta there are 32, one number for each place for a row."""
+        return State(STATE_PARTS.pack(self.value, time, 0, *quanta, bytes(PLACEMENT)))
 
 
 @dataclass(frozen=True)
 class Slot:
-    """What the probe answered for one slot. `row` and `time` name the late row, if the number is 1."""
+    """What the probe answered for one slot. `row` and `time` name the late row, if the number is 1. The record is the one that was written, if it
+    was not refused.
+    """
 
     number: int
     row: int
     time: int
     placement: Placement
     state: State
+    record: bytes
+
+
+@dataclass(frozen=True)
+class Why:
+    """Why a row waits in the slot about to run (02, Two): 0, the reason and what belongs to it, or the number of a refusal."""
+
+    number: int
+    reason: int
+    first_slot: int
+    row: int
+    rule: int
+
+
+@dataclass(frozen=True)
+class Check:
+    """What the trace check answered. `row` and `time` belong to 44 and 45."""
+
+    number: int
+    row: int
+    time: int
+
+
+def first_cores(k: int) -> int:
+    """A number k of free cores as a set: the first k. A set has 32 bits; one that names a core which the table has not is the probe's to refuse."""
+    return (1 << min(k, 32)) - 1
 
 
 class Probe:
@@ -112,8 +159,20 @@ class Probe:
         """One slot; bit c of `free` says that core c is free."""
         request = SLOT_REQUEST.pack(b"K", state.raw, free, 0, RECORD, bytes(RECORD))
         answer = self.ask(request, SLOT_ANSWER.size)
-        number, row, time, placement, after, _ = SLOT_ANSWER.unpack(answer)
-        return Slot(number, row, time, Placement.of(placement), State(after))
+        number, row, time, placement, after, buffer = SLOT_ANSWER.unpack(answer)
+        return Slot(number, row, time, Placement.of(placement), State(after), buffer[: 2 + buffer[1]])
+
+    def why(self, state: State, k: int, row: int) -> Why:
+        """Why a row waits in the slot about to run, with k cores free."""
+        request = WHY_REQUEST.pack(b"Y", state.raw, k, row)
+        return Why(*WHY_ANSWER.unpack(self.ask(request, WHY_ANSWER.size)))
+
+    def check(self, table: bytes, trace: bytes) -> Check | None:
+        """The trace check, or none if the two are longer than the probe reads."""
+        request = CHECK_REQUEST.pack(b"C", len(table)) + table + CHECK_TRACE.pack(len(trace)) + trace
+        if len(request) > REQUEST_LIMIT:
+            return None
+        return Check(*CHECK_ANSWER.unpack(self.ask(request, CHECK_ANSWER.size)))
 
     def ask(self, request: bytes, length: int) -> bytes:
         """The answer to one request, which has `length` bytes.

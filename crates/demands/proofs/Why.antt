@@ -26,6 +26,7 @@ use Rattle.why.proofs.Rules.{one-rule}
 use Rattle.why.proofs.Lowest.{one-lowest}
 use Rattle.why.proofs.Refused.{reason-is-0, why-numbers, refuses, gives-reason}
 use Rattle.why.proofs.Why.{reason-is-true-and-only}
+use Rattle.why.proofs.Alike.{past-has-no-part, memory-has-no-part}
 use Rattle.demands.specs.One.{NotBroken}
 use Rattle.demands.specs.Why.{WhyExactly, PickedAsTheSlotDoes, Why}
 use Rattle.demands.proofs.Refusals.{broken-exactly, neither-is, both-are}
@@ -164,4 +165,6 @@ why =
       one-rule = one-rule;
       one-lowest = one-lowest;
       as-the-slot = as-the-slot;
+      ignored = past-has-no-part;
+      memory = memory-has-no-part;
     }

@@ -14,7 +14,7 @@ use Rattle.why.specs.declared.Answer.the-variants.{Picked}
 use Rattle.why.specs.Rules.{OneRule}
 use Rattle.why.specs.Lowest.{OneLowest}
 use Rattle.why.specs.Answer.{numberOf}
-use Rattle.why.specs.Why.{whyOf, WhyNumbers, ReasonIsTrueAndOnly}
+use Rattle.why.specs.Why.{whyOf, WhyNumbers, PastHasNoPart, MemoryHasNoPart, ReasonIsTrueAndOnly}
 use Rattle.demands.specs.One.{NotBroken}
 
 -- "Refusals: 30 to 33 as in 01, then 36 for a row number not below n": each with what was not met before it. 33 is k above M: here k is a number.
@@ -43,3 +43,6 @@ pub record Why : Type 0 where
   -- "the lowest-ranked picked row": where somebody is picked there is one.
   pub one-lowest : OneLowest
   pub as-the-slot : PickedAsTheSlotDoes
+  -- "Places past row n, and board numbers past M, are ignored" (01); nor has what is remembered a part in it.
+  pub ignored : PastHasNoPart
+  pub memory : MemoryHasNoPart

@@ -106,7 +106,7 @@ module _ (s s′ : State) (alike : AlikeBelow s s′) where
   fault-alike = rw (alike .boards, alike .rows, alike .cycle, alike .cores, alike .row-count)
 
   -- have the same quanta below n,
-  quanta-alike : (i : ℕ) → i < length (rowsIn s) → quantaAt (quantaIn s) i ≡ quantaAt (quantaIn s′) i
+  pub quanta-alike : (i : ℕ) → i < length (rowsIn s) → quantaAt (quantaIn s) i ≡ quantaAt (quantaIn s′) i
   quanta-alike i l =
       sym (getD-take (length (rowsIn s)) (quantaIn s) i 0 l) ∙ (ap (λ q. quantaAt q i) (alike .quanta) ∙ getD-take (length (rowsIn s)) (quantaIn s′) i 0 l)
 
@@ -133,7 +133,7 @@ module _ (s s′ : State) (alike : AlikeBelow s s′) where
   memory-alike = record { count = alike .remembered; rows = alike .last-rows; cores = alike .last-cores }
 
   -- both are broken or neither is,
-  broken-alike : broken s ≡ broken s′
+  pub broken-alike : broken s ≡ broken s′
   unfolding broken
   broken-alike =
       rw (fault-alike, some-alike (exceeds (timeOf s)), some-alike (outsideShare (timeOf s)), alike .time, alike .stopped, faults-alike memory-alike (isRow s) (s .table .cores), alike .cores)
@@ -147,7 +147,7 @@ module _ (s s′ : State) (alike : AlikeBelow s s′) where
           || (not (s′ .stopped) && someRow s′ (outsideShare (timeOf s′)))
 
   -- the same rows are picked,
-  picks-alike : (k : ℕ) → picksIn s k ≡ picksIn s′ k
+  pub picks-alike : (k : ℕ) → picksIn s k ≡ picksIn s′ k
   picks-alike k =
       same-picks (rowsIn s) (quantaIn s) (quantaIn s′) quanta-alike (timeOf s) k
       ∙ ap₂ (λ rows t. pd2Picks rows (quantaIn s′) t k) (alike .rows) (alike .time)

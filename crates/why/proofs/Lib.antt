@@ -3,5 +3,6 @@ pub mod Lowest
 pub mod Picked
 pub mod Refused
 pub mod Why
+pub mod Alike
 pub mod Asked
 pub mod Determined

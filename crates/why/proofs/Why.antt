@@ -51,7 +51,7 @@ module _ (s : State) (k row : ℕ) where
     lowest-is-found ready z by = one-lowest (names (picksIn s k)) (goesBefore s) (length (rowsIn s)) by (strict-among-named s k) (somebody s k row is-row ready (omega (arith, z)))
 
     -- What is computed is true,
-    computed-holds : Holds s k row (reasonOf s k row)
+    pub computed-holds : Holds s k row (reasonOf s k row)
     computed-holds = go (names (picksIn s k) row) (isReady s row (timeOf s)) (ℕ-discrete k 0) refl refl
       where
         go : (a b : Bool) → Dec (k ≡ 0) → names (picksIn s k) row ≡ a → isReady s row (timeOf s) ≡ b → Holds s k row (reasonOf s k row)
@@ -65,7 +65,7 @@ module _ (s : State) (k row : ℕ) where
             (record { is-ready = f; lowest = low; ahead = ahead; by-rule = sym (one-rule (rankIn s (lowestIn s k)) (rankIn s row) ahead) })
 
     -- and whatever is true is what is computed.
-    holds-computed : (other : Answer) → Holds s k row other → other ≡ reasonOf s k row
+    pub holds-computed : (other : Answer) → Holds s k row other → other ≡ reasonOf s k row
     holds-computed Picked h = sym (when-named (h .named))
     holds-computed (NotReady until) h =
         ap (λ t. NotReady (record { 0 = t })) (first-is-one (isReady s row) (timeOf s) (until .0) (readyFromIn s row) (h .first) (first-ready s row (h .not-now)))
@@ -85,7 +85,7 @@ module _ (s : State) (k row : ℕ) where
     holds-computed NoSuchRow h = absurd h
 
 -- The last test has passed: the number is that of a row.
-row-if-none : (s : State) (k row : ℕ) → NoneFound (whyTests s k row) → row < length (rowsIn s)
+pub row-if-none : (s : State) (k row : ℕ) → NoneFound (whyTests s k row) → row < length (rowsIn s)
 row-if-none s k row (NoneFound.later a (NoneFound.later b (NoneFound.later c (NoneFound.later d (NoneFound.later e f))))) =
     ltb-true row (length (rowsIn s)) (not-false (ltb row (length (rowsIn s))) e)
 

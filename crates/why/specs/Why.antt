@@ -2,7 +2,7 @@
 use Prim.Native.Nat.{ℕ, _+_, _≤_}
 use mathlib.Core.Path.{_≡_}
 use mathlib.Core.List.{List, [], _∷_}
-use mathlib.Core.Bool.{cond, not}
+use mathlib.Core.Bool.{false, cond, not}
 use mathlib.Core.Logic.{_↔_, _⊎_}
 use lib.Dec.{ltb, eqb}
 use lib.ListN.{length}
@@ -17,6 +17,8 @@ use Rattle.dispatcher.specs.declared.State.{State}
 use Rattle.dispatcher.specs.State.{rowsIn, isRow, quantaIn, timeOf}
 use Rattle.dispatcher.specs.Broken.{broken}
 use Rattle.dispatcher.specs.Slot.{picksIn}
+use Rattle.dispatcher.specs.Places.{AlikeBelow}
+use Rattle.dispatcher.specs.Placed.{AlikeButMemory}
 use Rattle.why.specs.declared.Answer.{Answer}
 use Rattle.why.specs.declared.Answer.the-variants.{Picked, NotReady, NoCoreFree, PassedOver, Broken, Stopped, AtLimit, TooManyCores, NoSuchRow}
 use Rattle.why.specs.Rules.{ruleFor}
@@ -66,6 +68,14 @@ RefusedExactly = (s : State) (k row : ℕ) (x : Answer) → (numberOf x ≡ 0 �
 -- No other number is answered; a reason has none.
 abbrev pub WhyNumbers : Type 0
 WhyNumbers = (s : State) (k row : ℕ) → let number = numberOf (whyOf s k row) in (number ≡ 0) ⊎ ((30 ≤ number) × (number ≤ 33)) ⊎ (number ≡ 36)
+
+-- "Places past row n, and board numbers past M, are ignored", and so is what stands past the count of a memory: two states that differ in nothing else get the same answer.
+abbrev pub PastHasNoPart : Type 0
+PastHasNoPart = (s s′ : State) (k row : ℕ) → AlikeBelow s s′ → whyOf s k row ≡ whyOf s′ k row
+
+-- Nor has what is remembered, if it breaks neither state.
+abbrev pub MemoryHasNoPart : Type 0
+MemoryHasNoPart = (s s′ : State) (k row : ℕ) → AlikeButMemory s s′ → broken s ≡ false → broken s′ ≡ false → whyOf s k row ≡ whyOf s′ k row
 
 -- "The reason given must be the true one and the only true one in that list": what is answered holds, and of all other answers none does, so that the
 -- slot, the row and the rule in it are the only true ones too.

@@ -1,0 +1,515 @@
+"""The tests of the answer to why a tank waited: python3 host/desk/test_why.py. What is expected was worked out by hand, from 01 and 02; where a
+class says AgainstProbe, the probe must be built and know the question.
+"""
+from __future__ import annotations
+
+import contextlib
+import io
+import os
+import shlex
+import struct
+import subprocess
+import sys
+import tempfile
+import unittest
+from pathlib import Path
+
+import inputs
+import traces
+import why
+import words
+from probe import REQUEST_LIMIT, Check, Probe, State, Trouble, Why
+from test_cores import HERE, ROOT, TABLE, VALUE, Fake, Interrupted, placement
+
+PROGRAM = str(HERE / "why.py")
+EXAMPLE = [str(ROOT / "examples" / "tank-14.hex"), str(ROOT / "examples" / "tank-14-trace.hex")]
+PAGE = ROOT / "docs" / "WHY.md"
+
+NOT_OURS = "This trace is not the dispatcher's for this table: "
+BIT = "its bit (the deadlines are the same, but only its window overlaps its next one)."
+GROUP = "its later group deadline (deadlines and bits are the same)."
+PLACE = "its earlier place in the table (nothing else decides between the two)."
+
+# 01's trace of its example: slot 0 picks rows 0 and 1, slot 1 rows 0 and 2, slot 2 rows 1 and 2.
+TRACE = bytes.fromhex("03000000 02020001 02020002 02020102")
+
+
+def table(cycle: int, cores: int, *rows: tuple[int, int, int, int, int]) -> bytes:
+    """The bytes of a table. A row is its tank, cost, period, phase and kind."""
+    head = struct.pack("<BIB", 1, cycle, cores) + bytes(range(cores)) + bytes([len(rows)])
+    return head + b"".join(struct.pack("<HHHHB", *row) for row in rows)
+
+
+def trace(*records: str) -> bytes:
+    """The bytes of a trace, of records in hex: cores free, rows picked, and these rows."""
+    return struct.pack("<I", len(records)) + bytes.fromhex("".join(records))
+
+
+def slot_answer(number: int, record: bytes) -> bytes:
+    """An answer to K over 01's table, of which only the number and the record are looked at here."""
+    return bytes([number]) + bytes(1 + 8) + placement() + VALUE + bytes(8 + 1 + 256) + placement() + record.ljust(10, b"\0")
+
+
+def why_answer(number: int = 0, reason: int = 0, first_slot: int = 0, row: int = 0, rule: int = 0) -> bytes:
+    return struct.pack("<BBQBB", number, reason, first_slot, row, rule)
+
+
+def check_answer(number: int = 0, row: int = 0, time: int = 0) -> bytes:
+    return struct.pack("<BBQ", number, row, time)
+
+
+TAKEN = b"\0" + VALUE  # the answer to T for 01's table
+
+
+def said(table: bytes, trace: bytes, tank: int, slot: int, probe: Probe) -> list[object]:
+    """The sentences, and behind them the exit status."""
+    told = why.said(table, io.BytesIO(trace), tank, slot, probe)
+    return [*told.sentences, told.status]
+
+
+def ran(arguments: list[str], probe: Probe) -> tuple[int, str, str]:
+    """The exit status of the program, and what it wrote."""
+    out, error = io.StringIO(), io.StringIO()
+    with contextlib.redirect_stdout(out), contextlib.redirect_stderr(error):
+        status = why.main(arguments, probe)
+    return status, out.getvalue(), error.getvalue()
+
+
+def as_process(*arguments: str, given: bytes = b"", program: str = PROGRAM) -> tuple[int, str, str]:
+    run = subprocess.run([sys.executable, program, *arguments], input=given, capture_output=True, cwd="/")
+    return run.returncode, run.stdout.decode(), run.stderr.decode()
+
+
+class Requests(unittest.TestCase):
+    def test_why(self) -> None:
+        fake = Fake(TAKEN, bytes.fromhex("00 04 0102030405060708 02 03"))
+        quanta = [3, 0, 258] + 29 * [0]
+        answer = fake.why(fake.read_table(TABLE).at(513, quanta), 2, 1)
+        state = VALUE + bytes.fromhex("0102000000000000 00  0300000000000000 0000000000000000 0201000000000000") + bytes(29 * 8) + bytes(17)
+        self.assertEqual(fake.requests[1], b"Y" + state + b"\x02\x01")
+        self.assertEqual(answer, Why(0, 4, 0x0807060504030201, 2, 3))
+
+    def test_a_fresh_state_is_one_of_time_0(self) -> None:
+        fresh = Fake(TAKEN).read_table(TABLE).fresh()
+        self.assertEqual(fresh, State(VALUE + bytes(8 + 1 + 32 * 8 + 17)))
+
+    def test_check(self) -> None:
+        fake = Fake(bytes.fromhex("2D 02 0102000000000000"))
+        self.assertEqual(fake.check(TABLE, TRACE), Check(45, 2, 513))
+        self.assertEqual(fake.requests, [b"C\x24\0\0\0" + TABLE + b"\x10\0\0\0" + TRACE])
+
+    def test_a_check_that_is_too_long(self) -> None:
+        room = REQUEST_LIMIT - 1 - 4 - len(TABLE) - 4
+        fake = Fake(check_answer())
+        self.assertEqual(fake.check(TABLE, bytes(room)), Check(0, 0, 0))
+        self.assertIsNone(fake.check(TABLE, bytes(room + 1)))
+        self.assertEqual([len(request) for request in fake.requests], [1_048_576])
+
+    def test_record_of_a_slot(self) -> None:
+        for record in [b"\0\0", b"\2\2\0\1", bytes([8, 8, *range(8)])]:
+            self.assertEqual(Fake(slot_answer(0, record)).run_slot(State(bytes(584)), 0).record, record)
+
+    def test_tanks(self) -> None:
+        self.assertEqual(Fake(TAKEN).read_table(TABLE).tanks, (10, 11, 20))
+
+
+class Words(unittest.TestCase):
+    def test_tanks(self) -> None:
+        for tanks, text in [((), "no tank"), ((0,), "tank 0"), ((10, 11), "tanks 10 and 11"), ((10, 11, 20), "tanks 10, 11 and 20")]:
+            self.assertEqual(words.listed(tanks), text)
+
+    def test_counts(self) -> None:
+        self.assertEqual([words.counted(count, "core") for count in (0, 1, 2, 255)], ["0 cores", "1 core", "2 cores", "255 cores"])
+
+    def test_numbers(self) -> None:
+        self.assertEqual(words.of_number(18), "18, e not below p")
+        self.assertEqual(words.of_number(46), "46, bytes after the last record")
+        self.assertEqual(words.of_number(99), "99")
+
+
+class Reading(unittest.TestCase):
+    def test_counts_and_records(self) -> None:
+        # Before slot 2, records 0 and 1 name row 0 twice, row 1 and row 2 once.
+        past = traces.read(io.BytesIO(TRACE), 2, 3)
+        self.assertEqual(past, traces.Past(3, TRACE[4:12], (2, 1, 1) + 29 * (0,), TRACE[12:]))
+        past = traces.read(io.BytesIO(TRACE), 0, 3)
+        self.assertEqual(past, traces.Past(3, b"", 32 * (0,), TRACE[4:8]))
+
+    def test_no_further_than_the_slot(self) -> None:
+        file = io.BytesIO(TRACE)
+        traces.read(file, 1, 3)
+        self.assertEqual(file.tell(), 12)
+
+    def test_a_record_counts_once_for_a_row(self) -> None:
+        past = traces.read(io.BytesIO(trace("0303010101", "0101 02", "0000")), 2, 3)
+        self.assertEqual(past.quanta[:4], (0, 1, 1, 0))
+
+    def test_records_are_not_judged(self) -> None:
+        # More cores than there are, more rows than cores, rows that fall: all are read as they stand.
+        past = traces.read(io.BytesIO(trace("FF00", "00020100", "0103020100")), 2, 3)
+        self.assertEqual((past.quanta[:3], past.record), ((1, 1, 0), bytes.fromhex("0103020100")))
+
+    def test_a_long_past_is_not_kept(self) -> None:
+        # 255 times row 0 in each of 8,200 records of 257 bytes: 2,107,400 bytes, of which those are kept that reach past 1 MiB.
+        past = traces.read(io.BytesIO(struct.pack("<I", 8_201) + 8_200 * (b"\xff\xff" + bytes(255)) + b"\0\0"), 8_200, 1)
+        self.assertEqual((past.quanta[0], past.record), (8_200, b"\0\0"))
+        self.assertTrue(REQUEST_LIMIT < len(past.before) <= REQUEST_LIMIT + 257)
+
+    def test_slots_that_are_not_there(self) -> None:
+        for slots, slot, text in [
+            (0, 0, "Slot 0 is not in the trace, which has no slots."),
+            (1, 1, "Slot 1 is not in the trace, which has slot 0 alone."),
+            (3, 3, "Slot 3 is not in the trace, which has slots 0 to 2."),
+            (3, 10**20, "Slot 100000000000000000000 is not in the trace, which has slots 0 to 2."),
+        ]:
+            self.assertEqual(said(TABLE, struct.pack("<I", slots), 10, slot, Fake(TAKEN)), [text, 1])
+
+    def test_a_trace_that_is_cut(self) -> None:
+        for end in range(len(TRACE)):
+            what = "its count of slots" if end < 4 else f"the record of slot {end // 4 - 1}"
+            text = f"The trace is cut short: {what} is not wholly there."
+            self.assertEqual(said(TABLE, TRACE[:end], 10, 2, Fake(TAKEN)), [text, 1])
+
+    def test_a_row_that_the_table_has_not(self) -> None:
+        for slot, record in [(0, "02020003"), (1, "02020300")]:
+            records = ["02020001", "02020002"]
+            records[slot] = record
+            text = f"{NOT_OURS}the record of slot {slot} names row 3, counted from 0, and the table has 3 rows."
+            self.assertEqual(said(TABLE, trace(*records), 10, 1, Fake(TAKEN)), [text, 1])
+        alone = VALUE[:13] + b"\1" + VALUE[14:23] + bytes(31 * 9)
+        text = f"{NOT_OURS}the record of slot 0 names row 255, counted from 0, and the table has 1 row."
+        self.assertEqual(said(b"", trace("0101FF"), 10, 0, Fake(b"\0" + alone)), [text, 1])
+
+
+class WithoutAnswer(unittest.TestCase):
+    def test_refused_table(self) -> None:
+        self.assertEqual(said(b"", TRACE, 10, 0, Fake(b"\x12" + bytes(302))), ["The table is refused: 18, e not below p.", 1])
+        self.assertEqual(said(b"", TRACE, 10, 0, Fake(b"\x63" + bytes(302))), ["The table is refused: 99.", 1])
+
+    def test_a_tank_that_is_not_there(self) -> None:
+        for tank in [0, 12, 70_000]:
+            self.assertEqual(said(TABLE, TRACE, tank, 0, Fake(TAKEN)), [f"Tank {tank} is not in the table, which has tanks 10, 11 and 20.", 1])
+        empty = VALUE[:13] + bytes(1 + 32 * 9)
+        self.assertEqual(said(b"", TRACE, 0, 0, Fake(b"\0" + empty)), ["Tank 0 is not in the table, which has no tank.", 1])
+
+    def test_refused_states(self) -> None:
+        for number, text in [
+            (30, "before slot 1 a tank had been picked more often, or less often, than its share allows"),
+            (31, "a tank was late before slot 1, and there the dispatcher stops"),
+            (32, "slot 1 is past the last slot of the dispatcher"),
+            (33, "the record of slot 1 says that 2 cores were free, and the table has 2 cores"),
+        ]:
+            fake = Fake(TAKEN, check_answer(), why_answer(number))
+            self.assertEqual(said(TABLE, TRACE, 10, 1, fake), [f"{NOT_OURS}{text}; so there is no answer.", 1])
+            self.assertEqual([request[:1] for request in fake.requests], [b"T", b"C", b"Y"])
+
+    def test_what_only_another_probe_says(self) -> None:
+        for answers in [
+            [why_answer(36)],
+            [why_answer(0, 0), slot_answer(0, b"\2\2\0\2")],
+            [why_answer(0, 5), slot_answer(0, b"\2\2\0\2")],
+            [why_answer(0, 4, row=1, rule=0), slot_answer(0, b"\2\2\0\2")],
+            [why_answer(0, 4, row=1, rule=5), slot_answer(0, b"\2\2\0\2")],
+            [why_answer(0, 4, row=32, rule=1), slot_answer(0, b"\2\2\0\2")],
+            [why_answer(0, 1), slot_answer(30, b"\0\0")],
+        ]:
+            with self.assertRaisesRegex(Trouble, "^the probe "):
+                said(TABLE, TRACE, 10, 1, Fake(TAKEN, check_answer(), *answers))
+
+
+class Asking(unittest.TestCase):
+    def test_requests(self) -> None:
+        # Slot 2 of 01's trace, row 1: the records before it give row 0 two quanta and rows 1 and 2 one each. Two cores are free: bits 0 and 1.
+        fake = Fake(TAKEN, check_answer(), why_answer(0, 1), slot_answer(0, b"\2\2\1\2"))
+        self.assertEqual(said(TABLE, TRACE, 11, 2, fake), ["Tank 11 was picked in slot 2.", 0])
+        state = VALUE + struct.pack("<QB32Q", 2, 0, 2, 1, 1, *29 * [0]) + bytes(17)
+        self.assertEqual(
+            fake.requests,
+            [
+                b"T\x24\0\0\0" + TABLE,
+                b"C\x24\0\0\0" + TABLE + b"\x0c\0\0\0" + b"\2\0\0\0" + TRACE[4:12],
+                b"Y" + state + b"\2\1",
+                b"K" + state + b"\3\0\0\0" + bytes(8) + b"\x0a\0\0\0" + bytes(10),
+            ],
+        )
+
+    def test_a_slot_after_which_a_row_is_late_is_a_slot(self) -> None:
+        fake = Fake(TAKEN, check_answer(), why_answer(0, 3), slot_answer(1, b"\0\0"))
+        self.assertEqual(said(TABLE, trace("0000"), 20, 0, fake), ["Tank 20 was ready in slot 0, but no core was free.", 0])
+
+    def test_what_the_check_found(self) -> None:
+        for number, text in [
+            (41, "a record before slot 1 says that more cores were free than the table has"),
+            (42, "a record before slot 1 names more tanks than cores were free"),
+            (43, "a record before slot 1 names a tank twice, or tanks out of order"),
+            (44, "tank 20 was picked in slot 7, though it was not ready"),
+            (45, "tank 20 was late at the start of slot 7, and there the dispatcher stops"),
+            (46, "a record before slot 1 does not pass the trace check (46, bytes after the last record)"),
+        ]:
+            fake = Fake(TAKEN, check_answer(number, 2, 7), why_answer(0, 1), slot_answer(0, b"\2\2\0\2"))
+            self.assertEqual(said(TABLE, TRACE, 10, 1, fake), [f"{NOT_OURS}{text}.", "Tank 10 was picked in slot 1.", 1])
+
+    def test_all_that_speaks_against_it(self) -> None:
+        # A count that no trace has, a late tank before slot 1, and a record that is not the dispatcher's.
+        given = b"\xff\xff\xff\xff" + TRACE[4:8] + b"\1\1\1"
+        fake = Fake(TAKEN, check_answer(45, 1, 1), why_answer(0, 2, 4_294_967_296), slot_answer(0, b"\1\1\2"))
+        self.assertEqual(
+            said(TABLE, given, 10, 1, fake),
+            [
+                f"{NOT_OURS}it has 4294967295 slots by its count, and 1000000000 is the most.",
+                f"{NOT_OURS}tank 11 was late at the start of slot 1, and there the dispatcher stops.",
+                f"{NOT_OURS}the record of slot 1 names tank 11, and the dispatcher picks tank 20.",
+                "By the dispatcher's own picks, tank 10 was not ready in slot 1: the first slot in which it is ready is 4294967296.",
+                1,
+            ],
+        )
+
+    def test_a_past_that_is_too_long_to_be_checked(self) -> None:
+        # 4,081 records of 257 bytes are 1,048,817 bytes, and 1 MiB is 1,048,576.
+        given = struct.pack("<I", 4_082) + 4_081 * (b"\xff\xff" + bytes(255)) + b"\2\2\0\2"
+        fake = Fake(TAKEN, why_answer(0, 1), slot_answer(0, b"\2\2\0\2"))
+        note = "The records before slot 4081 were not checked: they are more than the probe reads."
+        self.assertEqual(said(TABLE, given, 10, 4_081, fake), [note, "Tank 10 was picked in slot 4081.", 0])
+        self.assertEqual([request[:1] for request in fake.requests], [b"T", b"Y", b"K"])
+
+
+class Endings(unittest.TestCase):
+    def assert_trouble(self, arguments: list[str], probe: Probe, text: str) -> None:
+        status, out, error = ran(arguments, probe)
+        self.assertEqual((status, out), (2, ""))
+        self.assertRegex(error, f"^why: .*{text}.*\n$")
+
+    def test_wrong_use(self) -> None:
+        for arguments in [[], EXAMPLE, [*EXAMPLE, "14"], [*EXAMPLE, "14", "0", "0"], ["--help"], ["-x", EXAMPLE[1], "14", "0"]]:
+            self.assert_trouble(arguments, Fake(), "name a table, a trace, a tank and a slot")
+        self.assert_trouble(["-", "-", "14", "0"], Fake(), "only one")
+
+    def test_what_is_no_number(self) -> None:
+        for wrong in ["", "-3", "+3", "3.0", "0x3", "1_0", " 3", "3\n", "three", "\u0663", 100 * "1"]:
+            self.assert_trouble([*EXAMPLE, wrong, "0"], Fake(), "TANK is a decimal number")
+            self.assert_trouble([*EXAMPLE, "14", wrong], Fake(), "SLOT is a decimal number")
+
+    def test_files_that_cannot_be_read(self) -> None:
+        for wrong in [str(HERE / "none"), str(HERE)]:
+            self.assert_trouble([wrong, EXAMPLE[1], "14", "0"], Fake(), f"{wrong} cannot be read")
+            self.assert_trouble([EXAMPLE[0], wrong, "14", "0"], Fake(), f"{wrong} cannot be read")
+
+    def test_bad_hex(self) -> None:
+        for text, words_said in [(b"zz", "something else than hex digits"), (b"012", "half a byte")]:
+            with tempfile.NamedTemporaryFile(suffix=".hex") as file:
+                file.write(text)
+                file.flush()
+                self.assert_trouble([file.name, EXAMPLE[1], "14", "0"], Fake(), words_said)
+                self.assert_trouble([EXAMPLE[0], file.name, "14", "0"], Fake(), words_said)
+
+    def test_a_probe_that_does_not_answer(self) -> None:
+        asked = [*EXAMPLE, "14", "0"]
+        self.assert_trouble(asked, Probe([str(HERE / "none")]), "does not start")
+        self.assert_trouble(asked, Probe(["/bin/sh", "-c", "echo it is not built >&2; exit 2"]), "it is not built")
+        self.assert_trouble(asked, Probe(["/bin/sh", "-c", "printf '\\377'"]), "of another version.* 1 bytes answer T, not 303")
+
+    def test_interrupted(self) -> None:
+        self.assertEqual(ran([*EXAMPLE, "14", "0"], Interrupted()), (130, "", ""))
+
+    def test_closed_pipe_and_full_disk(self) -> None:
+        reading, writing = os.pipe()
+        os.close(reading)
+        with os.fdopen(writing, "wb") as closed, open("/dev/full", "wb") as full:
+            for out, status, text in [(closed, 141, b""), (full, 2, b"why: the answer cannot be written: No space left on device\n")]:
+                run = subprocess.run([sys.executable, PROGRAM, *EXAMPLE, "14", "9"], stdout=out, stderr=subprocess.PIPE)
+                self.assertEqual((run.returncode, run.stderr), (status, text))
+
+
+class AgainstProbe(unittest.TestCase):
+    """The examples, and what 01 says of its own bench. What is passed over meets the last of the picked by 01's order: smaller d; b = 1 before
+    b = 0; if both have b = 1, larger D; lower row.
+    """
+
+    def assert_said(self, table: bytes, trace: bytes, tank: int, slot: int, *expected: object) -> None:
+        self.assertEqual(said(table, trace, tank, slot, Probe()), list(expected))
+
+    # examples/tank-14.hex and its trace. Subtasks as r to d, with b:
+    #   tank 11 (row 0), 3/6: 0-2, 2-4, 4-6, 6-8, 8-10, all b 0.
+    #   tank 12 (row 1), 5/6: i·6/5 is 1.2, 2.4, 3.6, 4.8, 6, 7.2, 8.4: 0-2 b1, 1-3 b1, 2-4 b1, 3-5 b1, 4-6 b0, 6-8 b1, 7-9 b1. All windows
+    #     are of two slots, so D is the next deadline with b = 0: 6 for the first five.
+    #   tank 14 (row 2), 2/5: i·5/2 is 2.5, 5, 7.5, 10: 0-3 b1, 2-5 b0, 5-8 b1, 7-10 b0. It is light: D 0.
+    # Slot by slot, with the next d (and b) of tanks 11, 12, 14:
+    #   0, k = 1: 2 b0, 2 b1, 3: tank 12 first. Tank 14 has the later deadline.
+    #   1, k = 2: 2, 3 b1, 3 b1: tank 11, then tank 12, whose D of 6 is above 0.
+    #   2, k = 2: 4 b0, 4 b1, 3: tank 14, then 12.
+    #   3, k = 2: 4, 5 b1, 5 b0: tank 11, then 12 by its bit.
+    #   4, k = 2: 6 b0, 6 b0, 5: tank 14, then 11, which stands before 12; that D is 0 and 6 does not count with b = 0.
+    #   5, k = 2: tank 11 has had three quanta and starts again at 6; 6 and 8: tanks 12 and 14.
+    #   6, k = 2: 8 b0, 8 b1; tank 14 has had three quanta and starts again at 7.
+    #   7, k = 0: tank 11 has had four and starts again at 8; tanks 12 and 14 are ready. The next d are 10, 9, 10: nobody is late at 8.
+    #   8, k = 2: 10 b0, 9, 10 b0: tank 12, then 11, which stands before 14.
+    def test_example(self) -> None:
+        table, trace = (inputs.read(name) for name in EXAMPLE)
+        one = "but passed over: with 1 core free the one picked was tank"
+        passed = "but passed over: with 2 cores free the last to be picked was tank"
+        for tank, slot, text in [
+            (14, 0, f"Tank 14 was ready in slot 0, {one} 12, which goes ahead by its earlier deadline."),
+            (14, 1, f"Tank 14 was ready in slot 1, {passed} 12, which goes ahead by {GROUP}"),
+            (14, 2, "Tank 14 was picked in slot 2."),
+            (14, 3, f"Tank 14 was ready in slot 3, {passed} 12, which goes ahead by {BIT}"),
+            (12, 4, f"Tank 12 was ready in slot 4, {passed} 11, which goes ahead by {PLACE}"),
+            (11, 5, "Tank 11 was not ready in slot 5: the first slot in which it is ready is 6."),
+            (14, 6, "Tank 14 was not ready in slot 6: the first slot in which it is ready is 7."),
+            (14, 7, "Tank 14 was ready in slot 7, but no core was free."),
+            (11, 7, "Tank 11 was not ready in slot 7: the first slot in which it is ready is 8."),
+            (14, 8, f"Tank 14 was ready in slot 8, {passed} 11, which goes ahead by {PLACE}"),
+        ]:
+            self.assert_said(table, trace, tank, slot, text, 0)
+
+    def test_01s_trace(self) -> None:
+        # Three rows 2/3: 0-2 b1, 1-3 b0, 3-5. In slot 0 all are alike, D 3 too, and the third has the highest row number. Before slot 2 row 0 has had
+        # its two quanta: it is ready again at 3.
+        passed = "but passed over: with 2 cores free the last to be picked was tank 11, which goes ahead by"
+        self.assert_said(TABLE, TRACE, 20, 0, f"Tank 20 was ready in slot 0, {passed} {PLACE}", 0)
+        self.assert_said(TABLE, TRACE, 10, 2, "Tank 10 was not ready in slot 2: the first slot in which it is ready is 3.", 0)
+
+    def test_bench_with_the_bit(self) -> None:
+        # "Plain rows 1/2, 1/2, 2/3, two cores: slot 0 picks rows 0 and 2." All have d 2; only 2/3 has b 1. So the order is row 2, 0, 1.
+        box = table(6, 2, (10, 1, 2, 0, 0), (11, 1, 2, 0, 0), (20, 2, 3, 0, 0))
+        two = "Tank 11 was ready in slot 0, but passed over: with 2 cores free the last to be picked was tank 10, which goes ahead by"
+        one = "Tank 10 was ready in slot 0, but passed over: with 1 core free the one picked was tank 20, which goes ahead by"
+        self.assert_said(box, trace("02020002"), 11, 0, f"{two} {PLACE}", 0)
+        self.assert_said(box, trace("010102"), 10, 0, f"{one} {BIT}", 0)
+
+    def test_bench_with_the_group_deadline(self) -> None:
+        # "Plain rows 2/3, 2/3, 3/4, three cores, k = 1: slot 0 picks row 2." All have d 2 and b 1; D is 3 for 2/3 (its window 1-3 has b 0) and 4
+        # for 3/4 (windows 0-2 b1, 1-3 b1, 2-4 b0).
+        box = table(12, 3, (10, 2, 3, 0, 0), (11, 2, 3, 0, 0), (12, 3, 4, 0, 0))
+        one = "Tank 11 was ready in slot 0, but passed over: with 1 core free the one picked was tank 12, which goes ahead by"
+        self.assert_said(box, trace("010102"), 11, 0, f"{one} {GROUP}", 0)
+
+    def test_early_release(self) -> None:
+        # "One core, early release 2/6: slots 0, 1, 6". A plain row of 2/6 has its second window from 3 on.
+        records = ["010100", "010100", "0100"]
+        self.assert_said(table(6, 1, (14, 2, 6, 0, 1)), trace(*records), 14, 1, "Tank 14 was picked in slot 1.", 0)
+        text = "Tank 14 was not ready in slot 2: the first slot in which it is ready is 6."
+        self.assert_said(table(6, 1, (14, 2, 6, 0, 1)), trace(*records), 14, 2, text, 0)
+        text = "Tank 14 was not ready in slot 1: the first slot in which it is ready is 3."
+        self.assert_said(table(6, 1, (14, 2, 6, 0, 0)), trace("010100", "0100"), 14, 1, text, 0)
+
+    def test_phase(self) -> None:
+        # "2/3 with f = 4, i = 1: 4 to 6". Until then nobody is picked.
+        box, given = table(3, 1, (14, 2, 3, 4, 0)), trace("0100", "0000", "0100", "0100", "010100")
+        for slot in [0, 1, 3]:
+            self.assert_said(box, given, 14, slot, f"Tank 14 was not ready in slot {slot}: the first slot in which it is ready is 4.", 0)
+        self.assert_said(box, given, 14, 4, "Tank 14 was picked in slot 4.", 0)
+
+    def test_late_before_the_slot(self) -> None:
+        # One row 1/2: its windows are 0-2, 2-4. With no core in slots 0 and 1 it is late at 2, and owed 1·2 - 2·0 = 2, which is not below p.
+        # Had it run on, and been picked in slot 2, it would be owed 1·3 - 2·1 = 1 before slot 3, and its second window has begun.
+        box, given = table(2, 1, (14, 1, 2, 0, 0)), trace("0000", "0000", "010100", "010100")
+        late = f"{NOT_OURS}tank 14 was late at the start of slot 2, and there the dispatcher stops."
+        broken = f"{NOT_OURS}before slot 2 a tank had been picked more often, or less often, than its share allows; so there is no answer."
+        self.assert_said(box, given, 14, 1, "Tank 14 was ready in slot 1, but no core was free.", 0)
+        self.assert_said(box, given, 14, 2, late, broken, 1)
+        self.assert_said(box, given, 14, 3, late, "Tank 14 was picked in slot 3.", 1)
+
+    def test_early_before_the_slot(self) -> None:
+        # The same row, picked in slots 0 and 1; its second window begins at 2. Before slot 2 it is owed 2 - 2·2 = -2, which is not above -p; before
+        # slot 3 3 - 4 = -1, and its third window begins at 4.
+        box, given = table(2, 1, (14, 1, 2, 0, 0)), trace("010100", "010100", "0100", "0100")
+        early = f"{NOT_OURS}tank 14 was picked in slot 1, though it was not ready."
+        broken = f"{NOT_OURS}before slot 2 a tank had been picked more often, or less often, than its share allows; so there is no answer."
+        self.assert_said(box, given, 14, 2, early, broken, 1)
+        self.assert_said(box, given, 14, 3, early, "Tank 14 was not ready in slot 3: the first slot in which it is ready is 4.", 1)
+
+    def test_a_record_of_another(self) -> None:
+        # Before slot 1 of 01's example rows 0 and 1 have had a quantum each. Next d: 3, 3, 2: the dispatcher picks row 2, then row 0.
+        for record, names in [("02020001", "tanks 10 and 11"), ("02020200", "tanks 20 and 10"), ("02010000", "tank 10"), ("0200", "no tank")]:
+            given = trace("02020001", record)
+            foreign = f"{NOT_OURS}the record of slot 1 names {names}, and the dispatcher picks tanks 10 and 20."
+            self.assert_said(TABLE, given, 20, 1, foreign, "By the dispatcher's own picks, tank 20 was picked in slot 1.", 1)
+        passed = "but passed over: with 2 cores free the last to be picked was tank 10, which goes ahead by"
+        self.assert_said(TABLE, given, 11, 1, foreign, f"By the dispatcher's own picks, tank 11 was ready in slot 1, {passed} {PLACE}", 1)
+
+    def test_more_cores_than_there_are(self) -> None:
+        text = f"{NOT_OURS}the record of slot 0 says that 3 cores were free, and the table has 2 cores; so there is no answer."
+        self.assert_said(TABLE, trace("03020001"), 10, 0, text, 1)
+        text = f"{NOT_OURS}the record of slot 0 says that 255 cores were free, and the table has 1 core; so there is no answer."
+        self.assert_said(table(2, 1, (14, 1, 2, 0, 0)), trace("FF0100"), 14, 0, text, 1)
+
+    def test_records_that_are_not_well_formed(self) -> None:
+        # Whatever is wrong with slot 0, it names rows 0 and 1, and slot 1 is as above. In the last, row 0 is named twice and has one quantum: next
+        # d in slot 1 is 3, 2, 2, so rows 1 and 2 are picked, row 2 as the last.
+        picked = "Tank 10 was picked in slot 1."
+        for record, text in [
+            ("03020001", "a record before slot 1 says that more cores were free than the table has"),
+            ("01020001", "a record before slot 1 names more tanks than cores were free"),
+            ("02020100", "a record before slot 1 names a tank twice, or tanks out of order"),
+        ]:
+            self.assert_said(TABLE, trace(record, "02020002"), 10, 1, f"{NOT_OURS}{text}.", picked, 1)
+        passed = "but passed over: with 2 cores free the last to be picked was tank 20, which goes ahead by its earlier deadline."
+        twice = trace("02020000", "02020102")
+        self.assert_said(TABLE, twice, 10, 1, f"{NOT_OURS}{text}.", f"Tank 10 was ready in slot 1, {passed}", 1)
+
+    def test_a_count_that_no_trace_has(self) -> None:
+        text = f"{NOT_OURS}it has 1000000001 slots by its count, and 1000000000 is the most."
+        for count, expected in [(1_000_000_000, []), (1_000_000_001, [text])]:
+            given = struct.pack("<I", count) + TRACE[4:8]
+            self.assert_said(TABLE, given, 10, 0, *expected, "Tank 10 was picked in slot 0.", len(expected))
+
+    def test_what_is_not_there(self) -> None:
+        self.assert_said(TABLE[:-1], TRACE, 10, 0, "The table is refused: 10, table ends inside a field or row.", 1)
+        self.assert_said(TABLE, TRACE, 14, 0, "Tank 14 is not in the table, which has tanks 10, 11 and 20.", 1)
+        self.assert_said(TABLE, TRACE, 10, 3, "Slot 3 is not in the trace, which has slots 0 to 2.", 1)
+        self.assert_said(TABLE, TRACE[:-1], 10, 2, "The trace is cut short: the record of slot 2 is not wholly there.", 1)
+        text = f"{NOT_OURS}the record of slot 0 names row 3, counted from 0, and the table has 3 rows."
+        self.assert_said(TABLE, trace("02020003"), 10, 0, text, 1)
+
+    def test_the_longest_check(self) -> None:
+        # A trace of no slots, with bytes behind its count (46), in a request of exactly 1 MiB.
+        self.assertEqual(Probe().check(TABLE, bytes(REQUEST_LIMIT - 1 - 4 - len(TABLE) - 4)), Check(46, 0, 0))
+
+
+class ProgramAgainstProbe(unittest.TestCase):
+    def setUp(self) -> None:
+        folder = tempfile.TemporaryDirectory()
+        self.addCleanup(folder.cleanup)
+        self.table, self.trace, self.link = (os.path.join(folder.name, name) for name in ("table", "trace", "link"))
+        Path(self.table).write_bytes(TABLE)
+        Path(self.trace).write_bytes(TRACE)
+        os.symlink(PROGRAM, self.link)
+
+    def test_files(self) -> None:
+        self.assertEqual(as_process(self.table, self.trace, "10", "1"), (0, "Tank 10 was picked in slot 1.\n", ""))
+        text = "Slot 3 is not in the trace, which has slots 0 to 2.\n"
+        self.assertEqual(as_process(self.table, self.trace, "10", "3", program=self.link), (1, text, ""))
+
+    def test_standard_input(self) -> None:
+        self.assertEqual(as_process("-", self.trace, "10", "1", given=TABLE), (0, "Tank 10 was picked in slot 1.\n", ""))
+        # A record of another: see above.
+        text = f"{NOT_OURS}the record of slot 0 names no tank, and the dispatcher picks tanks 10 and 11.\n"
+        text += "By the dispatcher's own picks, tank 10 was picked in slot 0.\n"
+        self.assertEqual(as_process(self.table, "-", "10", "0", given=trace("0200")), (1, text, ""))
+
+    def test_a_trace_that_does_not_end(self) -> None:
+        reading, writing = os.pipe()
+        with os.fdopen(reading, "rb") as given, os.fdopen(writing, "wb", buffering=0) as kept_open:
+            kept_open.write(TRACE[:12])
+            run = subprocess.run([sys.executable, PROGRAM, self.table, "-", "10", "1"], stdin=given, capture_output=True, timeout=60)
+        self.assertEqual((run.returncode, run.stdout, run.stderr), (0, b"Tank 10 was picked in slot 1.\n", b""))
+
+
+class ThePage(unittest.TestCase):
+    """docs/WHY.md: every example is word for word what the program prints."""
+
+    def test_examples(self) -> None:
+        examples = [block for block in PAGE.read_text().split("\n\n") if block.startswith("    $ ")]
+        reasons = [" was picked in ", " was not ready in ", ", but no core was free.", ", but passed over: "]
+        for reason in reasons:
+            self.assertTrue(any(reason in block for block in examples), reason)
+        for block in examples:
+            command, *expected = [line.removeprefix("    ") for line in block.rstrip("\n").split("\n")]
+            python, program, *arguments = shlex.split(command.removeprefix("$ "))
+            self.assertEqual((python, program), ("python3", "host/desk/why.py"))
+            run = subprocess.run([sys.executable, program, *arguments], capture_output=True, cwd=ROOT)
+            self.assertEqual((run.stdout.decode().splitlines(), run.stderr), (expected, b""))
+
+
+if __name__ == "__main__":
+    unittest.main()

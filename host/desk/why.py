@@ -1,0 +1,204 @@
+"""Why a tank waited in a slot, or that it was picked, in one sentence (02, 'Why did tank 14 wait?').
+
+    python3 host/desk/why.py TABLE TRACE TANK SLOT
+
+TABLE and TRACE are files, byte for byte, or hex text with comments if the name ends in .hex; one of them may be -, standard input. TANK and SLOT
+are decimal numbers.
+
+The state before the slot is the table, with the slot as its time and the quanta that the trace's records before the slot give to each row; the
+slot's own record says how many cores were free. The reason is the probe's answer: no rule of the order stands here. What speaks against the trace
+is said first, a sentence a line, each beginning with the same words.
+
+Exit status: 0 for an answer, where nothing speaks against the trace; 1 if the files were read but the question has no answer for them, or if
+something speaks against the trace; 2 if the program could not do its work, for its arguments, the files or the probe.
+"""
+from __future__ import annotations
+
+import re
+import sys
+from dataclasses import dataclass
+from typing import BinaryIO
+
+import endings
+import inputs
+import traces
+import words
+from probe import LATE, Check, Probe, State, Table, Trouble, Why, first_cores
+from traces import NoAnswer, Past
+
+USE = "name a table, a trace, a tank and a slot: python3 host/desk/why.py TABLE TRACE TANK SLOT"
+SLOT_LIMIT = 1_000_000_000  # the most slots of a trace
+
+PICKED, NOT_READY, NO_CORE_FREE, PASSED_OVER = 1, 2, 3, 4
+RULES = {
+    1: "its earlier deadline",
+    2: "its bit (the deadlines are the same, but only its window overlaps its next one)",
+    3: "its later group deadline (deadlines and bits are the same)",
+    4: "its earlier place in the table (nothing else decides between the two)",
+}
+
+
+@dataclass(frozen=True)
+class Case:
+    """A question, with the row of its tank and what the trace says up to its slot."""
+
+    table: Table
+    tank: int
+    row: int
+    slot: int
+    past: Past
+
+    @property
+    def k(self) -> int:
+        """How many cores were free in the slot."""
+        return self.past.record[0]
+
+    @property
+    def state(self) -> State:
+        """The state before the slot."""
+        return self.table.at(self.slot, self.past.quanta)
+
+
+@dataclass(frozen=True)
+class Said:
+    """What is printed, a sentence a line, and the exit status."""
+
+    sentences: tuple[str, ...]
+    status: int
+
+
+def said(table: bytes, trace: BinaryIO, tank: int, slot: int, probe: Probe) -> Said:
+    """What is said of a tank in a slot. Of the trace no more is read than is needed."""
+    try:
+        case = read_case(table, trace, tank, slot, probe)
+    except NoAnswer as none:
+        return Said((str(none),), 1)
+    checked = probe.check(table, slot.to_bytes(4, "little") + case.past.before)
+    notes = [] if checked else [f"The records before slot {slot} were not checked: they are more than the probe reads."]
+    against = count_faults(case) + check_faults(checked, case)
+    why = probe.why(case.state, case.k, case.row)
+    if why.number != 0:
+        return Said((*notes, *against_trace(against + [refusal(why.number, case)])), 1)
+    picked = dispatched(case, probe)
+    against += record_faults(picked, case)
+    return Said((*notes, *against_trace(against), answer(why, picked, case)), 1 if against else 0)
+
+
+def read_case(table: bytes, trace: BinaryIO, tank: int, slot: int, probe: Probe) -> Case:
+    taken = probe.read_table(table)
+    if taken.number != 0:
+        raise NoAnswer(f"The table is refused: {words.of_number(taken.number)}.")
+    if tank not in taken.tanks:
+        raise NoAnswer(f"Tank {tank} is not in the table, which has {words.listed(taken.tanks)}.")
+    past = traces.read(trace, slot, len(taken.tanks))
+    return Case(taken, tank, taken.tanks.index(tank), slot, past)
+
+
+def against_trace(faults: list[str]) -> list[str]:
+    return [f"{words.NOT_OURS}{fault}." for fault in faults]
+
+
+def count_faults(case: Case) -> list[str]:
+    """What is wrong with the trace's own count, which the check is not shown: it sees a trace that ends before the slot."""
+    if case.past.slots <= SLOT_LIMIT:
+        return []
+    return [f"it has {case.past.slots} slots by its count, and {SLOT_LIMIT} is the most"]
+
+
+def check_faults(checked: Check | None, case: Case) -> list[str]:
+    """What the trace check found in the records before the slot, if it could be asked."""
+    if checked is None or checked.number == 0:
+        return []
+    record, tank = f"a record before slot {case.slot}", f"tank {case.table.tank(checked.row)}"
+    found = {
+        41: f"{record} says that more cores were free than the table has",
+        42: f"{record} names more tanks than cores were free",
+        43: f"{record} names a tank twice, or tanks out of order",  # of a row that the table has not, the reading has told
+        44: f"{tank} was picked in slot {checked.time}, though it was not ready",
+        45: f"{tank} was late at the start of slot {checked.time}, and there the dispatcher stops",
+    }
+    return [found.get(checked.number, f"{record} does not pass the trace check ({words.of_number(checked.number)})")]
+
+
+def refusal(number: int, case: Case) -> str:
+    """Why there is no answer for the state before the slot and its k."""
+    has = words.counted(case.table.cores, "core")
+    refused = {
+        30: f"before slot {case.slot} a tank had been picked more often, or less often, than its share allows",
+        31: f"a tank was late before slot {case.slot}, and there the dispatcher stops",
+        32: f"slot {case.slot} is past the last slot of the dispatcher",
+        33: f"the record of slot {case.slot} says that {words.counted(case.k, 'core')} were free, and the table has {has}",
+    }
+    if number not in refused:
+        raise Trouble(f"the probe is of another version: it refuses with number {number}")
+    return f"{refused[number]}; so there is no answer"
+
+
+def dispatched(case: Case, probe: Probe) -> bytes:
+    """The record that the dispatcher writes for the slot. Which cores were free, and who ran where before, no trace says; no pick hangs on it."""
+    slot = probe.run_slot(case.state, first_cores(case.k))
+    if slot.number > LATE:
+        raise Trouble(f"the probe contradicts itself: it answers for slot {case.slot}, and refuses to run it with number {slot.number}")
+    return slot.record
+
+
+def record_faults(picked: bytes, case: Case) -> list[str]:
+    """How the slot's record differs from the one that the dispatcher writes."""
+    if case.past.record == picked:
+        return []
+    theirs, ours = (words.listed([case.table.tank(row) for row in record[2:]]) for record in (case.past.record, picked))
+    return [f"the record of slot {case.slot} names {theirs}, and the dispatcher picks {ours}"]
+
+
+def answer(why: Why, picked: bytes, case: Case) -> str:
+    """The one sentence. Where the record is not the dispatcher's, 'was picked' would say of the box what it did not do."""
+    subject = "Tank" if case.past.record == picked else "By the dispatcher's own picks, tank"
+    return f"{subject} {case.tank} {reason(why, case)}."
+
+
+def reason(why: Why, case: Case) -> str:
+    if why.reason == PICKED:
+        return f"was picked in slot {case.slot}"
+    if why.reason == NOT_READY:
+        return f"was not ready in slot {case.slot}: the first slot in which it is ready is {why.first_slot}"
+    if why.reason == NO_CORE_FREE:
+        return f"was ready in slot {case.slot}, but no core was free"
+    if why.reason == PASSED_OVER and why.rule in RULES:
+        return f"was ready in slot {case.slot}, but passed over: {ahead(why, case)}"
+    raise Trouble(f"the probe is of another version: it gives reason {why.reason} with rule {why.rule}")
+
+
+def ahead(why: Why, case: Case) -> str:
+    """'the lowest-ranked picked row and the rule that put it ahead'. Whoever is passed over finds all free cores taken."""
+    last = "the one picked" if case.k == 1 else "the last to be picked"
+    return f"with {words.counted(case.k, 'core')} free {last} was tank {case.table.tank(why.row)}, which goes ahead by {RULES[why.rule]}"
+
+
+def main(arguments: list[str], probe: Probe) -> int:
+    """Prints the answer to the question that the arguments ask, and returns the exit status."""
+    return endings.status("why", lambda: run(arguments, probe))
+
+
+def run(arguments: list[str], probe: Probe) -> int:
+    if len(arguments) != 4 or any(name.startswith("-") and name != "-" for name in arguments[:2]):
+        raise Trouble(USE)
+    if arguments[:2] == ["-", "-"]:
+        raise Trouble(f"only one of the two files can be standard input; {USE}")
+    tank, slot = decimal(arguments[2], "TANK"), decimal(arguments[3], "SLOT")
+    table = inputs.read(arguments[0])
+    with inputs.opened(arguments[1]) as trace:
+        result = said(table, trace, tank, slot, probe)
+    for sentence in result.sentences:
+        endings.show(sentence, "answer")
+    return result.status
+
+
+def decimal(text: str, what: str) -> int:
+    """A number that is written in digits alone, without a sign."""
+    if not re.fullmatch("[0-9]{1,99}", text):  # Python itself does not take any number of digits
+        raise Trouble(f"{what} is a decimal number, of digits alone, and not {text!r}; {USE}")
+    return int(text)
+
+
+if __name__ == "__main__":
+    sys.exit(main(sys.argv[1:], Probe()))
