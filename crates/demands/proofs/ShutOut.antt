@@ -35,8 +35,7 @@ use Rattle.cores.specs.Cores.{wanted, leftOver, inTurn, coresFor}
 use Rattle.dispatcher.specs.Broken.{broken}
 use Rattle.dispatcher.specs.Slot.{picksIn, SlotReply, refusal, slotOf}
 use Rattle.why.specs.declared.Rule.the-variants.{GroupDeadline, RowNumber}
-use Rattle.why.specs.declared.Answer.{Answer}
-use Rattle.why.specs.declared.Answer.the-variants.{Picked, NotReady, PassedOver}
+use Rattle.why.specs.declared.Answer.the-variants.{NotReady, PassedOver}
 use Rattle.why.specs.Rules.{ruleFor}
 use Rattle.why.specs.Lowest.{lowestPicked}
 use Rattle.why.specs.Answer.{rulePlace, toldOf}

@@ -1,10 +1,10 @@
--- The laws of the lowest number that passes. Assumes nothing.
+-- The laws of the lowest number that passes, and of the first place that fits. Assumes nothing.
 use mathlib.Core.Path.{_≡_, refl, sym, ap, _∙_}
 use mathlib.Core.Bool.{Bool, true, false, true≢false}
 use Prim.Native.Nat.{ℕ, zero, suc, _<_}
 use native.Mathlib.Decide.{decLt}
 use native.Mathlib.Omega.{arith}
-use Rattle.facts.specs.First.{Lowest}
+use Rattle.facts.specs.First.{IsFirst, Lowest}
 
 -- There is one lowest number that passes,
 pub lowest-is-one : (a : ℕ → Bool) (n i j : ℕ) → Lowest a n i → Lowest a n j → i ≡ j
@@ -37,3 +37,12 @@ a-lowest a (suc n) = let below = a-lowest a n in go (decLt (below .0) n) (a n) r
         last : (j : ℕ) → j < suc n → Dec (j < n) → a j ≡ false
         last j m (yes k) = low .none-before j (omega (arith, low .within))
         last j m (no k) = ap a {x = j} {y = n} (omega arith) ∙ e
+
+-- There is one first place that fits.
+pub first-is-one : (fits : ℕ → Bool) (i a b : ℕ) → IsFirst fits i a → IsFirst fits i b → a ≡ b
+first-is-one fits i a b p q = go (decLt a b) (decLt b a)
+  where
+    go : Dec (a < b) → Dec (b < a) → a ≡ b
+    go (yes l) w = absurd (true≢false (sym (p .fit) ∙ q .none-before a (p .from) l))
+    go (no l) (yes m) = absurd (true≢false (sym (q .fit) ∙ p .none-before b (q .from) m))
+    go (no l) (no m) = omega arith

@@ -3,7 +3,7 @@ use Prim.Native.Nat.{ℕ, _-_, _<_}
 use mathlib.Core.Path.{_≡_, refl, sym, ap, subst, _∙_}
 use mathlib.Core.Bool.{Bool, true, false, not, true≢false}
 use mathlib.Core.Logic.{⊎-elim}
-use native.Mathlib.Decide.{ℕ-discrete, decLt}
+use native.Mathlib.Decide.{ℕ-discrete}
 use native.Mathlib.Omega.{arith}
 use borrow.Author.Tests.{lt-ltb, le-leb, lt-leb, ltb-true, leb-false, not-true}
 use lib.Dec.{ltb, leb}
@@ -36,15 +36,6 @@ use Rattle.why.proofs.Lowest.{one-before, not-both-ways, strict-among-p
 ready-from : (row : Row) (q t : ℕ) → ready row q t ≡ leb (readyFrom row q) t
 unfolding readyFrom
 ready-from = ready-from-start
-
--- The first slot that fits is one.
-pub first-is-one : (fits : ℕ → Bool) (i a b : ℕ) → IsFirst fits i a → IsFirst fits i b → a ≡ b
-first-is-one fits i a b p q = go (decLt a b) (decLt b a)
-  where
-    go : Dec (a < b) → Dec (b < a) → a ≡ b
-    go (yes l) w = absurd (true≢false (sym (p .fit) ∙ q .none-before a (p .from) l))
-    go (no l) (yes m) = absurd (true≢false (sym (q .fit) ∙ p .none-before b (q .from) m))
-    go (no l) (no m) = omega arith
 
 -- A row that is not ready will be, from that slot on and not before.
 pub first-ready : (s : State) (row : ℕ) → isReady s row (timeOf s) ≡ false → IsFirst (isReady s row) (timeOf s) (readyFromIn s row)

@@ -9,6 +9,7 @@ use lib.Dec.{ltb}
 use lib.ListN.{length}
 use Rattle.facts.specs.Findings.{NoneFound}
 use Rattle.facts.proofs.Findings.{none-says-otherwise}
+use Rattle.facts.proofs.First.{first-is-one}
 use Rattle.trace.specs.Records.{names}
 use Rattle.dispatcher.specs.declared.State.{State}
 use Rattle.dispatcher.specs.State.{rowsIn, timeOf}
@@ -18,11 +19,11 @@ use Rattle.why.specs.declared.Answer.the-variants.{Picked, NotReady, NoC
 use Rattle.why.specs.Rules.{ruleFor}
 use Rattle.why.specs.Lowest.{LowestPicked}
 use Rattle.why.specs.Reasons.{isReady, rankIn, goesBefore, Holds}
-use Rattle.why.specs.Why.{readyFromIn, lowestIn, reasonOf, whyTests, whyOf, TrueAndOnly, ReasonIsTrueAndOnly}
+use Rattle.why.specs.Why.{readyFromIn, lowestIn, reasonOf, whyTests, whyOf, ReasonIsTrueAndOnly}
 use Rattle.why.proofs.Rules.{one-rule}
 use Rattle.why.proofs.Lowest.{one-lowest}
 use Rattle.why.proofs.Refused.{none-if-answered}
-use Rattle.why.proofs.Picked.{first-is-one, first-ready, unready-is-not-named, nobody-without-core, strict-among-named, somebody, goes-ahead, behind-is-not-named}
+use Rattle.why.proofs.Picked.{first-ready, unready-is-not-named, nobody-without-core, strict-among-named, somebody, goes-ahead, behind-is-not-named}
 
 module _ (s : State) (k row : ℕ) where
   -- What is computed in each case.
