@@ -1,6 +1,7 @@
 """How the programs of this folder print, and how they end when something stops them."""
 from __future__ import annotations
 
+import contextlib
 import os
 import sys
 from typing import Callable
@@ -13,7 +14,8 @@ def status(name: str, work: Callable[[], int]) -> int:
     try:
         return work()
     except Trouble as trouble:
-        print(f"{name}: {trouble}", file=sys.stderr)
+        with contextlib.suppress(OSError):  # where there is nobody to tell, the status still says it
+            print(f"{name}: {trouble}", file=sys.stderr, flush=True)
         return 2
     except KeyboardInterrupt:
         return 130  # as a shell says it of a program that Ctrl-C has ended
@@ -23,6 +25,8 @@ def status(name: str, work: Callable[[], int]) -> int:
 
 def show(line: str, whole: str) -> None:
     """Prints a line of a whole, such as a listing, at once, so that a long run shows as it goes."""
+    if sys.stdout is None:
+        raise Trouble(f"the {whole} cannot be written: standard output is closed")
     try:
         print(line, flush=True)
     except OSError as error:

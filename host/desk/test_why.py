@@ -26,8 +26,8 @@ EXAMPLE = [str(ROOT / "examples" / "tank-14.hex"), str(ROOT / "examples" / "tank
 PAGE = ROOT / "docs" / "WHY.md"
 
 NOT_OURS = "This trace is not the dispatcher's for this table: "
-BIT = "its bit (the deadlines are the same, but only its window overlaps its next one)."
-GROUP = "its later group deadline (deadlines and bits are the same)."
+BIT = "its bit (the deadlines are the same, but only tank {} has a window that overlaps its own next one)."
+GROUP = "its later group deadline (the deadlines are the same, and both have the bit)."
 PLACE = "its earlier place in the table (nothing else decides between the two)."
 
 # 01's trace of its example: slot 0 picks rows 0 and 1, slot 1 rows 0 and 2, slot 2 rows 1 and 2.
@@ -195,7 +195,6 @@ class WithoutAnswer(unittest.TestCase):
     def test_refused_states(self) -> None:
         for number, text in [
             (30, "before slot 1 a tank had been picked more often, or less often, than its share allows"),
-            (31, "a tank was late before slot 1, and there the dispatcher stops"),
             (32, "slot 1 is past the last slot of the dispatcher"),
             (33, "the record of slot 1 says that 2 cores were free, and the table has 2 cores"),
         ]:
@@ -203,8 +202,14 @@ class WithoutAnswer(unittest.TestCase):
             self.assertEqual(said(TABLE, TRACE, 10, 1, fake), [f"{NOT_OURS}{text}; so there is no answer.", 1])
             self.assertEqual([request[:1] for request in fake.requests], [b"T", b"C", b"Y"])
 
+    def test_a_state_whose_fault_was_told(self) -> None:
+        fake = Fake(TAKEN, check_answer(45, 1, 1), why_answer(30))
+        late = f"{NOT_OURS}tank 11 was late at the start of slot 1, and there the dispatcher stops."
+        self.assertEqual(said(TABLE, TRACE, 10, 1, fake), [late, "So there is no answer for slot 1.", 1])
+
     def test_what_only_another_probe_says(self) -> None:
         for answers in [
+            [why_answer(31)],  # no state is asked about that is stopped
             [why_answer(36)],
             [why_answer(0, 0), slot_answer(0, b"\2\2\0\2")],
             [why_answer(0, 5), slot_answer(0, b"\2\2\0\2")],
@@ -259,10 +264,23 @@ class Asking(unittest.TestCase):
                 f"{NOT_OURS}it has 4294967295 slots by its count, and 1000000000 is the most.",
                 f"{NOT_OURS}tank 11 was late at the start of slot 1, and there the dispatcher stops.",
                 f"{NOT_OURS}the record of slot 1 names tank 11, and the dispatcher picks tank 20.",
-                "By the dispatcher's own picks, tank 10 was not ready in slot 1: the first slot in which it is ready is 4294967296.",
+                "By the dispatcher's rules tank 10 was not ready in slot 1: the first slot in which it is ready is 4294967296, past the last.",
                 1,
             ],
         )
+
+    def test_a_slot_that_never_runs(self) -> None:
+        # The last slot has the number 999,999,999.
+        for first, text in [(999_999_999, "999999999."), (1_000_000_000, "1000000000, past the last.")]:
+            fake = Fake(TAKEN, check_answer(), why_answer(0, 2, first), slot_answer(0, b"\2\2\0\2"))
+            self.assertEqual(said(TABLE, TRACE, 10, 1, fake), [f"Tank 10 was not ready in slot 1: the first slot in which it is ready is {text}", 0])
+
+    def test_a_record_with_more_tanks_than_cores(self) -> None:
+        for many, names in [(8, "tanks 10, 10, 10, 10, 10, 10, 10 and 10"), (9, "9 tanks")]:
+            given = TRACE[:8] + bytes([2, many]) + bytes(many)
+            fake = Fake(TAKEN, check_answer(), why_answer(0, 1), slot_answer(0, b"\2\2\0\2"))
+            foreign = f"{NOT_OURS}the record of slot 1 names {names}, and the dispatcher picks tanks 10 and 20."
+            self.assertEqual(said(TABLE, given, 10, 1, fake), [foreign, "By the dispatcher's rules tank 10 was picked in slot 1.", 1])
 
     def test_a_past_that_is_too_long_to_be_checked(self) -> None:
         # 4,081 records of 257 bytes are 1,048,817 bytes, and 1 MiB is 1,048,576.
@@ -319,6 +337,14 @@ class Endings(unittest.TestCase):
                 run = subprocess.run([sys.executable, PROGRAM, *EXAMPLE, "14", "9"], stdout=out, stderr=subprocess.PIPE)
                 self.assertEqual((run.returncode, run.stderr), (status, text))
 
+    def test_nobody_to_tell(self) -> None:
+        # No standard output, and no room for what is said of it.
+        words_said = b"why: the answer cannot be written: standard output is closed\n"
+        for errors, text in [("", words_said), ("2>/dev/full", b"")]:
+            command = f"{shlex.join([sys.executable, PROGRAM, *EXAMPLE, '14', '9'])} >&- {errors}"
+            run = subprocess.run(["/bin/sh", "-c", command], stderr=subprocess.PIPE)
+            self.assertEqual((run.returncode, run.stderr), (2, text))
+
 
 class AgainstProbe(unittest.TestCase):
     """The examples, and what 01 says of its own bench. What is passed over meets the last of the picked by 01's order: smaller d; b = 1 before
@@ -346,12 +372,12 @@ class AgainstProbe(unittest.TestCase):
     def test_example(self) -> None:
         table, trace = (inputs.read(name) for name in EXAMPLE)
         one = "but passed over: with 1 core free the one picked was tank"
-        passed = "but passed over: with 2 cores free the last to be picked was tank"
+        passed = "but passed over: with 2 cores free the last in line to be picked was tank"
         for tank, slot, text in [
             (14, 0, f"Tank 14 was ready in slot 0, {one} 12, which goes ahead by its earlier deadline."),
             (14, 1, f"Tank 14 was ready in slot 1, {passed} 12, which goes ahead by {GROUP}"),
             (14, 2, "Tank 14 was picked in slot 2."),
-            (14, 3, f"Tank 14 was ready in slot 3, {passed} 12, which goes ahead by {BIT}"),
+            (14, 3, f"Tank 14 was ready in slot 3, {passed} 12, which goes ahead by {BIT.format(12)}"),
             (12, 4, f"Tank 12 was ready in slot 4, {passed} 11, which goes ahead by {PLACE}"),
             (11, 5, "Tank 11 was not ready in slot 5: the first slot in which it is ready is 6."),
             (14, 6, "Tank 14 was not ready in slot 6: the first slot in which it is ready is 7."),
@@ -364,17 +390,17 @@ class AgainstProbe(unittest.TestCase):
     def test_01s_trace(self) -> None:
         # Three rows 2/3: 0-2 b1, 1-3 b0, 3-5. In slot 0 all are alike, D 3 too, and the third has the highest row number. Before slot 2 row 0 has had
         # its two quanta: it is ready again at 3.
-        passed = "but passed over: with 2 cores free the last to be picked was tank 11, which goes ahead by"
+        passed = "but passed over: with 2 cores free the last in line to be picked was tank 11, which goes ahead by"
         self.assert_said(TABLE, TRACE, 20, 0, f"Tank 20 was ready in slot 0, {passed} {PLACE}", 0)
         self.assert_said(TABLE, TRACE, 10, 2, "Tank 10 was not ready in slot 2: the first slot in which it is ready is 3.", 0)
 
     def test_bench_with_the_bit(self) -> None:
         # "Plain rows 1/2, 1/2, 2/3, two cores: slot 0 picks rows 0 and 2." All have d 2; only 2/3 has b 1. So the order is row 2, 0, 1.
         box = table(6, 2, (10, 1, 2, 0, 0), (11, 1, 2, 0, 0), (20, 2, 3, 0, 0))
-        two = "Tank 11 was ready in slot 0, but passed over: with 2 cores free the last to be picked was tank 10, which goes ahead by"
+        two = "Tank 11 was ready in slot 0, but passed over: with 2 cores free the last in line to be picked was tank 10, which goes ahead by"
         one = "Tank 10 was ready in slot 0, but passed over: with 1 core free the one picked was tank 20, which goes ahead by"
         self.assert_said(box, trace("02020002"), 11, 0, f"{two} {PLACE}", 0)
-        self.assert_said(box, trace("010102"), 10, 0, f"{one} {BIT}", 0)
+        self.assert_said(box, trace("010102"), 10, 0, f"{one} {BIT.format(20)}", 0)
 
     def test_bench_with_the_group_deadline(self) -> None:
         # "Plain rows 2/3, 2/3, 3/4, three cores, k = 1: slot 0 picks row 2." All have d 2 and b 1; D is 3 for 2/3 (its window 1-3 has b 0) and 4
@@ -404,7 +430,7 @@ class AgainstProbe(unittest.TestCase):
         # Had it run on, and been picked in slot 2, it would be owed 1·3 - 2·1 = 1 before slot 3, and its second window has begun.
         box, given = table(2, 1, (14, 1, 2, 0, 0)), trace("0000", "0000", "010100", "010100")
         late = f"{NOT_OURS}tank 14 was late at the start of slot 2, and there the dispatcher stops."
-        broken = f"{NOT_OURS}before slot 2 a tank had been picked more often, or less often, than its share allows; so there is no answer."
+        broken = "So there is no answer for slot 2."
         self.assert_said(box, given, 14, 1, "Tank 14 was ready in slot 1, but no core was free.", 0)
         self.assert_said(box, given, 14, 2, late, broken, 1)
         self.assert_said(box, given, 14, 3, late, "Tank 14 was picked in slot 3.", 1)
@@ -414,7 +440,7 @@ class AgainstProbe(unittest.TestCase):
         # slot 3 3 - 4 = -1, and its third window begins at 4.
         box, given = table(2, 1, (14, 1, 2, 0, 0)), trace("010100", "010100", "0100", "0100")
         early = f"{NOT_OURS}tank 14 was picked in slot 1, though it was not ready."
-        broken = f"{NOT_OURS}before slot 2 a tank had been picked more often, or less often, than its share allows; so there is no answer."
+        broken = "So there is no answer for slot 2."
         self.assert_said(box, given, 14, 2, early, broken, 1)
         self.assert_said(box, given, 14, 3, early, "Tank 14 was not ready in slot 3: the first slot in which it is ready is 4.", 1)
 
@@ -423,9 +449,9 @@ class AgainstProbe(unittest.TestCase):
         for record, names in [("02020001", "tanks 10 and 11"), ("02020200", "tanks 20 and 10"), ("02010000", "tank 10"), ("0200", "no tank")]:
             given = trace("02020001", record)
             foreign = f"{NOT_OURS}the record of slot 1 names {names}, and the dispatcher picks tanks 10 and 20."
-            self.assert_said(TABLE, given, 20, 1, foreign, "By the dispatcher's own picks, tank 20 was picked in slot 1.", 1)
-        passed = "but passed over: with 2 cores free the last to be picked was tank 10, which goes ahead by"
-        self.assert_said(TABLE, given, 11, 1, foreign, f"By the dispatcher's own picks, tank 11 was ready in slot 1, {passed} {PLACE}", 1)
+            self.assert_said(TABLE, given, 20, 1, foreign, "By the dispatcher's rules tank 20 was picked in slot 1.", 1)
+        passed = "but passed over: with 2 cores free the last in line to be picked was tank 10, which goes ahead by"
+        self.assert_said(TABLE, given, 11, 1, foreign, f"By the dispatcher's rules tank 11 was ready in slot 1, {passed} {PLACE}", 1)
 
     def test_more_cores_than_there_are(self) -> None:
         text = f"{NOT_OURS}the record of slot 0 says that 3 cores were free, and the table has 2 cores; so there is no answer."
@@ -443,7 +469,7 @@ class AgainstProbe(unittest.TestCase):
             ("02020100", "a record before slot 1 names a tank twice, or tanks out of order"),
         ]:
             self.assert_said(TABLE, trace(record, "02020002"), 10, 1, f"{NOT_OURS}{text}.", picked, 1)
-        passed = "but passed over: with 2 cores free the last to be picked was tank 20, which goes ahead by its earlier deadline."
+        passed = "but passed over: with 2 cores free the last in line to be picked was tank 20, which goes ahead by its earlier deadline."
         twice = trace("02020000", "02020102")
         self.assert_said(TABLE, twice, 10, 1, f"{NOT_OURS}{text}.", f"Tank 10 was ready in slot 1, {passed}", 1)
 
@@ -484,7 +510,7 @@ class ProgramAgainstProbe(unittest.TestCase):
         self.assertEqual(as_process("-", self.trace, "10", "1", given=TABLE), (0, "Tank 10 was picked in slot 1.\n", ""))
         # A record of another: see above.
         text = f"{NOT_OURS}the record of slot 0 names no tank, and the dispatcher picks tanks 10 and 11.\n"
-        text += "By the dispatcher's own picks, tank 10 was picked in slot 0.\n"
+        text += "By the dispatcher's rules tank 10 was picked in slot 0.\n"
         self.assertEqual(as_process(self.table, "-", "10", "0", given=trace("0200")), (1, text, ""))
 
     def test_a_trace_that_does_not_end(self) -> None:

@@ -36,7 +36,7 @@ def read(file: BinaryIO, slot: int, rows: int) -> Past:
         record = read_record(file, earlier, rows)
         for row in set(record[2:]):  # a quantum is a record that names the row, however often it does
             quanta[row] += 1
-        if len(before) <= REQUEST_LIMIT:  # a longer past cannot be checked, so that it need not be kept
+        if len(before) <= REQUEST_LIMIT:  # a past that is longer by itself makes a request that is not sent, so that the rest need not be kept
             before += record
     return Past(slots, bytes(before), tuple(quanta), read_record(file, slot, rows))
 

@@ -23,17 +23,17 @@ import endings
 import inputs
 import traces
 import words
-from probe import LATE, Check, Probe, State, Table, Trouble, Why, first_cores
+from probe import CORES, LATE, Check, Probe, State, Table, Trouble, Why, first_cores
 from traces import NoAnswer, Past
 
 USE = "name a table, a trace, a tank and a slot: python3 host/desk/why.py TABLE TRACE TANK SLOT"
-SLOT_LIMIT = 1_000_000_000  # the most slots of a trace
+TRACE_LIMIT = 1_000_000_000  # the most slots of a trace; the dispatcher itself runs no slot with this number or a higher one
 
 PICKED, NOT_READY, NO_CORE_FREE, PASSED_OVER = 1, 2, 3, 4
 RULES = {
     1: "its earlier deadline",
-    2: "its bit (the deadlines are the same, but only its window overlaps its next one)",
-    3: "its later group deadline (deadlines and bits are the same)",
+    2: "its bit (the deadlines are the same, but only tank {tank} has a window that overlaps its own next one)",
+    3: "its later group deadline (the deadlines are the same, and both have the bit)",
     4: "its earlier place in the table (nothing else decides between the two)",
 }
 
@@ -78,7 +78,7 @@ def said(table: bytes, trace: BinaryIO, tank: int, slot: int, probe: Probe) -> S
     against = count_faults(case) + check_faults(checked, case)
     why = probe.why(case.state, case.k, case.row)
     if why.number != 0:
-        return Said((*notes, *against_trace(against + [refusal(why.number, case)])), 1)
+        return Said((*notes, *against_trace(against), refused(why.number, against, case)), 1)
     picked = dispatched(case, probe)
     against += record_faults(picked, case)
     return Said((*notes, *against_trace(against), answer(why, picked, case)), 1 if against else 0)
@@ -100,9 +100,9 @@ def against_trace(faults: list[str]) -> list[str]:
 
 def count_faults(case: Case) -> list[str]:
     """What is wrong with the trace's own count, which the check is not shown: it sees a trace that ends before the slot."""
-    if case.past.slots <= SLOT_LIMIT:
+    if case.past.slots <= TRACE_LIMIT:
         return []
-    return [f"it has {case.past.slots} slots by its count, and {SLOT_LIMIT} is the most"]
+    return [f"it has {case.past.slots} slots by its count, and {TRACE_LIMIT} is the most"]
 
 
 def check_faults(checked: Check | None, case: Case) -> list[str]:
@@ -120,18 +120,19 @@ def check_faults(checked: Check | None, case: Case) -> list[str]:
     return [found.get(checked.number, f"{record} does not pass the trace check ({words.of_number(checked.number)})")]
 
 
-def refusal(number: int, case: Case) -> str:
-    """Why there is no answer for the state before the slot and its k."""
+def refused(number: int, against: list[str], case: Case) -> str:
+    """Why there is no answer for the state before the slot and its k. A broken state has been told of, if what broke it has."""
     has = words.counted(case.table.cores, "core")
-    refused = {
+    causes = {
         30: f"before slot {case.slot} a tank had been picked more often, or less often, than its share allows",
-        31: f"a tank was late before slot {case.slot}, and there the dispatcher stops",
         32: f"slot {case.slot} is past the last slot of the dispatcher",
         33: f"the record of slot {case.slot} says that {words.counted(case.k, 'core')} were free, and the table has {has}",
     }
-    if number not in refused:
+    if number not in causes:
         raise Trouble(f"the probe is of another version: it refuses with number {number}")
-    return f"{refused[number]}; so there is no answer"
+    if number == 30 and against:
+        return f"So there is no answer for slot {case.slot}."
+    return f"{words.NOT_OURS}{causes[number]}; so there is no answer."
 
 
 def dispatched(case: Case, probe: Probe) -> bytes:
@@ -146,13 +147,19 @@ def record_faults(picked: bytes, case: Case) -> list[str]:
     """How the slot's record differs from the one that the dispatcher writes."""
     if case.past.record == picked:
         return []
-    theirs, ours = (words.listed([case.table.tank(row) for row in record[2:]]) for record in (case.past.record, picked))
+    theirs, ours = (tanks_of(record, case) for record in (case.past.record, picked))
     return [f"the record of slot {case.slot} names {theirs}, and the dispatcher picks {ours}"]
+
+
+def tanks_of(record: bytes, case: Case) -> str:
+    """The tanks that a record names; of more than there can be cores, only how many."""
+    named = [case.table.tank(row) for row in record[2:]]
+    return words.listed(named) if len(named) <= CORES else words.counted(len(named), "tank")
 
 
 def answer(why: Why, picked: bytes, case: Case) -> str:
     """The one sentence. Where the record is not the dispatcher's, 'was picked' would say of the box what it did not do."""
-    subject = "Tank" if case.past.record == picked else "By the dispatcher's own picks, tank"
+    subject = "Tank" if case.past.record == picked else "By the dispatcher's rules tank"
     return f"{subject} {case.tank} {reason(why, case)}."
 
 
@@ -160,7 +167,8 @@ def reason(why: Why, case: Case) -> str:
     if why.reason == PICKED:
         return f"was picked in slot {case.slot}"
     if why.reason == NOT_READY:
-        return f"was not ready in slot {case.slot}: the first slot in which it is ready is {why.first_slot}"
+        never = ", past the last" if why.first_slot >= TRACE_LIMIT else ""
+        return f"was not ready in slot {case.slot}: the first slot in which it is ready is {why.first_slot}{never}"
     if why.reason == NO_CORE_FREE:
         return f"was ready in slot {case.slot}, but no core was free"
     if why.reason == PASSED_OVER and why.rule in RULES:
@@ -170,8 +178,9 @@ def reason(why: Why, case: Case) -> str:
 
 def ahead(why: Why, case: Case) -> str:
     """'the lowest-ranked picked row and the rule that put it ahead'. Whoever is passed over finds all free cores taken."""
-    last = "the one picked" if case.k == 1 else "the last to be picked"
-    return f"with {words.counted(case.k, 'core')} free {last} was tank {case.table.tank(why.row)}, which goes ahead by {RULES[why.rule]}"
+    last = "the one picked" if case.k == 1 else "the last in line to be picked"
+    tank = case.table.tank(why.row)
+    return f"with {words.counted(case.k, 'core')} free {last} was tank {tank}, which goes ahead by {RULES[why.rule].format(tank=tank)}"
 
 
 def main(arguments: list[str], probe: Probe) -> int:

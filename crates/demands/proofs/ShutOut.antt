@@ -2,12 +2,12 @@
 use Prim.Native.Nat.{ℕ}
 use mathlib.Core.Path.{_≡_, refl, sym, ap, _∙_}
 use mathlib.Core.List.{List, [], _∷_}
-use mathlib.Core.Bool.{Bool, true, false}
+use mathlib.Core.Bool.{Bool, true, false, _&&_, true≢false}
 use native.Mathlib.Omega.{arith}
 use lib.ListN.{length, getD, take, replicate}
 use Rattle.facts.specs.Rounding.{ceilDiv}
 use Rattle.facts.specs.First.{atFirst}
-use Rattle.facts.specs.Counting.{howMany, those}
+use Rattle.facts.specs.Counting.{some, howMany, those}
 use Rattle.facts.specs.Findings.{firstFound}
 use Rattle.facts.specs.Rising.{rising}
 use Rattle.facts.specs.Places.{places, padded}
@@ -29,7 +29,7 @@ use Rattle.trace.proofs.Names.{named-at}
 use Rattle.cores.specs.Sets.{firstCores}
 use Rattle.cores.specs.Placement.{coresPlaced, placement}
 use Rattle.dispatcher.specs.declared.State.{State}
-use Rattle.dispatcher.specs.State.{timeOf, freshOf}
+use Rattle.dispatcher.specs.State.{rowsIn, timeOf, freshOf}
 use Rattle.cores.specs.Fault.{misremembers}
 use Rattle.cores.specs.Cores.{wanted, leftOver, inTurn, coresFor}
 use Rattle.dispatcher.specs.Broken.{broken}
@@ -38,13 +38,13 @@ use Rattle.why.specs.declared.Rule.the-variants.{GroupDeadline, RowNumber}
 use Rattle.why.specs.declared.Answer.the-variants.{NotReady, PassedOver}
 use Rattle.why.specs.Rules.{ruleFor}
 use Rattle.why.specs.Lowest.{lowestPicked}
+use Rattle.why.specs.Reasons.{goesBefore}
 use Rattle.why.specs.Answer.{rulePlace, toldOf}
 use Rattle.why.specs.Why.{readyFrom, reasonOf, whyOf}
 use Rattle.checker.specs.Causes.{badRows}
 use Rattle.checker.specs.Check.{recordsFindings, traceSaid, checkOf}
-use Rattle.demands.specs.Bench.{exampleTrace}
+use Rattle.demands.specs.Bench.{exampleTrace, threeCores}
 use Rattle.demands.specs.LawInputs.{stateOf}
-use Rattle.demands.specs.WhyLaws.{threeHeavy}
 use Rattle.demands.specs.Inputs.{allBelow, Bytes, rowsFit, Possible, CanAsk}
 use Rattle.demands.specs.ShutOut.{Dispatcher, IsDispatcher, numberOf, rowsWritten, GivesAsRecorded, ShutOutOf, Explainer, IsExplainer, ShutOutOfWhy, ShutOut}
 use Rattle.demands.proofs.Two.{picks-are-pd2s}
@@ -202,8 +202,9 @@ record WhyComputed : Type 0 where
   can-ask : CanAsk (freshOf (tableIn example)) 2 2
   third : whyOf (freshOf (tableIn example)) 2 2 ≡ PassedOver 1 RowNumber
   first-picked : getD (picksIn (freshOf (tableIn example)) 2) 0 0 ≡ 0
-  can-ask-heavy : CanAsk (stateOf threeHeavy 0 false []) 1 0
-  heavy-first : whyOf (stateOf threeHeavy 0 false []) 1 0 ≡ PassedOver 2 GroupDeadline
+  behind-first : some (λ other. names (picksIn (freshOf (tableIn example)) 2) other && goesBefore (freshOf (tableIn example)) other 1) (length (rowsIn (freshOf (tableIn example)))) ≡ true
+  can-ask-heavy : CanAsk (stateOf threeCores 0 false []) 1 0
+  heavy-first : whyOf (stateOf threeCores 0 false []) 1 0 ≡ PassedOver 2 GroupDeadline
   can-ask-later : CanAsk (stateOf (tableIn example) 2 false (2 ∷ 1 ∷ 1 ∷ [])) 2 0
   later : whyOf (stateOf (tableIn example) 2 false (2 ∷ 1 ∷ 1 ∷ [])) 2 0 ≡ NotReady (record { 0 = 3 })
 
@@ -214,6 +215,7 @@ why-computed =
       can-ask = record { state = record { boards = refl; rows = refl; quanta = refl; table = refl; counts = refl; last-rows = refl; last-cores = refl; remembered = refl; marks = refl; bytes = refl }; numbers = refl };
       third = refl;
       first-picked = refl;
+      behind-first = refl;
       can-ask-heavy = record { state = record { boards = refl; rows = refl; quanta = refl; table = refl; counts = refl; last-rows = refl; last-cores = refl; remembered = refl; marks = refl; bytes = refl }; numbers = refl };
       heavy-first = refl;
       can-ask-later = record { state = record { boards = refl; rows = refl; quanta = refl; table = refl; counts = refl; last-rows = refl; last-cores = refl; remembered = refl; marks = refl; bytes = refl }; numbers = refl };
@@ -225,15 +227,16 @@ shut-out-of-why : (explain : Explainer) → IsExplainer explain → ShutOutOfWhy
 shut-out-of-why explain is =
     let c = why-computed in
     let third = is (freshOf (tableIn example)) 2 2 (c .can-ask) ∙ c .third in
-    let heavy-first = is (stateOf threeHeavy 0 false []) 1 0 (c .can-ask-heavy) ∙ c .heavy-first in
+    let heavy-first = is (stateOf threeCores 0 false []) 1 0 (c .can-ask-heavy) ∙ c .heavy-first in
     let later = is (stateOf (tableIn example) 2 false (2 ∷ 1 ∷ 1 ∷ [])) 2 0 (c .can-ask-later) ∙ c .later in
     record {
       explains-nothing = λ h. h (freshOf (tableIn example)) 2 2 (c .can-ask) (ap (λ a. toldOf a .number) third);
       says-picked = λ h.
           let z : _≡_ {A = ℕ} 4 1 = sym (ap (λ a. toldOf a .reason) third) ∙ ap (λ a. toldOf a .reason) (h (freshOf (tableIn example)) 2 2 (c .can-ask) (ap (λ a. toldOf a .number) third)) in
           omega arith;
-      names-the-first = λ h. let z : _≡_ {A = ℕ} 1 0 = h (freshOf (tableIn example)) 2 2 1 RowNumber (c .can-ask) third ∙ c .first-picked in omega arith;
-      knows-one-rule = λ h. let z : _≡_ {A = ℕ} 3 4 = ap rulePlace (h (stateOf threeHeavy 0 false []) 1 0 2 GroupDeadline (c .can-ask-heavy) heavy-first) in omega arith;
+      names-lowest-number = λ h. let z : _≡_ {A = ℕ} 1 0 = h (freshOf (tableIn example)) 2 2 1 RowNumber (c .can-ask) third ∙ c .first-picked in omega arith;
+      names-the-best = λ h. true≢false (sym (c .behind-first) ∙ h (freshOf (tableIn example)) 2 2 1 RowNumber (c .can-ask) third);
+      knows-one-rule = λ h. let z : _≡_ {A = ℕ} 3 4 = ap rulePlace (h (stateOf threeCores 0 false []) 1 0 2 GroupDeadline (c .can-ask-heavy) heavy-first) in omega arith;
       says-now = λ h. let z : _≡_ {A = ℕ} 3 2 = h (stateOf (tableIn example) 2 false (2 ∷ 1 ∷ 1 ∷ [])) 2 0 (record { 0 = 3 }) (c .can-ask-later) later in omega arith;
     }
 

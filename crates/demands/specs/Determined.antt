@@ -15,7 +15,7 @@ use Rattle.cores.specs.declared.Placement.{Placement}
 use Rattle.dispatcher.specs.declared.State.{State}
 use Rattle.dispatcher.specs.declared.Answer.{Answer}
 use Rattle.dispatcher.specs.declared.Outcome.{Outcome}
-use Rattle.why.specs.declared.Answer.{Answer as Reason}
+use Rattle.why.specs.declared.Answer.{Answer as WhyAnswer}
 use Rattle.checker.specs.declared.Answer.{Answer as Checked}
 use Rattle.printer.specs.declared.Printed.{Printed}
 use Rattle.demands.specs.Promises.{counts·Slot·at, counts·Slot·time, counts·Slot·later, counts·Slot·before, counts·Slot·since, counts·Quanta·of, counts·Quanta·count, counts·Quanta·one-more, counts·Quanta·next-subtask, counts·Subtask·numbered, counts·Subtask·number, counts·Subtask·next, counts·Subtask·quanta-before, fields·byte, fields·half, fields·word, windows·window, windows·next-due, windows·next-start, windows·next-job-start, windows·next-group-deadline, table·read, table·fault, pd2·Verdict·is-yes, pd2·origin, pd2·ready, pd2·late, pd2·within, pd2·give, pd2·lowest-late, trace·write, trace·record, trace·begins, choice·picks, cores·Placement·nobody, cores·Placement·is-faulty, cores·how-many, cores·names-past, cores·first, cores·place, dispatcher·Answer·told, dispatcher·State·fresh, dispatcher·State·is-broken, dispatcher·State·slot, why·Answer·told, why·of-row, checker·check, checker·number, firmware·zb-table-check, firmware·zb-trace-check, printer·Printed·length, printer·print, slots-run·zb-slots}
@@ -66,7 +66,7 @@ pub record EveryPromiseDetermines : Type 0 where
   pub dispatcher-State-fresh : (table : Table) → Determined (dispatcher·State·fresh table)
   pub dispatcher-State-is-broken : (self : State) → Determined (dispatcher·State·is-broken self)
   pub dispatcher-State-slot : (self : State) (free : List Bool) (buffer : List ℕ) (place : ℕ) → Determined {R = Outcome × List ℕ} (λ r. dispatcher·State·slot self free buffer place (r .0) (r .1))
-  pub why-Answer-told : (self : Reason) → Determined (why·Answer·told self)
+  pub why-Answer-told : (self : WhyAnswer) → Determined (why·Answer·told self)
   pub why-of-row : (state : State) (k row : ℕ) → Determined (why·of-row state k row)
   pub checker-check : (table trace : List ℕ) → Determined (checker·check table trace)
   pub checker-number : (answer : Checked) → Determined (checker·number answer)

@@ -46,7 +46,7 @@ pub record Possible (s : State) (free : List Bool) (buffer : List ℕ) (place : 
   pub marks : length free ≡ 32
   pub bytes : Bytes buffer
 
--- Why a row waits can be asked so: of such a state, with a k and a row in one byte each.
+-- Why a row waits can be asked so: of a state of which a slot can be asked, here one with the first k cores and no buffer, with a k and a row in one byte each.
 pub record CanAsk (s : State) (k row : ℕ) : Type 0 where
   pub state : Possible s (firstCores k) [] 0
   pub numbers : allBelow 256 (k ∷ row ∷ []) ≡ true

@@ -47,7 +47,7 @@ use Rattle.dispatcher.specs.State.{timeOf, freshOf}
 use Rattle.dispatcher.specs.Answer.{saidOf, saidBy}
 use Rattle.dispatcher.specs.Slot.{slotOf}
 use Rattle.dispatcher.specs.Broken.{broken}
-use Rattle.why.specs.declared.Answer.{Answer as Reason}
+use Rattle.why.specs.declared.Answer.{Answer as WhyAnswer}
 use Rattle.why.specs.declared.Told.{Told as ToldWhy}
 use Rattle.why.specs.Answer.{toldOf}
 use Rattle.why.specs.Why.{whyOf}
@@ -241,11 +241,11 @@ dispatcher·State·slot self free buffer place r buffer-after =
     × (buffer-after ≡ slotOf self free buffer place .bytes)
 
 -- why::Answer::told
-abbrev pub why·Answer·told : Reason → ToldWhy → Type 0
+abbrev pub why·Answer·told : WhyAnswer → ToldWhy → Type 0
 why·Answer·told self r = r ≡ toldOf self
 
 -- why::of_row
-abbrev pub why·of-row : State → ℕ → ℕ → Reason → Type 0
+abbrev pub why·of-row : State → ℕ → ℕ → WhyAnswer → Type 0
 why·of-row state k row r = r ≡ whyOf state k row
 
 -- checker::check

@@ -3,8 +3,9 @@
 use Prim.Native.Nat.{ℕ, _+_, _<_}
 use mathlib.Core.Path.{_≡_}
 use mathlib.Core.List.{List, []}
-use mathlib.Core.Bool.{Bool, true, cond}
+use mathlib.Core.Bool.{Bool, true, false, cond, _&&_}
 use lib.ListN.{length, getD, take}
+use Rattle.facts.specs.Counting.{some}
 use Rattle.counts.specs.declared.Slot.{Slot}
 use Rattle.table.specs.declared.Reading.{Reading}
 use Rattle.table.specs.Bytes.{tableNumber}
@@ -14,13 +15,14 @@ use Rattle.trace.specs.Records.{rowsAt, names}
 use Rattle.cores.specs.Placement.{coresPlaced}
 use Rattle.dispatcher.specs.declared.State.{State}
 use Rattle.dispatcher.specs.declared.Outcome.{Outcome}
-use Rattle.dispatcher.specs.State.{quantaIn, timeOf, freshOf}
+use Rattle.dispatcher.specs.State.{rowsIn, quantaIn, timeOf, freshOf}
 use Rattle.dispatcher.specs.Answer.{saidOf}
 use Rattle.dispatcher.specs.Slot.{picksIn}
 use Rattle.why.specs.declared.Rule.{Rule}
 use Rattle.why.specs.declared.Rule.the-variants.{RowNumber}
-use Rattle.why.specs.declared.Answer.{Answer as Reason}
+use Rattle.why.specs.declared.Answer.{Answer as WhyAnswer}
 use Rattle.why.specs.declared.Answer.the-variants.{Picked, NotReady, PassedOver}
+use Rattle.why.specs.Reasons.{goesBefore}
 use Rattle.why.specs.Answer as why
 use Rattle.checker.specs.declared.Answer.{Answer as Checked}
 use Rattle.checker.specs.Answer as checked
@@ -117,13 +119,14 @@ pub record ShutOutOf (slot : Dispatcher) : Type 0 where
   pub lowest-in-turn : LowestInTurn slot → ⊥
   pub remembers-nothing : RemembersNothing slot → ⊥
 
--- Who says why a row waits keeps the promise of `of_row` (02, Two). Shut out are one that refuses all, one that says 'picked' of every row, one that names the first of the
--- picked rows in place of the lowest-ranked, one that knows no rule but the row number, and one that gives the present slot as the first in which a row will be ready.
+-- Who says why a row waits keeps the promise of `of_row` (02, Two). Shut out are one that refuses all, one that says 'picked' of every row
+-- that it does not refuse, one that names the picked row with the lowest number in place of the lowest-ranked, one that names the best, one that knows no rule but the row number, and one
+-- that gives the present slot as the first in which a row will be ready.
 abbrev pub Explainer : Type 0
-Explainer = State → ℕ → ℕ → Reason
+Explainer = State → ℕ → ℕ → WhyAnswer
 
 abbrev pub IsExplainer : Explainer → Type 0
-IsExplainer why = (s : State) (k row : ℕ) → CanAsk s k row → why·of-row s k row (why s k row)
+IsExplainer explain = (s : State) (k row : ℕ) → CanAsk s k row → why·of-row s k row (explain s k row)
 
 abbrev pub ExplainsNothing : Explainer → Type 0
 ExplainsNothing explain = (s : State) (k row : ℕ) → CanAsk s k row → why.numberOf (explain s k row) ≡ 0 → ⊥
@@ -131,8 +134,13 @@ ExplainsNothing explain = (s : State) (k row : ℕ) → CanAsk s k row → why.n
 abbrev pub SaysPicked : Explainer → Type 0
 SaysPicked explain = (s : State) (k row : ℕ) → CanAsk s k row → why.numberOf (explain s k row) ≡ 0 → explain s k row ≡ Picked
 
-abbrev pub NamesTheFirst : Explainer → Type 0
-NamesTheFirst explain = (s : State) (k row by : ℕ) (rule : Rule) → CanAsk s k row → explain s k row ≡ PassedOver by rule → by ≡ getD (picksIn s k) 0 0
+abbrev pub NamesLowestNumber : Explainer → Type 0
+NamesLowestNumber explain = (s : State) (k row by : ℕ) (rule : Rule) → CanAsk s k row → explain s k row ≡ PassedOver by rule → by ≡ getD (picksIn s k) 0 0
+
+abbrev pub NamesTheBest : Explainer → Type 0
+NamesTheBest explain =
+    (s : State) (k row by : ℕ) (rule : Rule) → CanAsk s k row → explain s k row ≡ PassedOver by rule →
+    some (λ other. names (picksIn s k) other && goesBefore s other by) (length (rowsIn s)) ≡ false
 
 abbrev pub KnowsOneRule : Explainer → Type 0
 KnowsOneRule explain = (s : State) (k row by : ℕ) (rule : Rule) → CanAsk s k row → explain s k row ≡ PassedOver by rule → rule ≡ RowNumber
@@ -143,7 +151,8 @@ SaysNow explain = (s : State) (k row : ℕ) (until : Slot) → CanAsk s k row �
 pub record ShutOutOfWhy (explain : Explainer) : Type 0 where
   pub explains-nothing : ExplainsNothing explain → ⊥
   pub says-picked : SaysPicked explain → ⊥
-  pub names-the-first : NamesTheFirst explain → ⊥
+  pub names-lowest-number : NamesLowestNumber explain → ⊥
+  pub names-the-best : NamesTheBest explain → ⊥
   pub knows-one-rule : KnowsOneRule explain → ⊥
   pub says-now : SaysNow explain → ⊥
 

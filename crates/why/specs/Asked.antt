@@ -14,7 +14,7 @@ use Rattle.dispatcher.specs.Usable.{UsableState}
 -- A state, a number of cores and a row of which a reason can be given.
 pub record Asked (s : State) (k row : ℕ) : Type 0 where
   pub usable : UsableState s
-  pub cores : k ≤ 8
+  pub few : k ≤ 8
   pub is-row : row < length (rowsIn s)
 
 -- A row that is marked, and no longer with one core fewer.

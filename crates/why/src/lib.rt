@@ -155,7 +155,8 @@ fn picks(state: State, k: u8) -> [bool; 32]
     choice::picks(rows, quanta, n, state.time, k)
 }
 
-// The row that is picked with k cores and not with one fewer: every other picked row goes before it. Past the rows where there is none.
+// The row that is picked with k cores and not with one fewer: every other picked row goes before it. Past the rows where there is none; but where a ready
+// row is left out there is one.
 fn dropped(marks: [bool; 32], fewer: [bool; 32]) -> usize
     ensures { λ r. ⌜ Lowest (droppedFrom marks fewer) 32 r ⌝ }
 {
@@ -194,7 +195,7 @@ fn ready_from(row: Row, given: Quanta) -> Slot
     time_of(window)
 }
 
-// The time that is answered.
+// The time that is answered. A row that has a next window always gets one, so no slot stands for none.
 pub(crate) fn time_of(moment: Moment) -> Slot
     ensures { λ r. ⌜ TimeIs moment r ⌝ }
 {

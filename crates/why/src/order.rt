@@ -38,7 +38,7 @@ pub(crate) fn rule_between(ahead: Row, had: Quanta, behind: Row, given: Quanta) 
     Rule::RowNumber
 }
 
-// d and b of a row's next subtask.
+// The row has a next window, so that it is answered.
 fn end_of(row: Row, given: Quanta) -> End
     requires { ⌜ HasWindow row (given .0) ⌝ }
     ensures { λ r. ⌜ (r .deadline ≡ rankOf row 0 (given .0) .d) × (r .bit ≡ rankOf row 0 (given .0) .b) ⌝ }

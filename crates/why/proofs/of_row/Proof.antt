@@ -80,7 +80,7 @@ reason-requires c κs =
     let w = is-whole _ (whole first) in
     record {
       usable = is-usable _ w (arrays first);
-      cores = omega (arith, there .if4 .left, sizes-are-within _ (w .table));
+      few = omega (arith, there .if4 .left, sizes-are-within _ (w .table));
       is-row = is-row c;
     }
 
