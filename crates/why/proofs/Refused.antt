@@ -1,8 +1,9 @@
 -- Each refusal is answered exactly when its cause is the first met. Assumes nothing.
 use Prim.Native.Nat.{ℕ, _≤_}
 use mathlib.Core.Path.{_≡_, refl, sym, ap, _∙_}
-use mathlib.Core.Bool.{Bool, true, false, cond, not}
+use mathlib.Core.Bool.{Bool, true, false, not}
 use mathlib.Core.Logic.{_⊎_, inl, inr, ⊎-elim}
+use native.Mathlib.Decide.{ℕ-discrete}
 use native.Mathlib.Omega.{arith}
 use lib.Dec.{ltb, eqb}
 use Rattle.facts.specs.Findings.{_says_, FirstFound, NoneFound}
@@ -14,27 +15,21 @@ use Rattle.dispatcher.specs.State.{isRow, timeOf}
 use Rattle.dispatcher.specs.Broken.{broken}
 use Rattle.dispatcher.specs.Slot.{picksIn}
 use Rattle.why.specs.declared.Answer.{Answer}
-use Rattle.why.specs.declared.Answer.the-variants.{Picked, NotReady, NoCoreFree, PassedOver, Broken, Stopped, AtLimit, TooManyCores, NoSuchRow}
-use Rattle.why.specs.Rules.{ruleFor}
-use Rattle.why.specs.Reasons.{isReady, rankIn}
+use Rattle.why.specs.declared.Answer.the-variants.{Broken, Stopped, AtLimit, TooManyCores, NoSuchRow}
+use Rattle.why.specs.Reasons.{isReady}
 use Rattle.why.specs.Answer.{numberOf}
-use Rattle.why.specs.Why.{readyFromIn, lowestIn, reasonOf, whyTests, whyOf, RefusedExactly, WhyNumbers}
+use Rattle.why.specs.Why.{reasonOf, whyTests, whyOf, RefusedExactly, WhyNumbers}
+use Rattle.why.proofs.Cases.{when-named, when-unready, when-no-core, when-passed-over}
 
 -- A reason has no number of its own.
 pub reason-is-0 : (s : State) (k row : ℕ) → numberOf (reasonOf s k row) ≡ 0
-unfolding reasonOf
-reason-is-0 s k row = go (names (picksIn s k) row) (not (isReady s row (timeOf s))) (eqb k 0)
+reason-is-0 s k row = go (names (picksIn s k) row) (isReady s row (timeOf s)) (ℕ-discrete k 0) refl refl
   where
-    go : (a b c : Bool) →
-        numberOf
-        (cond a Picked
-        (cond b (NotReady (record { 0 = readyFromIn s row }))
-        (cond c NoCoreFree (PassedOver (lowestIn s k) (ruleFor (rankIn s (lowestIn s k)) (rankIn s row))))))
-        ≡ 0
-    go true b c = refl
-    go false true c = refl
-    go false false true = refl
-    go false false false = refl
+    go : (a b : Bool) → Dec (k ≡ 0) → names (picksIn s k) row ≡ a → isReady s row (timeOf s) ≡ b → numberOf (reasonOf s k row) ≡ 0
+    go true b z e f = ap numberOf (when-named s k row e)
+    go false false z e f = ap numberOf (when-unready s k row e f)
+    go false true (yes z) e f = ap numberOf (when-no-core s k row e f z)
+    go false true (no z) e f = ap numberOf (when-passed-over s k row e f z)
 
 -- A refusal has one of its numbers,
 abbrev IsRefusal : Answer → Type 0

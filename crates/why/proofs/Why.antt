@@ -4,7 +4,7 @@ use mathlib.Core.Path.{_≡_, refl, sym, ap, _∙_}
 use mathlib.Core.Bool.{Bool, true, false, true≢false}
 use native.Mathlib.Decide.{ℕ-discrete}
 use native.Mathlib.Omega.{arith}
-use borrow.Author.Tests.{ltb-true, eq-eqb, ne-eqb, not-false}
+use borrow.Author.Tests.{ltb-true, not-false}
 use lib.Dec.{ltb}
 use lib.ListN.{length}
 use Rattle.facts.specs.Findings.{NoneFound}
@@ -22,28 +22,11 @@ use Rattle.why.specs.Reasons.{isReady, rankIn, goesBefore, Holds}
 use Rattle.why.specs.Why.{readyFromIn, lowestIn, reasonOf, whyTests, whyOf, ReasonIsTrueAndOnly}
 use Rattle.why.proofs.Rules.{one-rule}
 use Rattle.why.proofs.Lowest.{one-lowest}
+use Rattle.why.proofs.Cases.{when-named, when-unready, when-no-core, when-passed-over}
 use Rattle.why.proofs.Refused.{none-if-answered}
 use Rattle.why.proofs.Picked.{first-ready, unready-is-not-named, nobody-without-core, strict-among-named, somebody, goes-ahead, behind-is-not-named}
 
 module _ (s : State) (k row : ℕ) where
-  -- What is computed in each case.
-  pub when-named : names (picksIn s k) row ≡ true → reasonOf s k row ≡ Picked
-  unfolding reasonOf
-  when-named e = rw e
-
-  module _ (unnamed : names (picksIn s k) row ≡ false) where
-    pub when-unready : isReady s row (timeOf s) ≡ false → reasonOf s k row ≡ NotReady (record { 0 = readyFromIn s row })
-    unfolding reasonOf
-    when-unready f = rw (unnamed, f)
-
-    pub when-no-core : isReady s row (timeOf s) ≡ true → k ≡ 0 → reasonOf s k row ≡ NoCoreFree
-    unfolding reasonOf
-    when-no-core f z = rw (unnamed, f, eq-eqb k 0 z)
-
-    pub when-passed-over : isReady s row (timeOf s) ≡ true → (k ≡ 0 → ⊥) → reasonOf s k row ≡ PassedOver (lowestIn s k) (ruleFor (rankIn s (lowestIn s k)) (rankIn s row))
-    unfolding reasonOf
-    when-passed-over f z = rw (unnamed, f, ne-eqb k 0 z)
-
   module _ (is-row : row < length (rowsIn s)) where
     -- the lowest that is named is the one that is computed
     pub lowest-is-found : isReady s row (timeOf s) ≡ true → (k ≡ 0 → ⊥) → (by : ℕ) →
@@ -56,29 +39,29 @@ module _ (s : State) (k row : ℕ) where
     computed-holds = go (names (picksIn s k) row) (isReady s row (timeOf s)) (ℕ-discrete k 0) refl refl
       where
         go : (a b : Bool) → Dec (k ≡ 0) → names (picksIn s k) row ≡ a → isReady s row (timeOf s) ≡ b → Holds s k row (reasonOf s k row)
-        go true b z e f = rw (when-named e) (record { named = e })
-        go false false z e f = rw (when-unready e f) (record { not-now = f; first = first-ready s row f })
-        go false true (yes z) e f = rw (when-no-core e f z) (record { is-ready = f; none = z })
+        go true b z e f = rw (when-named s k row e) (record { named = e })
+        go false false z e f = rw (when-unready s k row e f) (record { not-now = f; first = first-ready s row f })
+        go false true (yes z) e f = rw (when-no-core s k row e f z) (record { is-ready = f; none = z })
         go false true (no z) e f =
             let low = lowest-is-found f z (lowestIn s k) .1 refl in
             let ahead = goes-ahead s k row is-row f e (lowestIn s k) (low .is-picked) in
-            rw (when-passed-over e f z)
+            rw (when-passed-over s k row e f z)
             (record { is-ready = f; lowest = low; ahead = ahead; by-rule = sym (one-rule (rankIn s (lowestIn s k)) (rankIn s row) ahead) })
 
     -- and whatever is true is what is computed.
     pub holds-computed : (other : Answer) → Holds s k row other → other ≡ reasonOf s k row
-    holds-computed Picked h = sym (when-named (h .named))
+    holds-computed Picked h = sym (when-named s k row (h .named))
     holds-computed (NotReady until) h =
         ap (λ t. NotReady (record { 0 = t })) (first-is-one (isReady s row) (timeOf s) (until .0) (readyFromIn s row) (h .first) (first-ready s row (h .not-now)))
-        ∙ sym (when-unready (unready-is-not-named s k row is-row (h .not-now)) (h .not-now))
-    holds-computed NoCoreFree h = sym (when-no-core (nobody-without-core s k (h .none) row) (h .is-ready) (h .none))
+        ∙ sym (when-unready s k row (unready-is-not-named s k row is-row (h .not-now)) (h .not-now))
+    holds-computed NoCoreFree h = sym (when-no-core s k row (nobody-without-core s k (h .none) row) (h .is-ready) (h .none))
     holds-computed (PassedOver by rule) h =
         let some-core : k ≡ 0 → ⊥ = λ z. true≢false (sym (h .lowest .is-picked) ∙ nobody-without-core s k z by) in
         let same : by ≡ lowestIn s k = lowest-is-found (h .is-ready) some-core by .0 (h .lowest) in
         let ruled : rule ≡ ruleFor (rankIn s by) (rankIn s row) = h .by-rule ∙ one-rule (rankIn s by) (rankIn s row) (h .ahead) in
         ap (PassedOver by) ruled
         ∙ (ap (λ i. PassedOver i (ruleFor (rankIn s i) (rankIn s row))) same
-        ∙ sym (when-passed-over (behind-is-not-named s k row by (h .lowest) (h .ahead)) (h .is-ready) some-core))
+        ∙ sym (when-passed-over s k row (behind-is-not-named s k row by (h .lowest) (h .ahead)) (h .is-ready) some-core))
     holds-computed Broken h = absurd h
     holds-computed Stopped h = absurd h
     holds-computed AtLimit h = absurd h

@@ -13,7 +13,7 @@ use Rattle.why.specs.declared.Answer.the-variants.{NotReady, PassedOver}
 use Rattle.why.specs.Rules.{ruleFor}
 use Rattle.why.specs.Reasons.{isReady, rankIn}
 use Rattle.why.specs.Why.{readyFrom, lowestIn}
-use Rattle.why.proofs.Why.{when-named, when-unready, when-no-core, when-passed-over}
+use Rattle.why.proofs.Cases.{when-named, when-unready, when-no-core, when-passed-over}
 use Rattle.why.proofs.Asked.{marks-name, read-there, window-there, rule-there, dropped-is-found}
 use borrow.Author.Needs.{needs}
 use Rattle.why.proofs.reason.Statement.{statement}
