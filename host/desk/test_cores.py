@@ -9,6 +9,7 @@ import sys
 import tempfile
 import unittest
 from pathlib import Path
+from typing import Callable
 
 import cores
 import inputs
@@ -98,11 +99,11 @@ def text(input: bytes, probe: Probe) -> str:
     return "".join(line + "\n" for line in cores.listing(input, probe))
 
 
-def ran(arguments: list[str], probe: Probe) -> tuple[int, str, str]:
-    """The exit status of the program, and what it wrote."""
+def ran(arguments: list[str], probe: Probe, main: Callable[[list[str], Probe], int] = cores.main) -> tuple[int, str, str]:
+    """The exit status of a program of this folder, and what it wrote."""
     out, error = io.StringIO(), io.StringIO()
     with contextlib.redirect_stdout(out), contextlib.redirect_stderr(error):
-        status = cores.main(arguments, probe)
+        status = main(arguments, probe)
     return status, out.getvalue(), error.getvalue()
 
 

@@ -3,7 +3,6 @@ class says AgainstProbe, the probe must be built and know the question.
 """
 from __future__ import annotations
 
-import contextlib
 import io
 import os
 import shlex
@@ -15,6 +14,7 @@ import unittest
 from pathlib import Path
 
 import inputs
+import test_cores
 import traces
 import why
 import words
@@ -68,16 +68,12 @@ def said(table: bytes, trace: bytes, tank: int, slot: int, probe: Probe) -> list
 
 
 def ran(arguments: list[str], probe: Probe) -> tuple[int, str, str]:
-    """The exit status of the program, and what it wrote."""
-    out, error = io.StringIO(), io.StringIO()
-    with contextlib.redirect_stdout(out), contextlib.redirect_stderr(error):
-        status = why.main(arguments, probe)
-    return status, out.getvalue(), error.getvalue()
+    return test_cores.ran(arguments, probe, why.main)
 
 
 def as_process(*arguments: str, given: bytes = b"", program: str = PROGRAM) -> tuple[int, str, str]:
-    run = subprocess.run([sys.executable, program, *arguments], input=given, capture_output=True, cwd="/")
-    return run.returncode, run.stdout.decode(), run.stderr.decode()
+    status, out, error = test_cores.as_process(*arguments, given=given, program=program)
+    return status, out.decode(), error.decode()
 
 
 class Requests(unittest.TestCase):

@@ -92,20 +92,19 @@ module _ (s : State) (k row : ℕ) (is-row : row < length (rowsIn s)) (is-ready 
   is-dropped i p q = hold-both (marks-name marks with-k i ∙ p) (ap not (marks-name fewer with-fewer i ∙ q))
 
   pub dropped-is-found : (by : ℕ) → Lowest (droppedFrom marks fewer) 32 by → (by < length (rowsIn s)) × (by ≡ lowestIn s k)
-  dropped-is-found by low =
-      let x = one-is-dropped-of-named s k row is-row is-ready (omega (arith, some-core)) out in
-      let two = both (getD marks by false) (not (getD fewer by false)) (low .passes (low-enough (decLt (x .0) by))) in
-      let is-in = sym (marks-name marks with-k by) ∙ two .0 in
-      let gone = sym (marks-name fewer with-fewer by) ∙ not-true _ (two .1) in
-      (named-is-row s k by is-in, lowest-is-found s k row is-row is-ready some-core by .0 (dropped-is-lowest-named s k row is-row is-ready by is-in gone))
+  dropped-is-found by low = go (one-is-dropped-of-named s k row is-row is-ready (omega (arith, some-core)) out)
     where
-      low-enough : Dec (one-is-dropped-of-named s k row is-row is-ready (omega (arith, some-core)) out .0 < by) → by < 32
-      low-enough (yes l) =
-          let x = one-is-dropped-of-named s k row is-row is-ready (omega (arith, some-core)) out in
-          absurd (true≢false (sym (is-dropped (x .0) (x .1) (x .2)) ∙ low .none-before (x .0) l))
-      low-enough (no l) =
-          let x = one-is-dropped-of-named s k row is-row is-ready (omega (arith, some-core)) out in
-          omega (arith, l, few, named-is-row s k (x .0) (x .1))
+      -- one row is dropped, so that the search ends there or before
+      within : {i : ℕ} → names (picksIn s k) i ≡ true → names (picksIn s (k - 1)) i ≡ false → Dec (i < by) → by < 32
+      within p q (yes l) = absurd (true≢false (sym (is-dropped _ p q) ∙ low .none-before _ l))
+      within {i} p q (no l) = omega (arith, l, few, named-is-row s k i p)
+
+      go : (i : ℕ) × (names (picksIn s k) i ≡ true) × (names (picksIn s (k - 1)) i ≡ false) → (by < length (rowsIn s)) × (by ≡ lowestIn s k)
+      go (i, p, q) =
+          let two = both (getD marks by false) (not (getD fewer by false)) (low .passes (within p q (decLt i by))) in
+          let is-in = sym (marks-name marks with-k by) ∙ two .0 in
+          let gone = sym (marks-name fewer with-fewer by) ∙ not-true _ (two .1) in
+          (named-is-row s k by is-in, lowest-is-found s k row is-row is-ready some-core by .0 (dropped-is-lowest-named s k by is-in gone))
 
 -- The rule that decides between two ranks, test by test.
 module _ (x y : Rank) where

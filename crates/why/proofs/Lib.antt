@@ -6,4 +6,3 @@ pub mod Refused
 pub mod Why
 pub mod Alike
 pub mod Asked
-pub mod Determined

@@ -123,23 +123,23 @@ module _ (s : State) where
           differ : by ≡ row → ⊥
           differ e = true≢false (sym is-in ∙ ap (names (picksIn s k)) e ∙ out)
 
-      -- for the functions: a row that is named with k cores and not with one fewer is the lowest of those named,
-      pub dropped-is-lowest-named : (i : ℕ) → names (picksIn s k) i ≡ true → names (picksIn s (k - 1)) i ≡ false → LowestPicked (names (picksIn s k)) (goesBefore s) n i
-      dropped-is-lowest-named i is-in out =
-          let l = named-is-row i is-in in
-          let low = dropped-is-lowest ready-now (goesBefore s) n k strict i l (sym (named-if-picked i l) ∙ is-in) (sym (listed-are-named _ n i ∙ rw (lt-ltb i n l)) ∙ out) in
-          record {
-            is-row = l;
-            is-picked = is-in;
-            behind-all = λ other m p. low .behind-all other m (sym (named-if-picked other m) ∙ p);
-          }
-
-      -- and there is one.
+      -- For the functions: one is named with k cores and not with one fewer.
       pub one-is-dropped-of-named : 0 < k → names (picksIn s k) row ≡ false → (i : ℕ) × (names (picksIn s k) i ≡ true) × (names (picksIn s (k - 1)) i ≡ false)
       one-is-dropped-of-named some-core out =
           let x = one-is-dropped ready-now (goesBefore s) n k strict some-core row is-row is-ready (sym (named-if-picked row is-row) ∙ out) in
           let y = both _ (not (picked ready-now (goesBefore s) n (k - 1) (x .0))) (x .2) in
           (x .0, named-if-picked (x .0) (x .1) ∙ y .0, listed-are-named _ n (x .0) ∙ rw (lt-ltb (x .0) n (x .1)) (not-true _ (y .1)))
+
+    -- For the functions: a row that is named with k cores and not with one fewer is the lowest of those named.
+    pub dropped-is-lowest-named : (i : ℕ) → names (picksIn s k) i ≡ true → names (picksIn s (k - 1)) i ≡ false → LowestPicked (names (picksIn s k)) (goesBefore s) n i
+    dropped-is-lowest-named i is-in out =
+        let l = named-is-row i is-in in
+        let low = dropped-is-lowest ready-now (goesBefore s) n k strict i l (sym (named-if-picked i l) ∙ is-in) (sym (listed-are-named _ n i ∙ rw (lt-ltb i n l)) ∙ out) in
+        record {
+          is-row = l;
+          is-picked = is-in;
+          behind-all = λ other m p. low .behind-all other m (sym (named-if-picked other m) ∙ p);
+        }
 
     -- A row behind the lowest that is named is not named itself.
     pub behind-is-not-named : (row by : ℕ) → LowestPicked (names (picksIn s k)) (goesBefore s) n by → Before (rankIn s by) (rankIn s row) → names (picksIn s k) row ≡ false
