@@ -11,8 +11,11 @@ use Rattle.facts.specs.Counting.{some, howMany, those}
 use Rattle.facts.specs.Findings.{firstFound}
 use Rattle.facts.specs.Rising.{rising}
 use Rattle.facts.specs.Places.{places, padded}
+use Rattle.counts.specs.declared.Subtask.{Subtask}
+use Rattle.windows.specs.declared.Answer.{Answer as Window}
 use Rattle.windows.specs.Windows.{start, deadline, bit, windowLength, jobStart}
 use Rattle.windows.specs.Group.{heavy, stops, stopTime, groupDeadline}
+use Rattle.windows.proofs.Half.{half-is-heavy}
 use Rattle.table.specs.Causes.{load}
 use Rattle.table.specs.Value.{faultOf}
 use Rattle.table.specs.Bytes.{tableNumber, tableIn, reading}
@@ -45,8 +48,8 @@ use Rattle.checker.specs.Causes.{badRows}
 use Rattle.checker.specs.Check.{recordsFindings, traceSaid, checkOf}
 use Rattle.demands.specs.Bench.{exampleTrace, threeCores}
 use Rattle.demands.specs.LawInputs.{stateOf}
-use Rattle.demands.specs.Inputs.{allBelow, Bytes, rowsFit, Possible, CanAsk}
-use Rattle.demands.specs.ShutOut.{Dispatcher, IsDispatcher, numberOf, rowsWritten, GivesAsRecorded, ShutOutOf, Explainer, IsExplainer, ShutOutOfWhy, ShutOut}
+use Rattle.demands.specs.Inputs.{allBelow, Bytes, CanAskWindow, rowsFit, Possible, CanAsk}
+use Rattle.demands.specs.ShutOut.{IsWindows, HalfIsLight, Dispatcher, IsDispatcher, numberOf, rowsWritten, GivesAsRecorded, ShutOutOf, Explainer, IsExplainer, ShutOutOfWhy, ShutOut}
 use Rattle.demands.proofs.Two.{picks-are-pd2s}
 
 -- 01's example: slot 0 and slot 1 of a fresh state with both cores free, each into ten bytes
@@ -240,6 +243,19 @@ shut-out-of-why explain is =
       says-now = λ h. let z : _≡_ {A = ℕ} 3 2 = h (stateOf (tableIn example) 2 false (2 ∷ 1 ∷ 1 ∷ [])) 2 0 (record { 0 = 3 }) (c .can-ask-later) later in omega arith;
     }
 
+-- "1/2, i = 1 has D 2"
+abbrev subtask1 : Subtask
+subtask1 = record { 0 = 1 }
+
+can-ask1 : CanAskWindow 1 2 0 subtask1
+unfolding allBelow
+can-ask1 = refl
+
+shut-out-half : (window : ℕ → ℕ → ℕ → Subtask → Window) → IsWindows window → HalfIsLight window → ⊥
+shut-out-half window is light =
+    let has-2 = is 1 2 0 subtask1 can-ask1 ∙ half-is-heavy .answer 1 0 1 (omega arith) (omega arith) (omega arith) in
+    omega (arith, ap (λ reply. reply .D) has-2, light 1 0 subtask1 can-ask1)
+
 -- What the definitions say of the example and of the two traces, said of a number that is equal.
 module _ {number : ℕ} where
   takes : number ≡ tableNumber example → number ≡ 0
@@ -257,6 +273,7 @@ shut-out =
     let t = computed .trace-bytes in
     let l = computed .late-bytes in
     record {
+      half-is-light = shut-out-half;
       reader = λ read is none. none example b (ap (λ r. r .number) (is example b) ∙ computed .read);
       dispatcher = shut-out-of;
       why = shut-out-of-why;

@@ -13,6 +13,7 @@ use Rattle.demands.specs.ShutOut.{ShutOut}
 use Rattle.demands.specs.NeverLate.{NeverLate}
 use Rattle.demands.specs.Cores.{Cores}
 use Rattle.demands.specs.Why.{Why}
+use Rattle.demands.specs.Half.{Half}
 
 pub record All : Type 0 where
   -- "any two results allowed are equal", of every public function
@@ -38,3 +39,5 @@ pub record All : Type 0 where
   pub cores : Cores
   -- "The reason given must be the true one and the only true one in that list"
   pub why : Why
+  -- "Show that no pick changes, since such a row's b is always 0"
+  pub half : Half

@@ -116,8 +116,8 @@ bench =
     ∷ window 8 11 0 1 0 2 (is 1) (is 4)
     ∷ window 8 11 0 3 2 5 unsaid (is 8)
     ∷ window 8 11 0 6 6 9 unsaid (is 11)
-    -- "P 1/2, i = 1: 0 to 2, b 0, D 0."
-    ∷ window 1 2 0 1 0 2 (is 0) (is 0)
+    -- "P 1/2, i = 1: 0 to 2, b 0", and "1/2, i = 1 has D 2" (02, Three)
+    ∷ window 1 2 0 1 0 2 (is 0) (is 2)
     -- "P 2/3 with f = 4, i = 1: 4 to 6, b 1, D 7."
     ∷ window 2 3 4 1 4 6 (is 1) (is 7)
     -- "P Plain rows 1/2, 1/2, 2/3, two cores: slot 0 picks rows 0 and 2."

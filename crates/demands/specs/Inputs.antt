@@ -6,6 +6,7 @@ use mathlib.Core.List.{List, [], _∷_, _++_}
 use mathlib.Core.Bool.{Bool, true, _&&_}
 use lib.Dec.{ltb}
 use lib.ListN.{length}
+use Rattle.counts.specs.declared.Subtask.{Subtask}
 use Rattle.table.specs.declared.Row.{Row}
 use Rattle.table.specs.declared.Table.{Table}
 use Rattle.cores.specs.Sets.{firstCores}
@@ -19,6 +20,10 @@ allBelow top (x ∷ xs) = ltb x top && allBelow top xs
 -- bytes of a slice
 abbrev pub Bytes : List ℕ → Type 0
 Bytes s = allBelow 256 s && ltb (length s) (2 ^ 63) ≡ true
+
+-- A window can be asked for so: e, p and f of two bytes each, and a number i of 64 bits.
+abbrev pub CanAskWindow : ℕ → ℕ → ℕ → Subtask → Type 0
+CanAskWindow e p f i = allBelow 65_536 (e ∷ p ∷ f ∷ []) && ltb (i .0) (2 ^ 64) ≡ true
 
 -- rows: a tank, e, p and f of two bytes each, and a kind of one
 abbrev pub rowFits : Row → Bool

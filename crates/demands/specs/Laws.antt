@@ -23,11 +23,16 @@ windowLaws =
     ∷ window 2 3 7 1 0 7 9 1 10
     ∷ window 2 3 0 1_000_000_001 0 1_500_000_000 1_500_000_002 1 1_500_000_003
     ∷ window 2 3 0 1_000_000_002 50 0 0 0 0
-    ∷ window 1 2 65_535 1 0 65_535 65_537 0 0
+    ∷ window 1 2 65_535 1 0 65_535 65_537 0 65_537
     ∷ window 1 65_535 65_535 1_000_000_001 0 65_535_000_065_535 65_535_000_131_070 0 0
     -- "group deadline D: 0 for a light row": also one of two quanta, whose bit is 1
     ∷ window 2 5 0 1 0 0 3 1 0
-    ∷ window 3 6 0 1 0 0 2 0 0
+    -- "heavy is at least one half" (02, Three), however it is written; and the weights next below and above it
+    ∷ window 2 4 0 2 0 2 4 0 4
+    ∷ window 3 6 5 4 0 11 13 0 13
+    ∷ window 32_767 65_534 0 1 0 0 2 0 2
+    ∷ window 32_767 65_535 0 1 0 0 3 1 0
+    ∷ window 32_768 65_535 0 1 0 0 2 1 3
     -- "one less than the deadline of a subtask of this row whose window is 3 slots long": also far out
     ∷ window 8 11 0 1_000_000_001 0 1_375_000_000 1_375_000_002 1 1_375_000_004
     ∷ window 9 13 0 2 0 1 3 1 4

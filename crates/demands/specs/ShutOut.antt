@@ -1,12 +1,15 @@
 -- What must be shut out (01, "What the statements must say"): no function that keeps the promise is so. A function is asked to keep its promise, and is
 -- said to be wrong, only on what it can be called with (specs/Inputs.antt): so one that is wrong on all of that is shut out, whatever it does elsewhere.
-use Prim.Native.Nat.{ℕ, _+_, _<_}
+use Prim.Native.Nat.{ℕ, _+_, _*_, _<_}
 use mathlib.Core.Path.{_≡_}
 use mathlib.Core.List.{List, []}
 use mathlib.Core.Bool.{Bool, true, false, cond, _&&_}
 use lib.ListN.{length, getD, take}
 use Rattle.facts.specs.Counting.{some}
 use Rattle.counts.specs.declared.Slot.{Slot}
+use Rattle.counts.specs.declared.Subtask.{Subtask}
+use Rattle.windows.specs.declared.Answer.{Answer as Window}
+use Rattle.windows.specs.Question.{replyOf}
 use Rattle.table.specs.declared.Reading.{Reading}
 use Rattle.table.specs.Bytes.{tableNumber}
 use Rattle.pd2.specs.Choice.{quantaAt}
@@ -26,8 +29,15 @@ use Rattle.why.specs.Reasons.{goesBefore}
 use Rattle.why.specs.Answer as why
 use Rattle.checker.specs.declared.Answer.{Answer as Checked}
 use Rattle.checker.specs.Answer as checked
-use Rattle.demands.specs.Promises.{table·read, dispatcher·State·slot, why·of-row, checker·check, firmware·zb-table-check, firmware·zb-trace-check}
-use Rattle.demands.specs.Inputs.{Bytes, Possible, CanAsk}
+use Rattle.demands.specs.Promises.{windows·window, table·read, dispatcher·State·slot, why·of-row, checker·check, firmware·zb-table-check, firmware·zb-trace-check}
+use Rattle.demands.specs.Inputs.{Bytes, CanAskWindow, Possible, CanAsk}
+
+-- Who answers the window question keeps the promise of `window`. Shut out is one that finds "D 0 at weight exactly one half" (02, Three).
+abbrev pub IsWindows : (ℕ → ℕ → ℕ → Subtask → Window) → Type 0
+IsWindows window = (e p f : ℕ) (i : Subtask) → CanAskWindow e p f i → windows·window e p f i (window e p f i)
+
+abbrev pub HalfIsLight : (ℕ → ℕ → ℕ → Subtask → Window) → Type 0
+HalfIsLight window = (e f : ℕ) (i : Subtask) → CanAskWindow e (2 * e) f i → replyOf (window e (2 * e) f i) .D ≡ 0
 
 -- A reader keeps the promise of `read`, and the board's table check that of `zb_table_check`.
 abbrev pub IsReader : (List ℕ → Reading) → Type 0
@@ -175,6 +185,7 @@ abbrev pub NeverPasses : (List ℕ → List ℕ → ℕ) → Type 0
 NeverPasses number = (bytes s : List ℕ) → Bytes bytes → Bytes s → number bytes s ≡ 0 → ⊥
 
 pub record ShutOut : Type 0 where
+  pub half-is-light : (window : ℕ → ℕ → ℕ → Subtask → Window) → IsWindows window → HalfIsLight window → ⊥
   pub reader : (read : List ℕ → Reading) → IsReader read → TakesNoTable (λ bytes. read bytes .number) → ⊥
   pub dispatcher : (slot : Dispatcher) → IsDispatcher slot → ShutOutOf slot
   pub why : (explain : Explainer) → IsExplainer explain → ShutOutOfWhy explain

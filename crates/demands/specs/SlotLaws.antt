@@ -77,6 +77,8 @@ slotLaws =
     ∷ slot (stateOf laterAndEarly 5 false (0 ∷ 2 ∷ [])) 0 2 0 (named 1 0 6)
     -- "if both have b = 1, larger D": at time 1 row 0 has d 3 and D 4, row 1, of phase 1, has d 3 and D 5
     ∷ leaves (stateOf (box 4 2 (plainRow 0 3 4 ∷ record { tank = 1; cost = 3; period = 4; phase = 1; kind = 0 } ∷ [])) 1 false (1 ∷ [])) 1 3 0 (1 ∷ 1 ∷ 1 ∷ []) 2 false (1 ∷ 1 ∷ [])
+    -- "if both have b = 1": of two with b = 0 and d 4 the lower row number, though row 1, of weight one half, has D 4 and row 0 has 0
+    ∷ leaves (stateOf (box 4 1 (plainRow 0 1 4 ∷ plainRow 1 2 4 ∷ [])) 2 false (0 ∷ 1 ∷ [])) 1 3 0 (1 ∷ 1 ∷ 0 ∷ []) 3 false (1 ∷ 1 ∷ [])
     -- "Places past row n, and board numbers past M, are ignored and returned as they came."
     ∷ leaves (stateOf wildPast 0 false (0 ∷ 77 ∷ [])) 1 3 0 (1 ∷ 1 ∷ 0 ∷ []) 1 false (1 ∷ 77 ∷ 0 ∷ [])
     -- 30: "if its table has a fault",

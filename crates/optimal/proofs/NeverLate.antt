@@ -1,10 +1,13 @@
 -- Nobody is ever late. Assumes nothing.
-use Prim.Native.Nat.{ℕ, _+_, _≤_, _<_}
+use Prim.Native.Nat.{ℕ, _+_, _*_, _≤_, _<_}
 use mathlib.Core.Path.{_≡_}
 use mathlib.Core.Bool.{Bool}
-use native.Mathlib.Decide.{decLe}
+use native.Mathlib.Decide.{decLe, decLt}
 use native.Mathlib.Omega.{arith}
+use Rattle.windows.specs.Windows.{bit}
+use Rattle.windows.specs.Group.{groupDeadline}
 use Rattle.windows.proofs.Group.{light-has-none}
+use Rattle.windows.proofs.Half.{half-is-heavy}
 use Rattle.table.specs.declared.Row.{Row}
 use Rattle.pd2.specs.Ready.{originOf}
 use Rattle.pd2.specs.Order.{Rank, rankOf, Before, before}
@@ -15,7 +18,7 @@ use Rattle.pd2.proofs.Choice.{pd2-is-strict}
 use Rattle.optimal.specs.Box.{Box}
 use Rattle.optimal.specs.Allows.{ByDeadline, ByPd2}
 use Rattle.optimal.specs.Course.{Course}
-use Rattle.optimal.specs.NeverLate.{NobodyIsLate, NeverLateOneCore, NeverLateTwoCores, NeverLateLight, NeverLate, Pd2NeverLate}
+use Rattle.optimal.specs.NeverLate.{NobodyIsLate, NeverLateOneCore, NeverLateTwoCores, NeverLateUpToHalf, NeverLate, Pd2NeverLate}
 use Rattle.optimal.specs.Fluid.{OnTime}
 use Rattle.optimal.proofs.TwoCores.{greedy-is-on-time-on-two}
 use Rattle.optimal.proofs.Descent.{greedy-is-on-time}
@@ -67,15 +70,23 @@ never-late n row cycle cores H q ready goesBefore k B C =
     (λ s t st th. (extensions-are-greedy B D (C .ordered) s t st th, λ i l. extension-is-ext (setting B D) s t i st th l))
     H (omega arith))
 
--- Of light rows all group deadlines are 0, so PD2 asks nothing of them.
-pub never-late-light : NeverLateLight
-never-late-light n row cycle cores light H q ready goesBefore k B C =
+-- Up to weight one half D is 0 where the bit is 1: below one half it always is, and at one half no bit is 1.
+up-to-half-has-none : (e p o i : ℕ) → 0 < e → 2 * e ≤ p → bit e p i ≡ 1 → groupDeadline e p o i ≡ 0
+up-to-half-has-none e p o i cost up-to-half one = go (decLt (2 * e) p)
+  where
+    go : Dec (2 * e < p) → groupDeadline e p o i ≡ 0
+    go (yes light) = light-has-none e p o i light
+    go (no half) = absurd (omega (arith, one, half-is-heavy .bit-is-0 e p i (cost, omega arith)))
+
+-- So PD2 asks nothing more of such rows than deadlines and bits.
+pub never-late-up-to-half : NeverLateUpToHalf
+never-late-up-to-half n row cycle cores up-to-half H q ready goesBefore k B C =
     never-late n row cycle cores H q ready goesBefore k B
     (held-to C
     (λ t i j li lj a.
     record {
       bits = a;
-      group = λ _ _ _. omega (arith, light-has-none (row j .cost) (row j .period) (originOf (row j)) (q t j + 1) (light j lj));
+      group = λ _ _ one. omega (arith, up-to-half-has-none (row j .cost) (row j .period) (originOf (row j)) (q t j + 1) (B .can j lj .cost) (up-to-half j lj) one);
     }))
 
 -- PD2's order, with the lower row number last, is held to PD2.

@@ -3,6 +3,7 @@ pub mod Share
 pub mod Order
 pub mod Picks
 pub mod Choice
+pub mod Half
 pub mod Verdicts
 pub mod Rows
 pub mod Courses

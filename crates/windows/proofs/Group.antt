@@ -4,7 +4,7 @@ use mathlib.Core.Bool.{true, false}
 use Prim.Native.Nat.{ℕ, _+_, _-_, _*_, _≤_, _<_}
 use native.Mathlib.Decide.{decLt}
 use native.Mathlib.Omega.{arith}
-use borrow.Author.Tests.{eq-eqb, ne-eqb, lt-ltb, le-ltb}
+use borrow.Author.Tests.{eq-eqb, ne-eqb, lt-ltb, le-ltb, le-leb, lt-leb}
 use Rattle.facts.specs.First.{atFirst}
 use Rattle.facts.specs.Loops.{Reached, Found}
 use Rattle.facts.proofs.Loops.{begins, not-past, stops-here, goes-on, found}
@@ -15,14 +15,14 @@ use Rattle.windows.proofs.Windows.{lastOfJob, bit-at-job-end, job-end-i
 -- for callers
 
 -- A light row's group deadline is 0,
-pub light-has-none : (e p o i : ℕ) → 2 * e ≤ p → groupDeadline e p o i ≡ 0
+pub light-has-none : (e p o i : ℕ) → 2 * e < p → groupDeadline e p o i ≡ 0
 unfolding groupDeadline heavy
-light-has-none e p o i h = simp (le-ltb _ _ h)
+light-has-none e p o i h = simp (lt-leb _ _ h)
 
 -- a heavy row's is what its walk gives.
-pub heavy-walks : (e p o i : ℕ) → p < 2 * e → groupDeadline e p o i ≡ atFirst (stops e p o i) (stopTime e p o) i e
+pub heavy-walks : (e p o i : ℕ) → p ≤ 2 * e → groupDeadline e p o i ≡ atFirst (stops e p o i) (stopTime e p o) i e
 unfolding groupDeadline heavy
-heavy-walks e p o i h = simp (lt-ltb _ _ h)
+heavy-walks e p o i h = simp (le-leb _ _ h)
 
 module _ (e p o i j : ℕ) where
   -- The walk stops by a bit of 0,
@@ -79,7 +79,7 @@ module _ (e p o i j : ℕ) (he : 0 < e) (w : Walking e p o i j) where
       let to = not-past _ _ w (near .0) (bit-stops e p o i (lastOfJob e i) (bit-at-job-end e p i)) in
       omega (arith, w .from)
 
-  module _ (heavy : p < 2 * e) where
+  module _ (heavy : p ≤ 2 * e) where
     -- A bit of 0 ends it,
     pub ends-by-bit : bit e p j ≡ 0 → deadline e p o j ≡ groupDeadline e p o i
     ends-by-bit b =

@@ -6,7 +6,7 @@ use mathlib.Core.Bool.{true, false, true≢false}
 use mathlib.Core.Logic.{inl, inr}
 use Prim.Native.Nat.{ℕ, _+_, _-_, _*_, _/_, _≤_, _<_}
 use native.Mathlib.Nat.{le-antisymm, div-eq-of-eq-mul-left, mul-le-mul-right, lt-div-mul-add}
-use native.Mathlib.Decide.{ℕ-discrete, decLt}
+use native.Mathlib.Decide.{ℕ-discrete, decLt, decLe}
 use native.Mathlib.Omega.{arith}
 use Rattle.facts.specs.Rounding.{ceilDiv}
 use Rattle.facts.specs.First.{IsFirst}
@@ -24,7 +24,7 @@ least-is-unique {t} {u} a b =
     (a .least (b .marked .0) u (b .marked .1) (b .marked .2) (b .after))
     (b .least (a .marked .0) t (a .marked .1) (a .marked .2) (a .after))
 
-module _ (e p o i : ℕ) (he : 0 < e) (hp : e ≤ p) (hv : p < 2 * e) (hi : 0 < i) where
+module _ (e p o i : ℕ) (he : 0 < e) (hp : e ≤ p) (hv : p ≤ 2 * e) (hi : 0 < i) where
   -- deadlines do not fall
   rises : {j k : ℕ} → j ≤ k → deadline e p o j ≤ deadline e p o k
   rises {j} {k} l = go (decLt j k)
@@ -113,9 +113,9 @@ walk-gives-least-time e p o i t he hp hv hi =
 -- W8, in times: D is no later than the end of the job that holds i.
 pub group-deadline-is-within-job : (e p o i : ℕ) → 0 < e → e ≤ p → 0 < i → groupDeadline e p o i ≤ jobStart e p o i + p
 unfolding lastOfJob jobStart
-group-deadline-is-within-job e p o i he hp hi = go (decLt p (2 * e))
+group-deadline-is-within-job e p o i he hp hi = go (decLe p (2 * e))
   where
-    go : Dec (p < 2 * e) → groupDeadline e p o i ≤ o + (i - 1) / e * p + p
+    go : Dec (p ≤ 2 * e) → groupDeadline e p o i ≤ o + (i - 1) / e * p + p
     go (yes hv) =
         let q = ceilDiv i e in
         let near = job-end-is-near e i he in

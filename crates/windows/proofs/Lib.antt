@@ -3,5 +3,6 @@ pub mod Products
 pub mod Group
 pub mod LeastTime
 pub mod Question
+pub mod Half
 pub mod Fits
 pub mod Next

@@ -2,13 +2,13 @@
 -- first that fits". specs/LeastTime.antt says what it is without a walk.
 use Prim.Native.Nat.{ℕ, _-_, _*_}
 use mathlib.Core.Bool.{Bool, cond, _&&_, _||_}
-use lib.Dec.{ltb, eqb}
+use lib.Dec.{ltb, leb, eqb}
 use Rattle.facts.specs.First.{atFirst}
 use Rattle.windows.specs.Windows.{deadline, bit, windowLength}
 
--- "a row is heavy when e/p is more than one half (000)"
+-- "001 says heavy is at least one half" (02, Three). What it was before stands in specs/Half.antt.
 unfoldable pub heavy : ℕ → ℕ → Bool
-heavy e p = ltb p (2 * e)
+heavy e p = leb p (2 * e)
 
 -- The walk from subtask i stops at subtask j if "b = 0", or if j is past i and its "window is 3 slots long". (The length of i's own
 -- window does not count: one less than its deadline lies before d. docs/DECISIONS.md, 8. In a heavy row no window with b = 0 is 3 slots

@@ -17,11 +17,11 @@ pub record IsGroupDeadline (e p o i t : ℕ) : Type 0 where
   pub marked : (j : ℕ) × (0 < j) × Marks e p o j t
   pub least : (j u : ℕ) → 0 < j → Marks e p o j u → deadline e p o i ≤ u → t ≤ u
 
--- Of every heavy row, "when e/p is more than one half", the walk gives that time and no other, whatever the origin.
+-- Of every heavy row, of weight "at least one half" (02, Three), the walk gives that time and no other, whatever the origin.
 abbrev pub WalkGivesLeastTime : Type 0
 WalkGivesLeastTime =
-    (e p o i t : ℕ) → 0 < e → e ≤ p → p < 2 * e → 0 < i → IsGroupDeadline e p o i t ↔ (t ≡ groupDeadline e p o i)
+    (e p o i t : ℕ) → 0 < e → e ≤ p → p ≤ 2 * e → 0 < i → IsGroupDeadline e p o i t ↔ (t ≡ groupDeadline e p o i)
 
 -- "group deadline D: 0 for a light row."
 abbrev pub LightHasNone : Type 0
-LightHasNone = (e p o i : ℕ) → 2 * e ≤ p → groupDeadline e p o i ≡ 0
+LightHasNone = (e p o i : ℕ) → 2 * e < p → groupDeadline e p o i ≡ 0

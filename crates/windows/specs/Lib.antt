@@ -2,5 +2,6 @@ pub mod Windows
 pub mod Group
 pub mod LeastTime
 pub mod Question
+pub mod Half
 pub mod Next
 pub mod Fits

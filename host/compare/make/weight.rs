@@ -6,12 +6,13 @@ use second::windows::heavy;
 /// Numbers at the borders of something.
 const BORDERS: [u16; 9] = [0, 1, 2, 255, 256, 32_767, 32_768, 65_534, 65_535];
 
+/// One half is heavy too, but has a name of its own.
 pub fn name(e: u16, p: u16) -> &'static str {
-    if heavy(e, p) {
-        return "heavy";
-    }
     if u32::from(e) * 2 == u32::from(p) {
         return "one half";
+    }
+    if heavy(e, p) {
+        return "heavy";
     }
     "light"
 }

@@ -1,9 +1,10 @@
-//! A real-time dispatcher after the paper "Exact scope and rules", called 01 below, and after two
+//! A real-time dispatcher after the paper "Exact scope and rules", called 01 below, and after three
 //! requests of the paper "More requests from customers": "A core for each picked row", called
-//! 02, One, and "Why did tank 14 wait?", called 02, Two. Where One changes 01, One is followed; Two
-//! asks of the slot that is about to run and changes nothing.
+//! 02, One, "Why did tank 14 wait?", called 02, Two, and "Half is heavy", called 02, Three. Where
+//! One and Three change 01, they are followed; Two asks of the slot that is about to run and
+//! changes nothing.
 //!
-//! One module for each part of 01, and one for each request; the papers' words stand in the
+//! One module for each part of 01, and one for each of One and Two; the papers' words stand in the
 //! comments beside the code that follows them, and their numbers stand in the code as they are
 //! written there.
 //!
@@ -37,7 +38,7 @@
 //! | `late_only_if_picked` | `slot::give_quanta`, `checker::judge` | only picked rows are tested |
 //! | `start_of_next` | `windows::start_after_phase` | a window starts at the next one's start |
 //! | `deadline_rounded_down` | `windows::deadline_after_phase` | floor in place of ceil |
-//! | `half_is_heavy` | `windows::heavy` | 1/2 counted heavy |
+//! | `half_is_light` | `windows::heavy` | 1/2 counted light |
 //! | `input_read_short` | `printer::read_input` | only the first 65,536 bytes are judged |
 //! | `subtask_as_4_bytes` | `windows::window` | i cut to 32 bits |
 //! | `place_as_4_bytes` | `slot::slot_on` | the place cut to 32 bits |

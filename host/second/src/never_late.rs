@@ -226,7 +226,7 @@ impl Fraction {
 #[derive(Clone, Copy)]
 enum Taste {
     Any,
-    /// more than one half: D decides only where one of the rows is heavy
+    /// more than one half: D decides only where one of the rows is so heavy (of one half b is 0)
     Heavy,
     /// at most a quarter: boxes of many rows
     Small,
@@ -460,7 +460,7 @@ mod tests {
     #[test]
     fn the_counts() {
         let mut counts = Counts::default();
-        // 2/3 and 3/4 are heavy, 1/2 is not
+        // 2/3, 1/2 and 3/4 are heavy, 3 rows here and 16 in the next; 1/4 is not
         counts.add(
             &value_of(12, 2, &[(2, 3, 0, 0), (1, 2, 0, 1), (3, 4, 0, 1)]),
             24,
@@ -468,7 +468,7 @@ mod tests {
         counts.add(&value_of(2, 8, &[(1, 2, 0, 0); 16]), 4);
         counts.add(&value_of(4, 8, &[(1, 4, 0, 1); 32]), 8);
         let expected = "never late: 3 tables, 36 slots, 17 plain rows, 34 early-release rows, \
-                        2 heavy rows, 2 full-width boxes (M = 8), 1 of them with 32 rows, seed 9";
+                        19 heavy rows, 2 full-width boxes (M = 8), 1 of them with 32 rows, seed 9";
         assert_eq!(counts.text(9), expected);
     }
 
@@ -569,7 +569,8 @@ mod tests {
         assert!(with_row(&|_, row| row.kind == 0) > 200);
         assert!(with_row(&|_, row| row.kind == 1) > 200);
         assert!(with_row(&|_, row| 2 * row.cost > row.period) > 200);
-        assert!(with_row(&|_, row| 2 * row.cost <= row.period) > 200);
+        assert!(with_row(&|_, row| 2 * row.cost == row.period) > 200);
+        assert!(with_row(&|_, row| 2 * row.cost < row.period) > 200);
         assert!(with_row(&|_, row| row.phase > 0) > 100);
         assert!(with_row(&|_, row| row.phase == 0) > 300);
         assert!(with_row(&|table, row| u32::from(row.phase) > table.cycle) > 20);

@@ -219,7 +219,7 @@ mod tests {
         assert_eq!(asked(8, 11, 0, 5), (6, 9, 1, 0, 11));
         assert_eq!(asked(5, 16, 0, 1), (3, 7, 1, 0, 0));
         assert_eq!(asked(5, 16, 0, 4), (12, 16, 0, 0, 0));
-        assert_eq!(asked(1, 2, 0, 0), (0, 2, 0, 0, 0));
+        assert_eq!(asked(1, 2, 0, 0), (0, 2, 0, 0, 2));
         assert_eq!(asked(2, 3, 4, 0), (4, 6, 1, 4, 7));
     }
 
@@ -446,9 +446,9 @@ mod tests {
         // slot 1: 1/1 with phase 1 is due at 2 with b = 0, 2/3 at 2 with b = 1
         let rows = rows_of(&[(1, 1, 1, 0), (2, 3, 0, 0)]);
         assert_eq!(picks(&rows, &[0; 32], 2, 1, 1), marks_of(&[1]));
-        // 2/2 with phase 1 and 1/2 are both due at 2 with b = 0: D (2 and 0) is not asked
-        let rows = rows_of(&[(1, 2, 0, 0), (2, 2, 1, 0)]);
-        assert_eq!(picks(&rows, &[0; 32], 2, 1, 1), marks_of(&[0]));
+        // 2/2 with phase 2 and 1/3 are both due at 3 with b = 0: D (3 and 0) is not asked
+        let rows = rows_of(&[(1, 3, 0, 0), (2, 2, 2, 0)]);
+        assert_eq!(picks(&rows, &[0; 32], 2, 2, 1), marks_of(&[0]));
     }
 
     #[test]

@@ -578,8 +578,8 @@ pub(crate) mod tests {
 
     #[test]
     fn ready_rows_stand_in_their_order() {
-        // 2/3 (0 to 2, b 1, D 3), 1/2 (0 to 2, b 0), 1/4 (0 to 4, b 0), 3/4 (0 to 2, b 1, D 4),
-        // 1/2, 2/3 with phase 1 (not ready in slot 0)
+        // 2/3 (0 to 2, b 1, D 3), 1/2 (0 to 2, b 0, D 2), 1/4 (0 to 4, b 0, D 0), 3/4 (0 to 2, b 1,
+        // D 4), 1/2, 2/3 with phase 1 (not ready in slot 0)
         let rows = [
             (2, 3, 0, 0),
             (1, 2, 0, 0),
@@ -598,8 +598,8 @@ pub(crate) mod tests {
         let expected = [
             next(3, 2, 1, 4),
             next(0, 2, 1, 3),
-            next(1, 2, 0, 0),
-            next(4, 2, 0, 0),
+            next(1, 2, 0, 2),
+            next(4, 2, 0, 2),
             next(2, 4, 0, 0),
         ];
         assert_eq!(ready_rows(&state), expected);
@@ -655,10 +655,9 @@ pub(crate) mod tests {
         let mut state = fresh(value_of(24, 2, &[(3, 8, 1, 0), (2, 3, 2, 0)]));
         state.time = 2;
         assert_eq!(deciding_rule(&state, 1), Some(Rule::GroupDeadline));
-        // 2/4 and 3/4 at 2, both 2 to 4 with b = 0: D (0 and 4) is not asked
-        let mut state = fresh(value_of(4, 2, &[(2, 4, 0, 0), (3, 4, 0, 0)]));
+        // 1/4 (0 to 4) and 3/4 (2 to 4) at 2, both with b = 0: D (0 and 4) is not asked
+        let mut state = fresh(value_of(4, 2, &[(1, 4, 0, 0), (3, 4, 0, 0)]));
         state.time = 2;
-        state.quanta[0] = 1;
         state.quanta[1] = 2;
         assert_eq!(deciding_rule(&state, 1), Some(Rule::RowNumber));
     }
@@ -676,11 +675,10 @@ pub(crate) mod tests {
 
     #[test]
     fn with_both_bits_0_the_group_deadline_is_not_asked() {
-        // time 2: plain 2/4 (light, i = 2: 2 to 4, b 0, D 0) and 3/4 (heavy, i = 3: 2 to 4,
+        // time 2: plain 1/4 (light, i = 1: 0 to 4, b 0, D 0) and 3/4 (heavy, i = 3: 2 to 4,
         // b 0, D 4); one core free, row 0 goes though its D is smaller
-        let mut state = fresh(value_of(4, 2, &[(2, 4, 0, 0), (3, 4, 0, 0)]));
+        let mut state = fresh(value_of(4, 2, &[(1, 4, 0, 0), (3, 4, 0, 0)]));
         state.time = 2;
-        state.quanta[0] = 1;
         state.quanta[1] = 2;
         assert_eq!(picks(&mut state, 1), [0]);
     }
@@ -1275,5 +1273,94 @@ pub(crate) mod tests {
             }
         }
         assert!(lates > 50 && moved > 50);
+    }
+
+    // ---- half is heavy (02, Three) ----
+
+    /// A table without fault, in which many rows are one half, however written.
+    fn table_with_halves(chance: &mut Chance) -> Table {
+        let periods = [2, 3, 4, 6, 8, 12, 24];
+        let cores = 1 + chance.below(8) as u8;
+        let mut rows: Vec<(u16, u16, u16, u8)> = Vec::new();
+        for _ in 0..32 {
+            let p = periods[chance.below(7) as usize];
+            let e = if p % 2 == 0 && chance.below(2) == 0 {
+                p / 2
+            } else {
+                1 + chance.below(u64::from(p) - 1) as u16
+            };
+            rows.push((e, p, chance.below(4) as u16, chance.below(2) as u8));
+            if table::fault(&value_of(24, cores, &rows)) != 0 {
+                rows.pop();
+            }
+        }
+        value_of(24, cores, &rows)
+    }
+
+    /// A row's e/p against one half.
+    fn against_one_half(row: &Row) -> Ordering {
+        (2 * row.cost).cmp(&row.period)
+    }
+
+    /// The ready rows as `ready_rows` has them, but with D as it was before 02, Three: "a row is
+    /// heavy when e/p is more than one half (000)", and D is 0 for all others.
+    fn ready_rows_before(state: &State) -> Vec<Next> {
+        let mut found = Vec::new();
+        for (number, row) in state.table.named_rows().iter().enumerate() {
+            let quanta = state.quanta[number];
+            if ready(row, quanta, state.time) {
+                let mut next = next_of(number as u8, row, quanta);
+                if against_one_half(row) != Ordering::Greater {
+                    next.group = 0;
+                }
+                put_in_order(&mut found, next);
+            }
+        }
+        found
+    }
+
+    /// "Show that no pick changes": the picks with D as it is now against those with D as it was.
+    #[test]
+    fn half_is_heavy_changes_no_pick() {
+        let mut chance = Chance(0x02_0005);
+        let (mut slots, mut with_another_d) = (0, 0);
+        // where the last row picked and the first left out are due at the same time and one of them
+        // alone is one half: the other is lighter, or heavier, and is left out, is picked by its
+        // number, or is picked by its bit
+        let mut ties = [[0; 3]; 2];
+        for _ in 0..300 {
+            let table = table_with_halves(&mut chance);
+            let mut state = fresh(table);
+            for _ in 0..2 * table.cycle {
+                let (now, before) = (ready_rows(&state), ready_rows_before(&state));
+                for k in 0..=table.cores {
+                    let first = before.iter().take(usize::from(k));
+                    let mut picked: Vec<u8> = first.map(|next| next.row).collect();
+                    picked.sort_unstable();
+                    assert_eq!(pick(&state, k), picked);
+                }
+                slots += 1;
+                let another_d = |next: &Next| !before.contains(next);
+                with_another_d += u32::from(now.iter().any(another_d));
+                // the pairs that part picked and left out with 1, 2 and so on to M cores
+                for pair in now.windows(2).take(usize::from(table.cores)) {
+                    let weight = |next: &Next| against_one_half(&table.rows[usize::from(next.row)]);
+                    let (other, place) = match (weight(&pair[0]), weight(&pair[1])) {
+                        (Ordering::Equal, other) => (other, 0),
+                        (other, Ordering::Equal) => (other, 1 + usize::from(pair[0].bit)),
+                        _ => continue,
+                    };
+                    if other != Ordering::Equal && pair[0].deadline == pair[1].deadline {
+                        ties[usize::from(other == Ordering::Greater)][place] += 1;
+                    }
+                }
+                let k = table.cores - u8::from(chance.below(8) == 0);
+                if slot(&mut state, k, &mut [0; 10], 0).number != 0 {
+                    break;
+                }
+            }
+        }
+        assert!(2 * with_another_d > slots);
+        assert!(ties.iter().flatten().all(|&met| met > 100), "{:?}", ties);
     }
 }

@@ -307,7 +307,7 @@ mod tests {
         let state = fresh(value_of(6, 1, &[(1, 3, 0, 0), (1, 2, 0, 0)]));
         let by_deadline = passed_over(1, Rule::Deadline);
         assert_eq!(reasons(&state, 1), [by_deadline, PICKED]);
-        // time 1: 2/3 with phase 1 (1 to 3, b 1, D 4) and 1/2 (0 to 2, b 0, D 0): bit, D and
+        // time 1: 2/3 with phase 1 (1 to 3, b 1, D 4) and 1/2 (0 to 2, b 0, D 2): bit, D and
         // number speak for row 0, and are not asked
         let state = state_of(6, 2, &[(2, 3, 1, 0), (1, 2, 0, 0)], 1, &[0, 0]);
         assert_eq!(reasons(&state, 1), [by_deadline, PICKED]);
@@ -347,9 +347,9 @@ mod tests {
 
     #[test]
     fn passed_over_by_the_row_number() {
-        // time 2: light 2/4 with one quantum (2 to 4, b 0, D 0) and heavy 3/4 with two (2 to 4,
+        // time 2: light 1/4 without a quantum (0 to 4, b 0, D 0) and heavy 3/4 with two (2 to 4,
         // b 0, D 4): with both bits 0 the group deadline is not asked
-        let state = state_of(4, 2, &[(2, 4, 0, 0), (3, 4, 0, 0)], 2, &[1, 2]);
+        let state = state_of(4, 2, &[(1, 4, 0, 0), (3, 4, 0, 0)], 2, &[0, 2]);
         let by_number = passed_over(0, Rule::RowNumber);
         assert_eq!(reasons(&state, 1), [PICKED, by_number]);
         // both bits 1 and D 0 in both: 2/5 is 0 to 3

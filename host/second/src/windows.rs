@@ -72,13 +72,14 @@ pub fn bit(e: u16, p: u16, i: u64) -> u8 {
     bit_of(u128::from(e), u128::from(p), u128::from(i))
 }
 
-/// "a row is heavy when e/p is more than one half"
+/// A row is heavy when e/p is at least one half. 02, Three: "001 says heavy is at least one half;
+/// we had followed 000. Mend the definition". With e = 0, where 01 knows no row, it is not.
 pub fn heavy(e: u16, p: u16) -> bool {
-    // slip: 1/2 counted heavy
-    if cfg!(slip = "half_is_heavy") {
-        return 2 * u32::from(e) >= u32::from(p);
+    // slip: 1/2 counted light
+    if cfg!(slip = "half_is_light") {
+        return 2 * u32::from(e) > u32::from(p);
     }
-    2 * u32::from(e) > u32::from(p)
+    e != 0 && 2 * u32::from(e) >= u32::from(p)
 }
 
 /// "the start of the job that holds it, f + floor((i-1)/e)·p". With e = 0 or i = 0, where 01
@@ -192,7 +193,8 @@ mod tests {
 
     #[test]
     fn bench_1_2() {
-        assert_eq!(asked(1, 2, 0, 1), (0, 2, 0, 0));
+        // 02, Three: "1/2, i = 1 has D 2"
+        assert_eq!(asked(1, 2, 0, 1), (0, 2, 0, 2));
     }
 
     #[test]
@@ -225,18 +227,38 @@ mod tests {
     }
 
     #[test]
-    fn heavy_is_more_than_one_half() {
+    fn heavy_is_at_least_one_half() {
         // 3/5: 0-2, 1-4 (3 slots: 3), 3-5 b 0
         assert_eq!(asked(3, 5, 0, 1), (0, 2, 1, 3));
         assert_eq!(asked(3, 5, 0, 2), (1, 4, 1, 5));
         assert_eq!(asked(3, 5, 0, 3), (3, 5, 0, 5));
-        // one half, however written, is light
-        assert_eq!(asked(2, 4, 0, 1), (0, 2, 0, 0));
-        assert_eq!(asked(32767, 65534, 0, 1), (0, 2, 0, 0));
+        // one half, however written, is heavy; what is less is light
+        assert_eq!(asked(2, 4, 0, 1), (0, 2, 0, 2));
+        assert_eq!(asked(32767, 65534, 0, 1), (0, 2, 0, 2));
         assert_eq!(asked(32767, 65535, 0, 1), (0, 3, 1, 0));
         assert!(heavy(32768, 65535));
+        assert!(heavy(32767, 65534));
+        assert!(!heavy(32766, 65534));
         assert!(!heavy(32767, 65535));
+        // e = p, and e above p; without a cost nothing is heavy
+        assert!(heavy(1, 1));
+        assert!(heavy(1, 0));
+        assert!(!heavy(0, 1));
         assert!(!heavy(0, 0));
+    }
+
+    #[test]
+    fn such_a_row_s_b_is_always_0() {
+        // with p = 2e, i·p/e is 2i: every window is two slots long and has b = 0, so that D is its
+        // own deadline
+        for e in 1..=32_767u16 {
+            let job = u64::from(e);
+            for i in (1..=20).chain([job, job + 1, 2 * job, 1_000_000_001]) {
+                let end = 65_535 + 2 * i;
+                assert_eq!(asked(e, 2 * e, 65_535, i), (end - 2, end, 0, end));
+            }
+            assert_eq!(bit(e, 2 * e, u64::MAX), 0);
+        }
     }
 
     #[test]
@@ -391,7 +413,7 @@ mod tests {
             for e in 1..p {
                 for i in 1..=2 * u64::from(e) + 2 {
                     let here = window(e, p, 0, i);
-                    if 2 * e > p {
+                    if 2 * e >= p {
                         assert_eq!(here.group, group_by_list(e, p, here.deadline));
                         assert_eq!(here.group, group_by_rest(e, p, here.deadline));
                         assert_eq!(here.group, group_by_walk(e, p, i));
@@ -406,7 +428,7 @@ mod tests {
     #[test]
     fn the_group_deadline_of_long_rows() {
         for &p in &[997u16, 4_096, 65_519, 65_534, 65_535] {
-            for &rest in &[1, 2, 3, 7, 100, p / 4, p / 3, p / 2 - 1, (p - 1) / 2] {
+            for &rest in &[1, 2, 3, 7, 100, p / 4, p / 3, p / 2 - 1, p / 2] {
                 let e = p - rest;
                 let last = u64::from(e);
                 for &i in &[1, 2, last / 2, last - 1, last, last + 1, 3 * last] {

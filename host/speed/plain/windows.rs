@@ -46,7 +46,7 @@ impl Row {
 
     /// The group deadline of subtask i: the row's windows are walked until one fits.
     pub fn group_deadline(&self, i: u64) -> u64 {
-        if 2 * u32::from(self.cost) <= u32::from(self.period) {
+        if 2 * u32::from(self.cost) < u32::from(self.period) {
             return 0;
         }
         let (mut deadline, mut bit) = self.due(i);

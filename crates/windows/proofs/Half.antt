@@ -1,0 +1,73 @@
+-- What moved at weight one half, and nowhere else. Assumes nothing.
+use mathlib.Core.Path.{_≡_, refl, sym, ap, _∙_}
+use Prim.Native.Nat.{ℕ, _+_, _-_, _*_, _/_, _%_, _≤_, _<_}
+use native.Mathlib.Nat.{mul-mod-left, div-eq-of-eq-mul-left}
+use native.Mathlib.Decide.{decLt}
+use native.Mathlib.Omega.{arith}
+use borrow.Author.Tests.{lt-ltb, le-ltb}
+use Rattle.facts.specs.First.{atFirst}
+use Rattle.windows.specs.Windows.{start, deadline, bit}
+use Rattle.windows.specs.Group.{stops, stopTime, groupDeadline}
+use Rattle.windows.specs.Question.{lastSubtask, Unfit, windowReply}
+use Rattle.windows.specs.Half.{formerHeavy, formerGroupDeadline, IsOneHalf, HalfIsHeavy}
+use Rattle.windows.proofs.Windows.{bit-of-whole, deadline-of-whole}
+use Rattle.windows.proofs.Group.{light-has-none, heavy-walks, walk-begins, ends-by-bit}
+use Rattle.windows.proofs.Question.{windows-are-answered}
+
+-- e divides i·p at weight one half,
+half-divides : (e p i : ℕ) → p ≡ 2 * e → i * p % e ≡ 0
+half-divides e p i half = ap (λ x. i * x % e) half ∙ ap (λ x. x % e) {x = i * (2 * e)} {y = i * 2 * e} (omega arith) ∙ mul-mod-left (i * 2) e
+
+-- so "such a row's b is always 0".
+half-has-bit-0 : (e p i : ℕ) → p ≡ 2 * e → bit e p i ≡ 0
+half-has-bit-0 e p i half = bit-of-whole e p i (half-divides e p i half)
+
+-- A heavy row's D is d where its b is 0.
+bit-0-ends-at-once : (e p o i : ℕ) → 0 < e → p ≤ 2 * e → bit e p i ≡ 0 → groupDeadline e p o i ≡ deadline e p o i
+bit-0-ends-at-once e p o i he heavy b = sym (ends-by-bit e p o i i he (walk-begins e p o i) heavy b)
+
+-- Where the weight is not one half, D is what it was. (Where e and p are 0, there is no window to walk.)
+elsewhere-same : (e p o i : ℕ) → (IsOneHalf e p → ⊥) → groupDeadline e p o i ≡ formerGroupDeadline e p o i
+unfolding formerGroupDeadline formerHeavy atFirst
+elsewhere-same e p o i other = go (decLt p (2 * e)) (decLt (2 * e) p) (decLt 0 e)
+  where
+    go : Dec (p < 2 * e) → Dec (2 * e < p) → Dec (0 < e) → groupDeadline e p o i ≡ formerGroupDeadline e p o i
+    go (yes heavy) _ _ = rw (lt-ltb p (2 * e) heavy) (heavy-walks e p o i (omega arith))
+    go (no a) (yes light) _ = rw (le-ltb p (2 * e) (omega arith)) (light-has-none e p o i light)
+    go (no a) (no b) (yes cost) = absurd (other (cost, omega arith))
+    go (no a) (no b) (no c) =
+        let none : e ≡ 0 = omega arith in
+        rw (le-ltb p (2 * e) (omega arith)) (heavy-walks e p o i (omega arith) ∙ ap (atFirst (stops e p o i) (stopTime e p o) i) none)
+
+-- Its windows are two slots long, one behind the other.
+start-at-half : (e o i : ℕ) → 0 < e → start e (2 * e) o i ≡ o + 2 * (i - 1)
+unfolding start
+start-at-half e o i cost = let whole : (i - 1) * (2 * e) / e ≡ 2 * (i - 1) = div-eq-of-eq-mul-left cost (omega arith) in omega arith
+
+deadline-at-half : (e o i : ℕ) → 0 < e → deadline e (2 * e) o i ≡ o + 2 * i
+deadline-at-half e o i cost =
+    let whole : i * (2 * e) / e ≡ 2 * i = div-eq-of-eq-mul-left cost (omega arith) in
+    omega (arith, deadline-of-whole e (2 * e) o cost i (half-divides e (2 * e) i refl))
+
+half-is-answered : (e f i : ℕ) → 0 < e → 0 < i → i ≤ lastSubtask →
+    windowReply e (2 * e) f i ≡ record { number = 0; r = f + 2 * (i - 1); d = f + 2 * i; b = 0; D = f + 2 * i }
+half-is-answered e f i cost first last =
+    windows-are-answered e (2 * e) f i .if-fit fit
+    ∙ rw (start-at-half e f i cost, half-has-bit-0 e (2 * e) i refl, bit-0-ends-at-once e (2 * e) f i cost (omega arith) (half-has-bit-0 e (2 * e) i refl), deadline-at-half e f i cost)
+  where
+    fit : Unfit e (2 * e) i → ⊥
+    fit (Unfit.no-cost z) = omega arith
+    fit (Unfit.not-below l) = omega arith
+    fit (Unfit.before-first l) = omega arith
+    fit (Unfit.past-last l) = omega arith
+
+pub half-is-heavy : HalfIsHeavy
+unfolding formerGroupDeadline formerHeavy
+half-is-heavy =
+    record {
+      was-0 = λ e p o i half. rw (le-ltb p (2 * e) (omega (arith, half))) refl;
+      is-d = λ e p o i half. bit-0-ends-at-once e p o i (half .0) (omega (arith, half)) (half-has-bit-0 e p i (half .1));
+      elsewhere-same = elsewhere-same;
+      bit-is-0 = λ e p i half. half-has-bit-0 e p i (half .1);
+      answer = half-is-answered;
+    }
