@@ -351,7 +351,7 @@ class AgainstProbe(unittest.TestCase):
         self.assertEqual(said(table, trace, tank, slot, Probe()), list(expected))
 
     # examples/tank-14.hex and its trace. Subtasks as r to d, with b:
-    #   tank 11 (row 0), 3/6: 0-2, 2-4, 4-6, 6-8, 8-10, all b 0.
+    #   tank 11 (row 0), 3/6: 0-2, 2-4, 4-6, 6-8, 8-10, all b 0, so D is d.
     #   tank 12 (row 1), 5/6: i·6/5 is 1.2, 2.4, 3.6, 4.8, 6, 7.2, 8.4: 0-2 b1, 1-3 b1, 2-4 b1, 3-5 b1, 4-6 b0, 6-8 b1, 7-9 b1. All windows
     #     are of two slots, so D is the next deadline with b = 0: 6 for the first five.
     #   tank 14 (row 2), 2/5: i·5/2 is 2.5, 5, 7.5, 10: 0-3 b1, 2-5 b0, 5-8 b1, 7-10 b0. It is light: D 0.
@@ -360,7 +360,7 @@ class AgainstProbe(unittest.TestCase):
     #   1, k = 2: 2, 3 b1, 3 b1: tank 11, then tank 12, whose D of 6 is above 0.
     #   2, k = 2: 4 b0, 4 b1, 3: tank 14, then 12.
     #   3, k = 2: 4, 5 b1, 5 b0: tank 11, then 12 by its bit.
-    #   4, k = 2: 6 b0, 6 b0, 5: tank 14, then 11, which stands before 12; that D is 0 and 6 does not count with b = 0.
+    #   4, k = 2: 6 b0, 6 b0, 5: tank 14, then 11, which stands before 12: D, 6 in both, is not asked with b = 0.
     #   5, k = 2: tank 11 has had three quanta and starts again at 6; 6 and 8: tanks 12 and 14.
     #   6, k = 2: 8 b0, 8 b1; tank 14 has had three quanta and starts again at 7.
     #   7, k = 0: tank 11 has had four and starts again at 8; tanks 12 and 14 are ready. The next d are 10, 9, 10: nobody is late at 8.

@@ -13,7 +13,7 @@ use Rattle.demands.proofs.ShutOut.{shut-out}
 use Rattle.demands.proofs.NeverLate.{never-late}
 use Rattle.demands.proofs.Cores.{cores}
 use Rattle.demands.proofs.Why.{why}
-use Rattle.demands.proofs.Half.{half}
+use Rattle.demands.proofs.HalfIsHeavy.{half-is-heavy}
 
 pub all : All
 all =
@@ -31,5 +31,5 @@ all =
       never-late = never-late;
       cores = cores;
       why = why;
-      half = half;
+      half-is-heavy = half-is-heavy;
     }

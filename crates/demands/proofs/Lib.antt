@@ -15,5 +15,5 @@ pub mod ShutOut
 pub mod NeverLate
 pub mod Cores
 pub mod Why
-pub mod Half
+pub mod HalfIsHeavy
 pub mod All

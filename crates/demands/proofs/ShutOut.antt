@@ -12,10 +12,9 @@ use Rattle.facts.specs.Findings.{firstFound}
 use Rattle.facts.specs.Rising.{rising}
 use Rattle.facts.specs.Places.{places, padded}
 use Rattle.counts.specs.declared.Subtask.{Subtask}
-use Rattle.windows.specs.declared.Answer.{Answer as Window}
 use Rattle.windows.specs.Windows.{start, deadline, bit, windowLength, jobStart}
 use Rattle.windows.specs.Group.{heavy, stops, stopTime, groupDeadline}
-use Rattle.windows.proofs.Half.{half-is-heavy}
+use Rattle.windows.proofs.Half.{moved-at-half}
 use Rattle.table.specs.Causes.{load}
 use Rattle.table.specs.Value.{faultOf}
 use Rattle.table.specs.Bytes.{tableNumber, tableIn, reading}
@@ -49,7 +48,7 @@ use Rattle.checker.specs.Check.{recordsFindings, traceSaid, checkOf}
 use Rattle.demands.specs.Bench.{exampleTrace, threeCores}
 use Rattle.demands.specs.LawInputs.{stateOf}
 use Rattle.demands.specs.Inputs.{allBelow, Bytes, CanAskWindow, rowsFit, Possible, CanAsk}
-use Rattle.demands.specs.ShutOut.{IsWindows, HalfIsLight, Dispatcher, IsDispatcher, numberOf, rowsWritten, GivesAsRecorded, ShutOutOf, Explainer, IsExplainer, ShutOutOfWhy, ShutOut}
+use Rattle.demands.specs.ShutOut.{Dispatcher, IsDispatcher, numberOf, rowsWritten, GivesAsRecorded, ShutOutOf, Explainer, IsExplainer, ShutOutOfWhy, Answerer, IsAnswerer, HalfIsLight, ShutOut}
 use Rattle.demands.proofs.Two.{picks-are-pd2s}
 
 -- 01's example: slot 0 and slot 1 of a fresh state with both cores free, each into ten bytes
@@ -244,17 +243,17 @@ shut-out-of-why explain is =
     }
 
 -- "1/2, i = 1 has D 2"
-abbrev subtask1 : Subtask
-subtask1 = record { 0 = 1 }
+abbrev firstSubtask : Subtask
+firstSubtask = record { 0 = 1 }
 
-can-ask1 : CanAskWindow 1 2 0 subtask1
+can-ask-half : CanAskWindow 1 2 0 firstSubtask
 unfolding allBelow
-can-ask1 = refl
+can-ask-half = refl
 
-shut-out-half : (window : ℕ → ℕ → ℕ → Subtask → Window) → IsWindows window → HalfIsLight window → ⊥
+shut-out-half : (window : Answerer) → IsAnswerer window → HalfIsLight window → ⊥
 shut-out-half window is light =
-    let has-2 = is 1 2 0 subtask1 can-ask1 ∙ half-is-heavy .answer 1 0 1 (omega arith) (omega arith) (omega arith) in
-    omega (arith, ap (λ reply. reply .D) has-2, light 1 0 subtask1 can-ask1)
+    let has-2 = is 1 2 0 firstSubtask can-ask-half ∙ moved-at-half .answer 1 0 1 (omega arith) (omega arith) (omega arith) in
+    omega (arith, ap (λ reply. reply .D) has-2, light 1 0 firstSubtask can-ask-half)
 
 -- What the definitions say of the example and of the two traces, said of a number that is equal.
 module _ {number : ℕ} where
@@ -273,10 +272,10 @@ shut-out =
     let t = computed .trace-bytes in
     let l = computed .late-bytes in
     record {
-      half-is-light = shut-out-half;
       reader = λ read is none. none example b (ap (λ r. r .number) (is example b) ∙ computed .read);
       dispatcher = shut-out-of;
       why = shut-out-of-why;
+      half-is-light = shut-out-half;
       always-passes = λ check is always. is-late (ap (λ x. x .number) (is example lateTrace b l)) (always example lateTrace b l (computed .taken));
       never-passes = λ check is never. never example exampleTrace b t (passes (ap (λ x. x .number) (is example exampleTrace b t)));
       board-takes-none = λ check is none. none example b (takes (is example b));

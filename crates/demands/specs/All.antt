@@ -13,7 +13,7 @@ use Rattle.demands.specs.ShutOut.{ShutOut}
 use Rattle.demands.specs.NeverLate.{NeverLate}
 use Rattle.demands.specs.Cores.{Cores}
 use Rattle.demands.specs.Why.{Why}
-use Rattle.demands.specs.Half.{Half}
+use Rattle.demands.specs.HalfIsHeavy.{HalfIsHeavy}
 
 pub record All : Type 0 where
   -- "any two results allowed are equal", of every public function
@@ -26,7 +26,7 @@ pub record All : Type 0 where
   pub one : DemandOne
   pub two : DemandTwo
   pub three : DemandThree
-  -- the bench values that 01 marks P, and our own table of 01's numbers, orders and limits
+  -- the bench values that 01 marks P, one as 02, Three mends it, and our own table of 01's numbers, orders and limits
   pub bench : BenchHolds
   pub laws : LawsHold
   -- what the last version did wrong
@@ -40,4 +40,4 @@ pub record All : Type 0 where
   -- "The reason given must be the true one and the only true one in that list"
   pub why : Why
   -- "Show that no pick changes, since such a row's b is always 0"
-  pub half : Half
+  pub half-is-heavy : HalfIsHeavy

@@ -1,4 +1,4 @@
--- The bench values that 01 marks P (01, "Bench values"): one table and one statement, over the definitions.
+-- The bench values that 01 marks P (01, "Bench values"), that of 1/2 as 02, Three mends it: one table and one statement, over the definitions.
 use Prim.Native.Nat.{ℕ, _-_}
 use mathlib.Core.Path.{_≡_}
 use mathlib.Core.List.{List, [], _∷_, _++_}

@@ -32,13 +32,6 @@ use Rattle.checker.specs.Answer as checked
 use Rattle.demands.specs.Promises.{windows·window, table·read, dispatcher·State·slot, why·of-row, checker·check, firmware·zb-table-check, firmware·zb-trace-check}
 use Rattle.demands.specs.Inputs.{Bytes, CanAskWindow, Possible, CanAsk}
 
--- Who answers the window question keeps the promise of `window`. Shut out is one that finds "D 0 at weight exactly one half" (02, Three).
-abbrev pub IsWindows : (ℕ → ℕ → ℕ → Subtask → Window) → Type 0
-IsWindows window = (e p f : ℕ) (i : Subtask) → CanAskWindow e p f i → windows·window e p f i (window e p f i)
-
-abbrev pub HalfIsLight : (ℕ → ℕ → ℕ → Subtask → Window) → Type 0
-HalfIsLight window = (e f : ℕ) (i : Subtask) → CanAskWindow e (2 * e) f i → replyOf (window e (2 * e) f i) .D ≡ 0
-
 -- A reader keeps the promise of `read`, and the board's table check that of `zb_table_check`.
 abbrev pub IsReader : (List ℕ → Reading) → Type 0
 IsReader read = (bytes : List ℕ) → Bytes bytes → table·read bytes (read bytes)
@@ -166,6 +159,16 @@ pub record ShutOutOfWhy (explain : Explainer) : Type 0 where
   pub knows-one-rule : KnowsOneRule explain → ⊥
   pub says-now : SaysNow explain → ⊥
 
+-- Who answers the window question keeps the promise of `window`. Shut out is one that answers D 0 whenever the weight is exactly one half (02, Three).
+abbrev pub Answerer : Type 0
+Answerer = ℕ → ℕ → ℕ → Subtask → Window
+
+abbrev pub IsAnswerer : Answerer → Type 0
+IsAnswerer window = (e p f : ℕ) (i : Subtask) → CanAskWindow e p f i → windows·window e p f i (window e p f i)
+
+abbrev pub HalfIsLight : Answerer → Type 0
+HalfIsLight window = (e f : ℕ) (i : Subtask) → CanAskWindow e (2 * e) f i → replyOf (window e (2 * e) f i) .D ≡ 0
+
 -- A checker keeps the promise of `check`, and the board's trace check that of `zb_trace_check`.
 abbrev pub IsChecker : (List ℕ → List ℕ → Checked) → Type 0
 IsChecker check = (bytes s : List ℕ) → Bytes bytes → Bytes s → checker·check bytes s (check bytes s)
@@ -185,10 +188,10 @@ abbrev pub NeverPasses : (List ℕ → List ℕ → ℕ) → Type 0
 NeverPasses number = (bytes s : List ℕ) → Bytes bytes → Bytes s → number bytes s ≡ 0 → ⊥
 
 pub record ShutOut : Type 0 where
-  pub half-is-light : (window : ℕ → ℕ → ℕ → Subtask → Window) → IsWindows window → HalfIsLight window → ⊥
   pub reader : (read : List ℕ → Reading) → IsReader read → TakesNoTable (λ bytes. read bytes .number) → ⊥
   pub dispatcher : (slot : Dispatcher) → IsDispatcher slot → ShutOutOf slot
   pub why : (explain : Explainer) → IsExplainer explain → ShutOutOfWhy explain
+  pub half-is-light : (window : Answerer) → IsAnswerer window → HalfIsLight window → ⊥
   pub always-passes : (check : List ℕ → List ℕ → Checked) → IsChecker check → AlwaysPasses (numberChecked check) → ⊥
   pub never-passes : (check : List ℕ → List ℕ → Checked) → IsChecker check → NeverPasses (numberChecked check) → ⊥
   -- the same of what the board calls

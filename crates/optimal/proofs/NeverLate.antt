@@ -7,7 +7,7 @@ use native.Mathlib.Omega.{arith}
 use Rattle.windows.specs.Windows.{bit}
 use Rattle.windows.specs.Group.{groupDeadline}
 use Rattle.windows.proofs.Group.{light-has-none}
-use Rattle.windows.proofs.Half.{half-is-heavy}
+use Rattle.windows.proofs.Half.{half-has-bit-0}
 use Rattle.table.specs.declared.Row.{Row}
 use Rattle.pd2.specs.Ready.{originOf}
 use Rattle.pd2.specs.Order.{Rank, rankOf, Before, before}
@@ -71,12 +71,12 @@ never-late n row cycle cores H q ready goesBefore k B C =
     H (omega arith))
 
 -- Up to weight one half D is 0 where the bit is 1: below one half it always is, and at one half no bit is 1.
-up-to-half-has-none : (e p o i : ℕ) → 0 < e → 2 * e ≤ p → bit e p i ≡ 1 → groupDeadline e p o i ≡ 0
-up-to-half-has-none e p o i cost up-to-half one = go (decLt (2 * e) p)
+up-to-half-has-none : (e p o i : ℕ) → 2 * e ≤ p → bit e p i ≡ 1 → groupDeadline e p o i ≡ 0
+up-to-half-has-none e p o i up-to-half one = go (decLt (2 * e) p)
   where
     go : Dec (2 * e < p) → groupDeadline e p o i ≡ 0
     go (yes light) = light-has-none e p o i light
-    go (no half) = absurd (omega (arith, one, half-is-heavy .bit-is-0 e p i (cost, omega arith)))
+    go (no half) = absurd (omega (arith, one, half-has-bit-0 e p i (omega arith)))
 
 -- So PD2 asks nothing more of such rows than deadlines and bits.
 pub never-late-up-to-half : NeverLateUpToHalf
@@ -86,7 +86,7 @@ never-late-up-to-half n row cycle cores up-to-half H q ready goesBefore k B C =
     (λ t i j li lj a.
     record {
       bits = a;
-      group = λ _ _ one. omega (arith, up-to-half-has-none (row j .cost) (row j .period) (originOf (row j)) (q t j + 1) (B .can j lj .cost) (up-to-half j lj) one);
+      group = λ _ _ one. omega (arith, up-to-half-has-none (row j .cost) (row j .period) (originOf (row j)) (q t j + 1) (up-to-half j lj) one);
     }))
 
 -- PD2's order, with the lower row number last, is held to PD2.

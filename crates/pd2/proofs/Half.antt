@@ -7,8 +7,8 @@ use native.Mathlib.Decide.{ℕ-discrete}
 use native.Mathlib.Omega.{arith}
 use borrow.Author.Tests.{eq-eqb, ne-eqb}
 use lib.ListN.{length}
-use Rattle.windows.specs.Half.{formerGroupDeadline}
-use Rattle.windows.proofs.Half.{half-is-heavy}
+use Rattle.windows.specs.Former.{formerGroupDeadline}
+use Rattle.windows.proofs.Half.{moved-at-half}
 use Rattle.table.specs.declared.Row.{Row}
 use Rattle.pd2.specs.Ready.{originOf}
 use Rattle.pd2.specs.Order.{Rank, rankOf, before}
@@ -29,11 +29,12 @@ only-bit-1-is-asked x y D E same-x same-y = go (ℕ-discrete (x .b) 1) (ℕ-disc
 -- Where its bit is 1, a row's group deadline is what it was.
 same-at-bit-1 : (row : Row) (i q : ℕ) → rankOf row i q .b ≡ 1 → rankOf row i q .D ≡ formerGroupDeadline (row .cost) (row .period) (originOf row) (q + 1)
 same-at-bit-1 row i q one =
-    half-is-heavy .elsewhere-same (row .cost) (row .period) (originOf row) (q + 1)
-    (λ half. omega (arith, one, half-is-heavy .bit-is-0 (row .cost) (row .period) (q + 1) half))
+    moved-at-half .elsewhere-same (row .cost) (row .period) (originOf row) (q + 1)
+    (λ half. omega (arith, one, moved-at-half .bit-is-0 (row .cost) (row .period) (q + 1) half))
 
 pub no-pick-changes : NoPickChanges
-no-pick-changes rows quanta t k = λ z. picks (readyIn rows quanta t) (λ j i. same j i z) (length rows) k
+no-pick-changes = record { order = order; picks = λ rows quanta t k z. picks (readyIn rows quanta t) (λ j i. order rows quanta j i z) (length rows) k }
   where
-    same : (j i : ℕ) → goesBeforeBy before rows quanta j i ≡ wentBefore rows quanta j i
-    same j i = only-bit-1-is-asked _ _ _ _ (same-at-bit-1 (rowAt rows j) j (quantaAt quanta j)) (same-at-bit-1 (rowAt rows i) i (quantaAt quanta i))
+    order : (rows : List Row) (quanta : List ℕ) (j i : ℕ) → goesBeforeBy before rows quanta j i ≡ wentBefore rows quanta j i
+    order rows quanta j i =
+        only-bit-1-is-asked _ _ _ _ (same-at-bit-1 (rowAt rows j) j (quantaAt quanta j)) (same-at-bit-1 (rowAt rows i) i (quantaAt quanta i))

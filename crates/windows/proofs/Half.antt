@@ -8,8 +8,9 @@ use borrow.Author.Tests.{lt-ltb, le-ltb}
 use Rattle.facts.specs.First.{atFirst}
 use Rattle.windows.specs.Windows.{start, deadline, bit}
 use Rattle.windows.specs.Group.{stops, stopTime, groupDeadline}
+use Rattle.windows.specs.Former.{formerHeavy, formerGroupDeadline}
 use Rattle.windows.specs.Question.{lastSubtask, Unfit, windowReply}
-use Rattle.windows.specs.Half.{formerHeavy, formerGroupDeadline, IsOneHalf, HalfIsHeavy}
+use Rattle.windows.specs.Half.{IsOneHalf, MovedAtHalf}
 use Rattle.windows.proofs.Windows.{bit-of-whole, deadline-of-whole}
 use Rattle.windows.proofs.Group.{light-has-none, heavy-walks, walk-begins, ends-by-bit}
 use Rattle.windows.proofs.Question.{windows-are-answered}
@@ -18,8 +19,8 @@ use Rattle.windows.proofs.Question.{windows-are-answered}
 half-divides : (e p i : ℕ) → p ≡ 2 * e → i * p % e ≡ 0
 half-divides e p i half = ap (λ x. i * x % e) half ∙ ap (λ x. x % e) {x = i * (2 * e)} {y = i * 2 * e} (omega arith) ∙ mul-mod-left (i * 2) e
 
--- so "such a row's b is always 0".
-half-has-bit-0 : (e p i : ℕ) → p ≡ 2 * e → bit e p i ≡ 0
+-- so "such a row's b is always 0". For callers, too.
+pub half-has-bit-0 : (e p i : ℕ) → p ≡ 2 * e → bit e p i ≡ 0
 half-has-bit-0 e p i half = bit-of-whole e p i (half-divides e p i half)
 
 -- A heavy row's D is d where its b is 0.
@@ -61,9 +62,9 @@ half-is-answered e f i cost first last =
     fit (Unfit.before-first l) = omega arith
     fit (Unfit.past-last l) = omega arith
 
-pub half-is-heavy : HalfIsHeavy
+pub moved-at-half : MovedAtHalf
 unfolding formerGroupDeadline formerHeavy
-half-is-heavy =
+moved-at-half =
     record {
       was-0 = λ e p o i half. rw (le-ltb p (2 * e) (omega (arith, half))) refl;
       is-d = λ e p o i half. bit-0-ends-at-once e p o i (half .0) (omega (arith, half)) (half-has-bit-0 e p i (half .1));

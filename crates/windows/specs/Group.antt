@@ -6,7 +6,7 @@ use lib.Dec.{ltb, leb, eqb}
 use Rattle.facts.specs.First.{atFirst}
 use Rattle.windows.specs.Windows.{deadline, bit, windowLength}
 
--- "001 says heavy is at least one half" (02, Three). What it was before stands in specs/Half.antt.
+-- "001 says heavy is at least one half" (02, Three). What it was before stands in specs/Former.antt.
 unfoldable pub heavy : ℕ → ℕ → Bool
 heavy e p = leb p (2 * e)
 

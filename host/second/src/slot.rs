@@ -1305,16 +1305,15 @@ pub(crate) mod tests {
     /// The ready rows as `ready_rows` has them, but with D as it was before 02, Three: "a row is
     /// heavy when e/p is more than one half (000)", and D is 0 for all others.
     fn ready_rows_before(state: &State) -> Vec<Next> {
+        let mut ready = ready_rows(state);
+        // put in by rising number, as `in_order` does: in a circle (see `put_in_order`) that counts
+        ready.sort_unstable_by_key(|next| next.row);
         let mut found = Vec::new();
-        for (number, row) in state.table.named_rows().iter().enumerate() {
-            let quanta = state.quanta[number];
-            if ready(row, quanta, state.time) {
-                let mut next = next_of(number as u8, row, quanta);
-                if against_one_half(row) != Ordering::Greater {
-                    next.group = 0;
-                }
-                put_in_order(&mut found, next);
+        for mut next in ready {
+            if against_one_half(&state.table.rows[usize::from(next.row)]) != Ordering::Greater {
+                next.group = 0;
             }
+            put_in_order(&mut found, next);
         }
         found
     }

@@ -3,8 +3,12 @@ use Prim.Native.Nat.{ℕ, _<_}
 use mathlib.Core.Path.{_≡_}
 use mathlib.Core.List.{List}
 use mathlib.Core.Bool.{Bool}
-use Rattle.windows.specs.Half.{HalfIsHeavy}
-use Rattle.pd2.specs.Half.{formerPicks, NoPickChanges}
+use lib.ListN.{length}
+use Rattle.windows.specs.Half.{MovedAtHalf}
+use Rattle.table.specs.declared.Row.{Row}
+use Rattle.pd2.specs.Picks.{picks}
+use Rattle.pd2.specs.Half.{wentBefore, formerPicks, NoPickChanges}
+use Rattle.choice.specs.Choice.{saysReadyIn, chosen}
 use Rattle.trace.specs.Records.{rowsAt}
 use Rattle.cores.specs.Sets.{size}
 use Rattle.dispatcher.specs.declared.State.{State}
@@ -15,20 +19,26 @@ use Rattle.dispatcher.specs.Slot.{picksIn, slotOf}
 abbrev pub formerPicksIn : State → ℕ → List ℕ
 formerPicksIn s k = formerPicks (rowsIn s) (quantaIn s) (timeOf s) k
 
--- No slot of any state picks other rows than it did, broken states too,
+-- No slot of any state picks other rows than it did. (A broken state is refused; `picksIn` says whom it would pick.)
 abbrev pub NoSlotPicksOthers : Type 0
 NoSlotPicksOthers = (s : State) (k : ℕ) → picksIn s k ≡ formerPicksIn s k
 
--- and the record of a slot names the rows that it named.
+-- The record of a slot names the rows that it named.
 abbrev pub NoRecordNamesOthers : Type 0
 NoRecordNamesOthers =
     (s : State) (free : List Bool) (buffer : List ℕ) (place : ℕ) → slotOf s free buffer place .said .number < 2 →
     rowsAt (slotOf s free buffer place .bytes) place ≡ formerPicksIn s (size free)
 
-pub record Half : Type 0 where
+-- `choice::picks`, asked alone, picks the rows that it picked, of wild rows too.
+abbrev pub NoChoiceChanges : Type 0
+NoChoiceChanges =
+    (rows : List Row) (quanta : List ℕ) (t k : ℕ) → chosen rows quanta t k ≡ picks (saysReadyIn rows quanta t) (wentBefore rows quanta) (length rows) k
+
+pub record HalfIsHeavy : Type 0 where
   -- D moved from 0 to d where the weight is one half, and nowhere else; "such a row's b is always 0"
-  pub moved : HalfIsHeavy
+  pub moved : MovedAtHalf
   -- "no pick changes", whatever the rows, the quanta, the slot and the cores
   pub picks : NoPickChanges
   pub slots : NoSlotPicksOthers
   pub records : NoRecordNamesOthers
+  pub choice : NoChoiceChanges

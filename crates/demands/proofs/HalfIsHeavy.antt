@@ -1,20 +1,24 @@
 -- Half is heavy, and no pick changes. Assumes nothing.
 use mathlib.Core.Path.{_∙_}
-use Rattle.windows.proofs.Half.{half-is-heavy}
+use lib.ListN.{length}
+use Rattle.windows.proofs.Half.{moved-at-half}
+use Rattle.pd2.specs.Picks.{picks}
 use Rattle.pd2.proofs.Half.{no-pick-changes}
+use Rattle.choice.specs.Choice.{saysReadyIn}
 use Rattle.cores.specs.Sets.{size}
 use Rattle.dispatcher.specs.State.{rowsIn, quantaIn, timeOf}
-use Rattle.demands.specs.Half.{NoSlotPicksOthers, Half}
+use Rattle.demands.specs.HalfIsHeavy.{NoSlotPicksOthers, HalfIsHeavy}
 use Rattle.demands.proofs.Two.{picks-are-pd2s}
 
 no-slot-picks-others : NoSlotPicksOthers
-no-slot-picks-others s k = no-pick-changes (rowsIn s) (quantaIn s) (timeOf s) k
+no-slot-picks-others s k = no-pick-changes .picks (rowsIn s) (quantaIn s) (timeOf s) k
 
-pub half : Half
-half =
+pub half-is-heavy : HalfIsHeavy
+half-is-heavy =
     record {
-      moved = half-is-heavy;
+      moved = moved-at-half;
       picks = no-pick-changes;
       slots = no-slot-picks-others;
       records = λ s free buffer place done. picks-are-pd2s s free buffer place done .rows ∙ no-slot-picks-others s (size free);
+      choice = λ rows quanta t k z. picks (saysReadyIn rows quanta t) (λ j i. no-pick-changes .order rows quanta j i z) (length rows) k;
     }
