@@ -40,7 +40,7 @@ elsewhere-same e p o i other = go (decLt p (2 * e)) (decLt (2 * e) p) (decLt 0 e
         let none : e ≡ 0 = omega arith in
         rw (le-ltb p (2 * e) (omega arith)) (heavy-walks e p o i (omega arith) ∙ ap (atFirst (stops e p o i) (stopTime e p o) i) none)
 
--- Its windows are two slots long, one behind the other.
+-- At weight one half the windows are two slots long, one behind the other.
 start-at-half : (e o i : ℕ) → 0 < e → start e (2 * e) o i ≡ o + 2 * (i - 1)
 unfolding start
 start-at-half e o i cost = let whole : (i - 1) * (2 * e) / e ≡ 2 * (i - 1) = div-eq-of-eq-mul-left cost (omega arith) in omega arith
