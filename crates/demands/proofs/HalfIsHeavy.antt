@@ -2,8 +2,7 @@
 use mathlib.Core.Path.{_∙_}
 use lib.ListN.{length}
 use Rattle.windows.proofs.Half.{moved-at-half}
-use Rattle.pd2.specs.Picks.{picks}
-use Rattle.pd2.proofs.Half.{no-pick-changes}
+use Rattle.pd2.proofs.Half.{same-picks, no-pick-changes}
 use Rattle.choice.specs.Choice.{saysReadyIn}
 use Rattle.cores.specs.Sets.{size}
 use Rattle.dispatcher.specs.State.{rowsIn, quantaIn, timeOf}
@@ -20,5 +19,5 @@ half-is-heavy =
       picks = no-pick-changes;
       slots = no-slot-picks-others;
       records = λ s free buffer place done. picks-are-pd2s s free buffer place done .rows ∙ no-slot-picks-others s (size free);
-      choice = λ rows quanta t k z. picks (saysReadyIn rows quanta t) (λ j i. no-pick-changes .order rows quanta j i z) (length rows) k;
+      choice = λ rows quanta t k. same-picks (saysReadyIn rows quanta t) rows quanta (length rows) k;
     }

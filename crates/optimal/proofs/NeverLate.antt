@@ -1,13 +1,10 @@
 -- Nobody is ever late. Assumes nothing.
-use Prim.Native.Nat.{ℕ, _+_, _*_, _≤_, _<_}
+use Prim.Native.Nat.{ℕ, _+_, _≤_, _<_}
 use mathlib.Core.Path.{_≡_}
 use mathlib.Core.Bool.{Bool}
-use native.Mathlib.Decide.{decLe, decLt}
+use native.Mathlib.Decide.{decLe}
 use native.Mathlib.Omega.{arith}
-use Rattle.windows.specs.Windows.{bit}
-use Rattle.windows.specs.Group.{groupDeadline}
-use Rattle.windows.proofs.Group.{light-has-none}
-use Rattle.windows.proofs.Half.{half-has-bit-0}
+use Rattle.windows.proofs.Half.{up-to-half-has-none}
 use Rattle.table.specs.declared.Row.{Row}
 use Rattle.pd2.specs.Ready.{originOf}
 use Rattle.pd2.specs.Order.{Rank, rankOf, Before, before}
@@ -70,15 +67,7 @@ never-late n row cycle cores H q ready goesBefore k B C =
     (λ s t st th. (extensions-are-greedy B D (C .ordered) s t st th, λ i l. extension-is-ext (setting B D) s t i st th l))
     H (omega arith))
 
--- Up to weight one half D is 0 where the bit is 1: below one half it always is, and at one half no bit is 1.
-up-to-half-has-none : (e p o i : ℕ) → 2 * e ≤ p → bit e p i ≡ 1 → groupDeadline e p o i ≡ 0
-up-to-half-has-none e p o i up-to-half one = go (decLt (2 * e) p)
-  where
-    go : Dec (2 * e < p) → groupDeadline e p o i ≡ 0
-    go (yes light) = light-has-none e p o i light
-    go (no half) = absurd (omega (arith, one, half-has-bit-0 e p i (omega arith)))
-
--- So PD2 asks nothing more of such rows than deadlines and bits.
+-- Up to weight one half D is 0 where the bit is 1, so PD2 asks nothing more of such rows than deadlines and bits.
 pub never-late-up-to-half : NeverLateUpToHalf
 never-late-up-to-half n row cycle cores up-to-half H q ready goesBefore k B C =
     never-late n row cycle cores H q ready goesBefore k B

@@ -3,6 +3,7 @@
 use Prim.Native.Nat.{ℕ, _+_}
 use mathlib.Core.Path.{_≡_, refl, sym, _∙_}
 use mathlib.Core.List.{List}
+use mathlib.Core.Bool.{Bool}
 use native.Mathlib.Decide.{ℕ-discrete}
 use native.Mathlib.Omega.{arith}
 use borrow.Author.Tests.{eq-eqb, ne-eqb}
@@ -32,9 +33,15 @@ same-at-bit-1 row i q one =
     moved-at-half .elsewhere-same (row .cost) (row .period) (originOf row) (q + 1)
     (λ half. omega (arith, one, moved-at-half .bit-is-0 (row .cost) (row .period) (q + 1) half))
 
+-- So a row goes before another exactly if it did,
+same-order : (rows : List Row) (quanta : List ℕ) (j i : ℕ) → goesBeforeBy before rows quanta j i ≡ wentBefore rows quanta j i
+same-order rows quanta j i =
+    only-bit-1-is-asked _ _ _ _ (same-at-bit-1 (rowAt rows j) j (quantaAt quanta j)) (same-at-bit-1 (rowAt rows i) i (quantaAt quanta i))
+
+-- and the same rows are picked, whoever is ready.
+pub same-picks : (ready : ℕ → Bool) (rows : List Row) (quanta : List ℕ) (n k : ℕ) →
+    picks ready (goesBeforeBy before rows quanta) n k ≡ picks ready (wentBefore rows quanta) n k
+same-picks ready rows quanta n k = λ z. picks ready (λ j i. same-order rows quanta j i z) n k
+
 pub no-pick-changes : NoPickChanges
-no-pick-changes = record { order = order; picks = λ rows quanta t k z. picks (readyIn rows quanta t) (λ j i. order rows quanta j i z) (length rows) k }
-  where
-    order : (rows : List Row) (quanta : List ℕ) (j i : ℕ) → goesBeforeBy before rows quanta j i ≡ wentBefore rows quanta j i
-    order rows quanta j i =
-        only-bit-1-is-asked _ _ _ _ (same-at-bit-1 (rowAt rows j) j (quantaAt quanta j)) (same-at-bit-1 (rowAt rows i) i (quantaAt quanta i))
+no-pick-changes = record { order = same-order; picks = λ rows quanta t k. same-picks (readyIn rows quanta t) rows quanta (length rows) k }

@@ -19,9 +19,17 @@ use Rattle.windows.proofs.Question.{windows-are-answered}
 half-divides : (e p i : ℕ) → p ≡ 2 * e → i * p % e ≡ 0
 half-divides e p i half = ap (λ x. i * x % e) half ∙ ap (λ x. x % e) {x = i * (2 * e)} {y = i * 2 * e} (omega arith) ∙ mul-mod-left (i * 2) e
 
--- so "such a row's b is always 0". For callers, too.
-pub half-has-bit-0 : (e p i : ℕ) → p ≡ 2 * e → bit e p i ≡ 0
+-- so "such a row's b is always 0".
+half-has-bit-0 : (e p i : ℕ) → p ≡ 2 * e → bit e p i ≡ 0
 half-has-bit-0 e p i half = bit-of-whole e p i (half-divides e p i half)
+
+-- For callers: up to weight one half D is 0 where the bit is 1. Below one half it always is, and at one half no bit is 1.
+pub up-to-half-has-none : (e p o i : ℕ) → 2 * e ≤ p → bit e p i ≡ 1 → groupDeadline e p o i ≡ 0
+up-to-half-has-none e p o i up-to-half one = go (decLt (2 * e) p)
+  where
+    go : Dec (2 * e < p) → groupDeadline e p o i ≡ 0
+    go (yes light) = light-has-none e p o i light
+    go (no half) = absurd (omega (arith, one, half-has-bit-0 e p i (omega arith)))
 
 -- A heavy row's D is d where its b is 0.
 bit-0-ends-at-once : (e p o i : ℕ) → 0 < e → p ≤ 2 * e → bit e p i ≡ 0 → groupDeadline e p o i ≡ deadline e p o i

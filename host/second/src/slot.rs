@@ -576,10 +576,10 @@ pub(crate) mod tests {
         }
     }
 
-    #[test]
-    fn ready_rows_stand_in_their_order() {
-        // 2/3 (0 to 2, b 1, D 3), 1/2 (0 to 2, b 0, D 2), 1/4 (0 to 4, b 0, D 0), 3/4 (0 to 2, b 1,
-        // D 4), 1/2, 2/3 with phase 1 (not ready in slot 0)
+    /// Slot 0 of 2/3 (0 to 2, b 1, D 3), 1/2 (0 to 2, b 0, D 2), 1/4 (0 to 4, b 0, D 0), 3/4 (0 to
+    /// 2, b 1, D 4), 1/2 (as row 1), and 2/3 with phase 1 (1 to 3, b 1, D 4). The order is 3, 0, 1,
+    /// 4, 2; row 5 is not ready.
+    pub(crate) fn six_rows() -> State {
         let rows = [
             (2, 3, 0, 0),
             (1, 2, 0, 0),
@@ -588,7 +588,12 @@ pub(crate) mod tests {
             (1, 2, 0, 0),
             (2, 3, 1, 0),
         ];
-        let state = fresh(value_of(12, 4, &rows));
+        fresh(value_of(12, 4, &rows))
+    }
+
+    #[test]
+    fn ready_rows_stand_in_their_order() {
+        let state = six_rows();
         let next = |row, deadline, bit, group| Next {
             row,
             deadline,

@@ -169,7 +169,7 @@ mod tests {
     use super::*;
     use crate::cores::tests::placement_of;
     use crate::never_late::Chance;
-    use crate::slot::tests::table_by_chance;
+    use crate::slot::tests::{six_rows, table_by_chance};
     use crate::slot::{fresh, slot};
     use crate::table::tests::{value_of, EXAMPLE};
     use crate::table::{self, Table};
@@ -237,20 +237,6 @@ mod tests {
     }
 
     // ---- passed over: by whom ----
-
-    /// Slot 0 of 2/3 (0 to 2, b 1, D 3), 1/2 (0 to 2, b 0), 1/4 (0 to 4, b 0), 3/4 (0 to 2, b 1,
-    /// D 4), 1/2, and 2/3 with phase 1. The order is 3, 0, 1, 4, 2; row 5 is not ready.
-    fn six_rows() -> State {
-        let rows = [
-            (2, 3, 0, 0),
-            (1, 2, 0, 0),
-            (1, 4, 0, 0),
-            (3, 4, 0, 0),
-            (1, 2, 0, 0),
-            (2, 3, 1, 0),
-        ];
-        fresh(value_of(12, 4, &rows))
-    }
 
     #[test]
     fn the_lowest_ranked_is_the_last_of_the_picked_in_the_order() {
