@@ -4,7 +4,6 @@
 //!     bench agree                   whether all programs do the same, with the second program as judge
 //!     bench run CASE WHO NUMBER     the work of a case, so much of it, by WHO: ours, plain or hurried; for counting instructions
 //!     bench time CASE NUMBER        the same by all of them in turn, three times: how long ours and hurried take, with plain as 1
-//!     bench walks                   how many windows are walked in the first slots of many boxes: those with the most
 //!     bench files TABLE TRACE       writes the box of many slots, and a trace for it, to these files
 //!
 //! Exit status 0 if every answer is right; otherwise what is wrong is shown, and 1.
@@ -34,8 +33,6 @@ mod plain;
 #[path = "compare/random.rs"]
 #[allow(dead_code)]
 mod random;
-#[path = "speed/walks.rs"]
-mod walks;
 
 use cases::Program;
 use std::time::Instant;
@@ -101,7 +98,6 @@ fn main() {
         ["agree"] => agree::run(),
         ["run", case, who, number] => run(case, who, number),
         ["time", case, number] => time(case, number),
-        ["walks"] => walks::run(),
         ["files", table, trace] => files(table, trace),
         _ => Err("usage: see the head of speed.rs".to_string()),
     };

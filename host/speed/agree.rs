@@ -9,8 +9,6 @@ use crate::{boxes, hurried, ours, plain};
 use second::slot::{fresh, slot_on, State};
 
 const SLOTS: u32 = 2_000;
-/// In a box of long walks: the second program walks for every row, with a step for each time.
-const FEW_SLOTS: u32 = 4;
 /// So many records of the proved code are compared too. Each needs a run from the first slot on, since only the last one is there.
 const RECORDS: usize = 100;
 const RANDOM_BOXES: usize = 30;
@@ -18,12 +16,14 @@ const RANDOM_BOXES: usize = 30;
 const CYCLES: [usize; 6] = [12, 60, 420, 2_520, 5_040, 27_720];
 
 /// The boxes that are measured, and random ones, full or not.
-fn all_boxes() -> Vec<(Vec<u8>, u32)> {
+fn all_boxes() -> Vec<Vec<u8>> {
     let mut random = Random::seeded(0x5107);
     let mut tables = vec![
-        (boxes::full(), SLOTS),
-        (boxes::short(), SLOTS),
-        (boxes::longest_walks(), FEW_SLOTS),
+        boxes::full(),
+        boxes::short(),
+        boxes::longest_walks(),
+        boxes::equal(1, 4),
+        boxes::equal(5, 21),
     ];
     for number in 0..RANDOM_BOXES {
         let cycle = random.pick(&CYCLES);
@@ -31,7 +31,7 @@ fn all_boxes() -> Vec<(Vec<u8>, u32)> {
             0 => sound::any_of(&mut random, cycle),
             _ => sound::full_of(&mut random, cycle, 0).expect("such a cycle can be filled"),
         };
-        tables.push((table.bytes(), SLOTS));
+        tables.push(table.bytes());
     }
     tables
 }
@@ -41,14 +41,14 @@ pub fn run() -> Result<String, String> {
     let tables = all_boxes();
     let mut random = Random::seeded(0xC04E);
     let (mut slots, mut slots_of_sets) = (0, 0);
-    for (table, most) in &tables {
+    for table in &tables {
         let cores = table[5];
         for k in [cores, cores - 1] {
-            let compared = one(table, k, *most);
+            let compared = one(table, k);
             slots += compared.map_err(|what| format!("{}: {:02X?}, k {}", what, table, k))?;
         }
         let lacks_one_in = random.pick(&[4, 20, 100]);
-        let compared = by_rust(table, *most, || some(&mut random, cores, lacks_one_in));
+        let compared = by_rust(table, || some(&mut random, cores, lacks_one_in));
         let (_, state) = compared.map_err(|what| format!("{}: {:02X?}, sets", what, table))?;
         slots_of_sets += state.time;
     }
@@ -67,10 +67,10 @@ fn some(random: &mut Random, cores: u8, lacks_one_in: usize) -> u32 {
 }
 
 /// How many slots were compared: up to the first late one.
-fn one(table: &[u8], k: u8, most: u32) -> Result<u64, String> {
-    let (records, state) = by_rust(table, most, || first(k))?;
+fn one(table: &[u8], k: u8) -> Result<u64, String> {
+    let (records, state) = by_rust(table, || first(k))?;
     by_ours(table, k, &records)?;
-    times(table, k, most, state.time)?;
+    times(table, k, state.time)?;
     checks(table, &trace(&records), state.stopped)?;
     Ok(state.time)
 }
@@ -79,7 +79,6 @@ fn one(table: &[u8], k: u8, most: u32) -> Result<u64, String> {
 /// same of plain and hurried; in each slot plain has the same rows on the same cores.
 fn by_rust(
     table: &[u8],
-    most: u32,
     mut free: impl FnMut() -> u32,
 ) -> Result<(Vec<Entry>, State), String> {
     let mut state =
@@ -87,7 +86,7 @@ fn by_rust(
     let mut plain = plain::slot::State::fresh(plain::table::read(table).unwrap_or_default());
     let mut hurried = hurried::slots::State::fresh(table);
     let mut records = Vec::new();
-    while state.time < most.into() && !state.stopped {
+    while state.time < SLOTS.into() && !state.stopped {
         let [mut by_second, mut by_plain, mut by_hurried] = [[0; 10]; 3];
         let free = free();
         let (_, placed) = slot_on(&mut state, free, &mut by_second, 0);
@@ -129,9 +128,9 @@ fn by_ours(table: &[u8], k: u8, records: &[Entry]) -> Result<(), String> {
 }
 
 /// All come to the same time.
-fn times(table: &[u8], k: u8, most: u32, time: u64) -> Result<(), String> {
+fn times(table: &[u8], k: u8, time: u64) -> Result<(), String> {
     for name in NAMES {
-        let got = (program(name)?.slots)(table, k, most, &mut [0; 10]);
+        let got = (program(name)?.slots)(table, k, SLOTS, &mut [0; 10]);
         if got != time {
             return Err(format!("{} comes to time {}, not {}", name, got, time));
         }

@@ -38,30 +38,42 @@ pub fn program(name: &str) -> Result<Program, String> {
 /// A case: does its work for a program and a number, and answers whether every answer was right.
 pub type Case = Box<dyn Fn(&Program, u32) -> bool>;
 
-/// The number is that of slots, of checks of the trace, of tables read, or of calls for a fresh state and its first slot; `fresh` is the
+/// The number is that of slots, of checks of the trace, of tables read, or of calls for a fresh state and its first slot; `.. fresh` is the
 /// last one without the slot, to be taken off.
 pub fn case(name: &str) -> Result<Case, String> {
-    let full = boxes::full();
-    let walks = boxes::longest_walks();
     match name {
-        "slot" => Ok(Box::new(move |program, number| {
-            (program.slots)(&full, 8, number, &mut [0; 10]) == number.into()
-        })),
+        "slot" => Ok(slots(boxes::full())),
         "trace" => {
             let (short, trace) = (boxes::short(), boxes::million());
             Ok(Box::new(move |program, number| {
                 (0..number).all(|_| (program.trace_check)(&short, &trace) == 0)
             }))
         }
-        "table" => Ok(Box::new(move |program, number| {
-            (0..number).all(|_| (program.table_check)(&full) == 0)
-        })),
-        "worst" => Ok(Box::new(move |program, number| {
-            (0..number).all(|_| (program.slots)(&walks, 7, 1, &mut [0; 10]) == 1)
-        })),
-        "fresh" => Ok(Box::new(move |program, number| {
-            (0..number).all(|_| (program.slots)(&walks, 7, 0, &mut [0; 10]) == 0)
-        })),
+        "table" => {
+            let full = boxes::full();
+            Ok(Box::new(move |program, number| {
+                (0..number).all(|_| (program.table_check)(&full) == 0)
+            }))
+        }
+        "walks" => Ok(first_slots(boxes::longest_walks(), 7, 1)),
+        "walks_fresh" => Ok(first_slots(boxes::longest_walks(), 7, 0)),
+        "equal" => Ok(slots(boxes::equal(1, 4))),
+        "worst" => Ok(first_slots(boxes::equal(5, 21), 8, 1)),
+        "worst_fresh" => Ok(first_slots(boxes::equal(5, 21), 8, 0)),
         _ => Err(format!("no case is called {}", name)),
     }
+}
+
+/// So many slots with all cores free.
+fn slots(table: Vec<u8>) -> Case {
+    Box::new(move |program, number| {
+        (program.slots)(&table, 8, number, &mut [0; 10]) == number.into()
+    })
+}
+
+/// So many times a fresh state, and its first slot or none.
+fn first_slots(table: Vec<u8>, k: u8, slots: u32) -> Case {
+    Box::new(move |program, number| {
+        (0..number).all(|_| (program.slots)(&table, k, slots, &mut [0; 10]) == slots.into())
+    })
 }

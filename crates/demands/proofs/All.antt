@@ -14,6 +14,7 @@ use Rattle.demands.proofs.NeverLate.{never-late}
 use Rattle.demands.proofs.Cores.{cores}
 use Rattle.demands.proofs.Why.{why}
 use Rattle.demands.proofs.HalfIsHeavy.{half-is-heavy}
+use Rattle.demands.proofs.LongWalk.{long-walk}
 
 pub all : All
 all =
@@ -32,4 +33,5 @@ all =
       cores = cores;
       why = why;
       half-is-heavy = half-is-heavy;
+      long-walk = long-walk;
     }

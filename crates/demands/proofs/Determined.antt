@@ -37,6 +37,7 @@ every-promise-determines =
       fields-half = λ s at. by-value;
       fields-word = λ s at. by-value;
       windows-window = λ e p f i. window-is-determined e p f (i .0);
+      windows-window-by-walk = λ e p f i. window-is-determined e p f (i .0);
       windows-next-due = λ e p origin given. next-due-is-determined e p (origin .0) (given .0);
       windows-next-start = λ e p origin given. by-value;
       windows-next-job-start = λ e p origin given. by-value;

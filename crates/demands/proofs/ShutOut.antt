@@ -1,5 +1,5 @@
 -- What is shut out: each by 01's example, computed. Assumes nothing.
-use Prim.Native.Nat.{ℕ}
+use Prim.Native.Nat.{ℕ, _+_, _-_, _*_, _/_}
 use mathlib.Core.Path.{_≡_, refl, sym, ap, _∙_}
 use mathlib.Core.List.{List, [], _∷_}
 use mathlib.Core.Bool.{Bool, true, false, _&&_, true≢false}
@@ -14,7 +14,8 @@ use Rattle.facts.specs.Places.{places, padded}
 use Rattle.counts.specs.declared.Subtask.{Subtask}
 use Rattle.windows.specs.Windows.{start, deadline, bit, windowLength, jobStart}
 use Rattle.windows.specs.Group.{heavy, stops, stopTime, groupDeadline}
-use Rattle.windows.proofs.Half.{moved-at-half}
+use Rattle.windows.specs.Question.{windowReply}
+use Rattle.windows.specs.Formula.{gaps, formula}
 use Rattle.table.specs.Causes.{load}
 use Rattle.table.specs.Value.{faultOf}
 use Rattle.table.specs.Bytes.{tableNumber, tableIn, reading}
@@ -48,7 +49,7 @@ use Rattle.checker.specs.Check.{recordsFindings, traceSaid, checkOf}
 use Rattle.demands.specs.Bench.{exampleTrace, threeCores}
 use Rattle.demands.specs.LawInputs.{stateOf}
 use Rattle.demands.specs.Inputs.{allBelow, Bytes, CanAskWindow, rowsFit, Possible, CanAsk}
-use Rattle.demands.specs.ShutOut.{Dispatcher, IsDispatcher, numberOf, rowsWritten, GivesAsRecorded, ShutOutOf, Explainer, IsExplainer, ShutOutOfWhy, Answerer, IsAnswerer, HalfIsLight, ShutOut}
+use Rattle.demands.specs.ShutOut.{Dispatcher, IsDispatcher, numberOf, rowsWritten, GivesAsRecorded, ShutOutOf, Explainer, IsExplainer, ShutOutOfWhy, Answerer, IsAnswerer, ShutOutOfWindow, ShutOut}
 use Rattle.demands.proofs.Two.{picks-are-pd2s}
 
 -- 01's example: slot 0 and slot 1 of a fresh state with both cores free, each into ten bytes
@@ -242,18 +243,50 @@ shut-out-of-why explain is =
       says-now = λ h. let z : _≡_ {A = ℕ} 3 2 = h (stateOf (tableIn example) 2 false (2 ∷ 1 ∷ 1 ∷ [])) 2 0 (record { 0 = 3 }) (c .can-ask-later) later in omega arith;
     }
 
--- "1/2, i = 1 has D 2"
-abbrev firstSubtask : Subtask
-firstSubtask = record { 0 = 1 }
+-- Three windows: "1/2, i = 1 has D 2"; 2/3 with phase 4, i = 1, has 7; 8/11, i = 3, has 8.
+abbrev nth : ℕ → Subtask
+nth i = record { 0 = i }
 
-can-ask-half : CanAskWindow 1 2 0 firstSubtask
-unfolding allBelow
-can-ask-half = refl
+record Asked : Type 0 where
+  can-ask-half : CanAskWindow 1 2 0 (nth 1)
+  half : windowReply 1 2 0 1 ≡ record { number = 0; r = 0; d = 2; b = 0; D = 2 }
+  can-ask-phase : CanAskWindow 2 3 4 (nth 1)
+  phase : windowReply 2 3 4 1 ≡ record { number = 0; r = 4; d = 6; b = 1; D = 7 }
+  by-whole-d : formula 2 3 4 6 ≡ 10
+  can-ask-own : CanAskWindow 8 11 0 (nth 3)
+  own : windowReply 8 11 0 3 ≡ record { number = 0; r = 2; d = 5; b = 1; D = 8 }
 
-shut-out-half : (window : Answerer) → IsAnswerer window → HalfIsLight window → ⊥
-shut-out-half window is light =
-    let has-2 = is 1 2 0 firstSubtask can-ask-half ∙ moved-at-half .answer 1 0 1 (omega arith) (omega arith) (omega arith) in
-    omega (arith, ap (λ reply. reply .D) has-2, light 1 0 firstSubtask can-ask-half)
+asked : Asked
+unfolding allBelow ceilDiv atFirst start deadline bit windowLength heavy stops stopTime groupDeadline windowReply gaps formula
+asked =
+    record {
+      can-ask-half = refl;
+      half = refl;
+      can-ask-phase = refl;
+      phase = refl;
+      by-whole-d = refl;
+      can-ask-own = refl;
+      own = refl;
+    }
+
+shut-out-of-window : (window : Answerer) → IsAnswerer window → ShutOutOfWindow window
+shut-out-of-window window is =
+    let half = is 1 2 0 (nth 1) (asked .can-ask-half) ∙ asked .half in
+    let phase = is 2 3 4 (nth 1) (asked .can-ask-phase) ∙ asked .phase in
+    let own = is 8 11 0 (nth 3) (asked .can-ask-own) ∙ asked .own in
+    record {
+      half-is-light = λ h. omega (arith, ap (λ reply. reply .D) half, h 1 0 (nth 1) (asked .can-ask-half));
+      phase-left-in = λ h.
+          let wrong = h 2 3 4 (nth 1) (asked .can-ask-phase) (omega arith) (ap (λ reply. reply .number) phase) ∙ ap (λ reply. formula 2 3 4 (reply .d)) phase in
+          omega (arith, ap (λ reply. reply .D) phase, wrong, asked .by-whole-d);
+      rounds-down = λ h.
+          let wrong = h 2 3 4 (nth 1) (asked .can-ask-phase) (omega arith) (ap (λ reply. reply .number) phase) ∙ ap (λ reply. 4 + (reply .d - 4) * (3 - 2) / 3 * 3 / (3 - 2)) phase in
+          omega (arith, ap (λ reply. reply .D) phase, wrong);
+      own-window-counts = λ h.
+          let long : _ ≡ _ = ap (λ reply. reply .d) own ∙ sym (ap (λ reply. reply .r + 3) own) in
+          let wrong = h 8 11 0 (nth 3) (asked .can-ask-own) (omega arith) (ap (λ reply. reply .number) own) long in
+          omega (arith, ap (λ reply. reply .D) own, ap (λ reply. reply .d) own, wrong);
+    }
 
 -- What the definitions say of the example and of the two traces, said of a number that is equal.
 module _ {number : ℕ} where
@@ -275,7 +308,7 @@ shut-out =
       reader = λ read is none. none example b (ap (λ r. r .number) (is example b) ∙ computed .read);
       dispatcher = shut-out-of;
       why = shut-out-of-why;
-      half-is-light = shut-out-half;
+      window = shut-out-of-window;
       always-passes = λ check is always. is-late (ap (λ x. x .number) (is example lateTrace b l)) (always example lateTrace b l (computed .taken));
       never-passes = λ check is never. never example exampleTrace b t (passes (ap (λ x. x .number) (is example exampleTrace b t)));
       board-takes-none = λ check is none. none example b (takes (is example b));

@@ -14,6 +14,7 @@ use Rattle.demands.specs.NeverLate.{NeverLate}
 use Rattle.demands.specs.Cores.{Cores}
 use Rattle.demands.specs.Why.{Why}
 use Rattle.demands.specs.HalfIsHeavy.{HalfIsHeavy}
+use Rattle.demands.specs.LongWalk.{LongWalk}
 
 pub record All : Type 0 where
   -- "any two results allowed are equal", of every public function
@@ -41,3 +42,5 @@ pub record All : Type 0 where
   pub why : Why
   -- "Show that no pick changes, since such a row's b is always 0"
   pub half-is-heavy : HalfIsHeavy
+  -- "D is f + ceil(g·p/(p-e)) where g = ceil(d·(p-e)/p). What the answer promises stays"
+  pub long-walk : LongWalk

@@ -18,7 +18,7 @@ use Rattle.dispatcher.specs.declared.Outcome.{Outcome}
 use Rattle.why.specs.declared.Answer.{Answer as WhyAnswer}
 use Rattle.checker.specs.declared.Answer.{Answer as Checked}
 use Rattle.printer.specs.declared.Printed.{Printed}
-use Rattle.demands.specs.Promises.{counts·Slot·at, counts·Slot·time, counts·Slot·later, counts·Slot·before, counts·Slot·since, counts·Quanta·of, counts·Quanta·count, counts·Quanta·one-more, counts·Quanta·next-subtask, counts·Subtask·numbered, counts·Subtask·number, counts·Subtask·next, counts·Subtask·quanta-before, fields·byte, fields·half, fields·word, windows·window, windows·next-due, windows·next-start, windows·next-job-start, windows·next-group-deadline, table·read, table·fault, pd2·Verdict·is-yes, pd2·origin, pd2·ready, pd2·late, pd2·within, pd2·give, pd2·lowest-late, trace·write, trace·record, trace·begins, choice·picks, cores·Placement·nobody, cores·Placement·is-faulty, cores·how-many, cores·names-past, cores·first, cores·place, dispatcher·Answer·told, dispatcher·State·fresh, dispatcher·State·is-broken, dispatcher·State·slot, why·Answer·told, why·of-row, checker·check, checker·number, firmware·zb-table-check, firmware·zb-trace-check, printer·Printed·length, printer·print, slots-run·zb-slots}
+use Rattle.demands.specs.Promises.{counts·Slot·at, counts·Slot·time, counts·Slot·later, counts·Slot·before, counts·Slot·since, counts·Quanta·of, counts·Quanta·count, counts·Quanta·one-more, counts·Quanta·next-subtask, counts·Subtask·numbered, counts·Subtask·number, counts·Subtask·next, counts·Subtask·quanta-before, fields·byte, fields·half, fields·word, windows·window, windows·window-by-walk, windows·next-due, windows·next-start, windows·next-job-start, windows·next-group-deadline, table·read, table·fault, pd2·Verdict·is-yes, pd2·origin, pd2·ready, pd2·late, pd2·within, pd2·give, pd2·lowest-late, trace·write, trace·record, trace·begins, choice·picks, cores·Placement·nobody, cores·Placement·is-faulty, cores·how-many, cores·names-past, cores·first, cores·place, dispatcher·Answer·told, dispatcher·State·fresh, dispatcher·State·is-broken, dispatcher·State·slot, why·Answer·told, why·of-row, checker·check, checker·number, firmware·zb-table-check, firmware·zb-trace-check, printer·Printed·length, printer·print, slots-run·zb-slots}
 
 pub record EveryPromiseDetermines : Type 0 where
   pub counts-Slot-at : (time : ℕ) → Determined (counts·Slot·at time)
@@ -38,6 +38,7 @@ pub record EveryPromiseDetermines : Type 0 where
   pub fields-half : (s : List ℕ) (at : ℕ) → Determined (fields·half s at)
   pub fields-word : (s : List ℕ) (at : ℕ) → Determined (fields·word s at)
   pub windows-window : (e p f : ℕ) (i : Subtask) → Determined (windows·window e p f i)
+  pub windows-window-by-walk : (e p f : ℕ) (i : Subtask) → Determined (windows·window-by-walk e p f i)
   pub windows-next-due : (e p : ℕ) (origin : Slot) (given : Quanta) → Determined (windows·next-due e p origin given)
   pub windows-next-start : (e p : ℕ) (origin : Slot) (given : Quanta) → Determined (windows·next-start e p origin given)
   pub windows-next-job-start : (e p : ℕ) (origin : Slot) (given : Quanta) → Determined (windows·next-job-start e p origin given)

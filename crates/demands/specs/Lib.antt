@@ -25,4 +25,5 @@ pub mod NeverLate
 pub mod Cores
 pub mod Why
 pub mod HalfIsHeavy
+pub mod LongWalk
 pub mod All

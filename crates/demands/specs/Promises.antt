@@ -128,6 +128,10 @@ fields·word s at r = r ≡ word s at
 abbrev pub windows·window : ℕ → ℕ → ℕ → Subtask → Window → Type 0
 windows·window e p f i r = replyOf r ≡ windowReply e p f (i .0)
 
+-- windows::window_by_walk
+abbrev pub windows·window-by-walk : ℕ → ℕ → ℕ → Subtask → Window → Type 0
+windows·window-by-walk e p f i r = replyOf r ≡ windowReply e p f (i .0)
+
 -- windows::next_due
 abbrev pub windows·next-due : ℕ → ℕ → Slot → Quanta → Due → Type 0
 windows·next-due e p origin given r = r ≡ nextDue e p (origin .0) (given .0)

@@ -1,6 +1,6 @@
 -- What must be shut out (01, "What the statements must say"): no function that keeps the promise is so. A function is asked to keep its promise, and is
 -- said to be wrong, only on what it can be called with (specs/Inputs.antt): so one that is wrong on all of that is shut out, whatever it does elsewhere.
-use Prim.Native.Nat.{ℕ, _+_, _*_, _<_}
+use Prim.Native.Nat.{ℕ, _+_, _-_, _*_, _/_, _≤_, _<_}
 use mathlib.Core.Path.{_≡_}
 use mathlib.Core.List.{List, []}
 use mathlib.Core.Bool.{Bool, true, false, cond, _&&_}
@@ -10,6 +10,7 @@ use Rattle.counts.specs.declared.Slot.{Slot}
 use Rattle.counts.specs.declared.Subtask.{Subtask}
 use Rattle.windows.specs.declared.Answer.{Answer as Window}
 use Rattle.windows.specs.Question.{replyOf}
+use Rattle.windows.specs.Formula.{formula}
 use Rattle.table.specs.declared.Reading.{Reading}
 use Rattle.table.specs.Bytes.{tableNumber}
 use Rattle.pd2.specs.Choice.{quantaAt}
@@ -159,7 +160,8 @@ pub record ShutOutOfWhy (explain : Explainer) : Type 0 where
   pub knows-one-rule : KnowsOneRule explain → ⊥
   pub says-now : SaysNow explain → ⊥
 
--- Who answers the window question keeps the promise of `window`. Shut out is one that answers D 0 whenever the weight is exactly one half (02, Three).
+-- Who answers the window question keeps the promise of `window`, which is that of `window_by_walk` too. Shut out are one that answers D 0 whenever the weight is exactly one half (02, Three); and, of
+-- heavy rows, one that puts d into the formula as it is, not counted from the phase, one that rounds its divisions down, and one whose walk stops at the window of i itself if that is 3 slots long (02, Four).
 abbrev pub Answerer : Type 0
 Answerer = ℕ → ℕ → ℕ → Subtask → Window
 
@@ -168,6 +170,27 @@ IsAnswerer window = (e p f : ℕ) (i : Subtask) → CanAskWindow e p f i → win
 
 abbrev pub HalfIsLight : Answerer → Type 0
 HalfIsLight window = (e f : ℕ) (i : Subtask) → CanAskWindow e (2 * e) f i → replyOf (window e (2 * e) f i) .D ≡ 0
+
+abbrev pub PhaseLeftIn : Answerer → Type 0
+PhaseLeftIn window =
+    (e p f : ℕ) (i : Subtask) → CanAskWindow e p f i → p ≤ 2 * e → let reply = replyOf (window e p f i) in reply .number ≡ 0 →
+    reply .D ≡ formula e p f (reply .d)
+
+abbrev pub RoundsDown : Answerer → Type 0
+RoundsDown window =
+    (e p f : ℕ) (i : Subtask) → CanAskWindow e p f i → p ≤ 2 * e → let reply = replyOf (window e p f i) in reply .number ≡ 0 →
+    reply .D ≡ f + (reply .d - f) * (p - e) / p * p / (p - e)
+
+abbrev pub OwnWindowCounts : Answerer → Type 0
+OwnWindowCounts window =
+    (e p f : ℕ) (i : Subtask) → CanAskWindow e p f i → p ≤ 2 * e → let reply = replyOf (window e p f i) in reply .number ≡ 0 →
+    reply .d ≡ reply .r + 3 → reply .D + 1 ≡ reply .d
+
+pub record ShutOutOfWindow (window : Answerer) : Type 0 where
+  pub half-is-light : HalfIsLight window → ⊥
+  pub phase-left-in : PhaseLeftIn window → ⊥
+  pub rounds-down : RoundsDown window → ⊥
+  pub own-window-counts : OwnWindowCounts window → ⊥
 
 -- A checker keeps the promise of `check`, and the board's trace check that of `zb_trace_check`.
 abbrev pub IsChecker : (List ℕ → List ℕ → Checked) → Type 0
@@ -191,7 +214,7 @@ pub record ShutOut : Type 0 where
   pub reader : (read : List ℕ → Reading) → IsReader read → TakesNoTable (λ bytes. read bytes .number) → ⊥
   pub dispatcher : (slot : Dispatcher) → IsDispatcher slot → ShutOutOf slot
   pub why : (explain : Explainer) → IsExplainer explain → ShutOutOfWhy explain
-  pub half-is-light : (window : Answerer) → IsAnswerer window → HalfIsLight window → ⊥
+  pub window : (window : Answerer) → IsAnswerer window → ShutOutOfWindow window
   pub always-passes : (check : List ℕ → List ℕ → Checked) → IsChecker check → AlwaysPasses (numberChecked check) → ⊥
   pub never-passes : (check : List ℕ → List ℕ → Checked) → IsChecker check → NeverPasses (numberChecked check) → ⊥
   -- the same of what the board calls

@@ -33,6 +33,11 @@ pub ceil-is-near : (a : ℕ) {b : ℕ} → 0 < b → (a ≤ ceilDiv a b * b) × 
 unfolding ceilDiv
 ceil-is-near a {b} h = omega (arith, div-mul-le-self (a + (b - 1)) b, lt-div-mul-add {a = a + (b - 1)} h)
 
+-- So a number of bs that is at or above a, and gains less than one b, is a/b rounded up.
+pub ceil-between : (a b x : ℕ) → 0 < b → a ≤ x * b → x * b < a + b → ceilDiv a b ≡ x
+unfolding ceilDiv
+ceil-between a b x h low high = div-eq-of-lt-le b (omega arith) (omega arith)
+
 -- Where b divides a, up and down are the same.
 pub ceil-of-whole : (a : ℕ) {b : ℕ} → 0 < b → a % b ≡ 0 → ceilDiv a b ≡ a / b
 unfolding ceilDiv

@@ -1,7 +1,7 @@
 -- Tests that are joined. Assumes nothing.
-use mathlib.Core.Path.{_≡_, refl, sym, _∙_}
+use mathlib.Core.Path.{_≡_, refl, sym, ap, _∙_}
 use mathlib.Core.Logic.{_↔_, _⊎_, inl, inr}
-use mathlib.Core.Bool.{Bool, true, false, not, _&&_, _||_, true≢false, false≢true}
+use mathlib.Core.Bool.{Bool, true, false, not, _&&_, _||_, true≢false, false≢true, Bool·not-not}
 use Prim.Native.Nat.{ℕ, _≤_, _<_}
 use native.Mathlib.Decide.{decLe, decLt}
 use native.Mathlib.Omega.{arith}
@@ -42,6 +42,10 @@ not-below a b = go (decLt a b)
     go : Dec (a < b) → not (ltb a b) ≡ leb b a
     go (yes l) = simp (lt-ltb _ _ l, lt-leb _ _ l)
     go (no l) = let h : b ≤ a = omega arith in simp (le-ltb _ _ h, le-leb _ _ h)
+
+-- Below is not at or above.
+pub below-is-not : (a b : ℕ) → ltb a b ≡ not (leb b a)
+below-is-not a b = sym (Bool·not-not (ltb a b)) ∙ ap not (not-below a b)
 
 -- If one of two holds, it is the first or the second.
 pub one-of-two : (a b : Bool) → a || b ≡ true → (a ≡ true) ⊎ (b ≡ true)

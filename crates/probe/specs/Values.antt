@@ -5,7 +5,7 @@ use mathlib.Core.List.{List}
 use mathlib.Core.Bool.{Bool, false}
 use lib.Dec.{eqb}
 use lib.ListN.{getD}
-use Rattle.fields.specs.Fields.{byte, word}
+use Rattle.fields.specs.Fields.{byte, half, word}
 use Rattle.counts.specs.declared.Quanta.{Quanta}
 use Rattle.table.specs.declared.Row.{Row}
 use Rattle.table.specs.declared.Table.{Table}
@@ -13,10 +13,18 @@ use Rattle.table.specs.Causes.{zeroRow}
 use Rattle.table.specs.Bytes.{rowInBytes}
 use Rattle.cores.specs.declared.Placement.{Placement}
 use Rattle.dispatcher.specs.declared.State.{State}
+use Rattle.probe.specs.declared.answers.Question.{Question}
 
 -- the number in the eight bytes from place i on
 abbrev pub long : List ℕ → ℕ → ℕ
 long s i = word s i + 4_294_967_296 * word s (i + 4)
+
+-- A window question: e (2), p (2), f (2), i (8).
+pub record QuestionAt (s : List ℕ) (at : ℕ) (asked : Question) : Type 0 where
+  pub cost : asked .e ≡ half s at
+  pub period : asked .p ≡ half s (at + 2)
+  pub phase : asked .f ≡ half s (at + 4)
+  pub subtask : asked .i .0 ≡ long s (at + 6)
 
 -- 8 numbers, a byte each
 abbrev pub EightAt : List ℕ → ℕ → List ℕ → Type 0

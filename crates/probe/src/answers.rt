@@ -11,6 +11,7 @@ use dispatcher::Outcome;
 use libc::STDOUT_FILENO;
 ghost use Prim.Native.Nat.{_+_, _≤_, _<_};
 ghost use lib.ListN.{length};
+ghost use Rattle.probe.specs.Values.{QuestionAt};
 
 // W: e (2), p (2), f (2), i (8).
 pub(crate) fn window(request: &[u8]) -> usize
@@ -19,14 +20,47 @@ pub(crate) fn window(request: &[u8]) -> usize
     if request.len() < 15 {
         return 0;
     }
+    let question = asked(request);
+    tell_window(windows::window(question.e, question.p, question.f, question.i));
+    15
+}
+
+// G: as W, with D found by the walk.
+pub(crate) fn window_by_walk(request: &[u8]) -> usize
+    ensures { λ r. ⌜ r ≤ length (now (request .entry)) ⌝ }
+{
+    if request.len() < 15 {
+        return 0;
+    }
+    let question = asked(request);
+    tell_window(windows::window_by_walk(question.e, question.p, question.f, question.i));
+    15
+}
+
+// What a window question asks by: cost, period, phase and subtask.
+struct Question {
+    e: u16,
+    p: u16,
+    f: u16,
+    i: Subtask,
+}
+
+fn asked(request: &[u8]) -> Question
+    requires { ⌜ 15 ≤ length (now request) ⌝ }
+    ensures { λ r. ⌜ QuestionAt (now (request .entry)) 1 r ⌝ }
+{
     let e = fields::half(request, 1);
     let p = fields::half(request, 3);
     let f = fields::half(request, 5);
     let i = Subtask::numbered(read::long(request, 7));
+    Question { e, p, f, i }
+}
+
+// Writes the answer to a window question.
+fn tell_window(answer: windows::Answer) {
     let mut out = [0u8; 26];
-    write::window(&mut out, windows::window(e, p, f, i));
+    write::window(&mut out, answer);
     io::write_all(STDOUT_FILENO, &out);
-    15
 }
 
 // T: the length (4) of a table, and its bytes.

@@ -55,6 +55,7 @@ fn answer(requests: &mut [u8]) -> usize
     let letter = fields::byte(requests, 0);
     match letter {
         b'W' => answers::window(requests),
+        b'G' => answers::window_by_walk(requests),
         b'T' => answers::table(requests),
         b'V' => answers::fault(requests),
         b'S' => answers::slot(requests),

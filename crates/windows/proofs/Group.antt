@@ -1,10 +1,10 @@
 -- The walk of the group deadline, a window at a time. Assumes nothing.
 use mathlib.Core.Path.{_≡_, sym, _∙_}
-use mathlib.Core.Bool.{true, false}
+use mathlib.Core.Bool.{true, false, not}
 use Prim.Native.Nat.{ℕ, _+_, _-_, _*_, _≤_, _<_}
 use native.Mathlib.Decide.{decLt}
 use native.Mathlib.Omega.{arith}
-use borrow.Author.Tests.{eq-eqb, ne-eqb, lt-ltb, le-ltb, le-leb, lt-leb}
+use borrow.Author.Tests.{eq-eqb, ne-eqb, lt-ltb, le-ltb, le-leb, lt-leb, leb-true, leb-false, not-true, not-false}
 use Rattle.facts.specs.First.{atFirst}
 use Rattle.facts.specs.Loops.{Reached, Found}
 use Rattle.facts.proofs.Loops.{begins, not-past, stops-here, goes-on, found}
@@ -13,6 +13,15 @@ use Rattle.windows.specs.Group.{heavy, stops, stopTime, groupDeadline}
 use Rattle.windows.proofs.Windows.{lastOfJob, bit-at-job-end, job-end-is-near}
 
 -- for callers
+
+-- A row is light below weight one half, and heavy from there on.
+pub light-is-below-half : (e p : ℕ) → not (heavy e p) ≡ true → 2 * e < p
+unfolding heavy
+light-is-below-half e p light = leb-false p (2 * e) (not-true _ light)
+
+pub heavy-is-half-or-more : (e p : ℕ) → not (heavy e p) ≡ false → p ≤ 2 * e
+unfolding heavy
+heavy-is-half-or-more e p heavy = leb-true p (2 * e) (not-false _ heavy)
 
 -- A light row's group deadline is 0,
 pub light-has-none : (e p o i : ℕ) → 2 * e < p → groupDeadline e p o i ≡ 0

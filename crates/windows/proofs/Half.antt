@@ -32,7 +32,7 @@ up-to-half-has-none e p o i up-to-half one = go (decLt (2 * e) p)
     go (no half) = absurd (omega (arith, one, half-has-bit-0 e p i (omega arith)))
 
 -- A heavy row's D is d where its b is 0.
-bit-0-ends-at-once : (e p o i : ℕ) → 0 < e → p ≤ 2 * e → bit e p i ≡ 0 → groupDeadline e p o i ≡ deadline e p o i
+pub bit-0-ends-at-once : (e p o i : ℕ) → 0 < e → p ≤ 2 * e → bit e p i ≡ 0 → groupDeadline e p o i ≡ deadline e p o i
 bit-0-ends-at-once e p o i he heavy b = sym (ends-by-bit e p o i i he (walk-begins e p o i) heavy b)
 
 -- Where the weight is not one half, D is what it was. (Where e and p are 0, there is no window to walk.)

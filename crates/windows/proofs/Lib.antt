@@ -5,4 +5,5 @@ pub mod LeastTime
 pub mod Question
 pub mod Half
 pub mod Fits
+pub mod Formula
 pub mod Next

@@ -57,7 +57,7 @@ bit-at-job-end e p i =
     bit-of-whole e p (q * e) (ap (λ x. x % e) {x = q * e * p} {y = q * p * e} (omega arith) ∙ mul-mod-left (q * p) e)
 
 -- (i - 1)·p and i·p are p apart
-step : (p i : ℕ) → 0 < i → i * p ≡ (i - 1) * p + p
+pub step : (p i : ℕ) → 0 < i → i * p ≡ (i - 1) * p + p
 step p i h = let same : i * p ≡ (i - 1 + 1) * p = ap (λ x. x * p) {x = i} {y = i - 1 + 1} (omega arith) in omega arith
 
 -- and is fewer than e subtasks on.

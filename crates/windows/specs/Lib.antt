@@ -4,5 +4,6 @@ pub mod LeastTime
 pub mod Question
 pub mod Former
 pub mod Half
+pub mod Formula
 pub mod Next
 pub mod Fits

@@ -44,24 +44,22 @@ impl Row {
         (u64::from(self.phase) + whole / cost + bit, bit)
     }
 
-    /// The group deadline of subtask i: the row's windows are walked until one fits.
+    /// The group deadline of subtask i. Past the test of the bit, cost is below period.
     pub fn group_deadline(&self, i: u64) -> u64 {
-        if 2 * u32::from(self.cost) < u32::from(self.period) {
+        let (cost, period) = (u64::from(self.cost), u64::from(self.period));
+        if 2 * cost < period {
             return 0;
         }
-        let (mut deadline, mut bit) = self.due(i);
-        let mut j = i;
-        while bit == 1 {
-            // the next window starts in the last slot of this one
-            let start = deadline - 1;
-            j += 1;
-            let next = self.due(j);
-            deadline = next.0;
-            bit = next.1;
-            if bit == 1 && deadline - start == 3 {
-                return deadline - 1;
-            }
+        let (deadline, bit) = self.due(i);
+        if bit == 0 {
+            return deadline;
         }
-        deadline
+        let (phase, rest) = (u64::from(self.phase), period - cost);
+        let gaps = rounded_up((deadline - phase) * rest, period);
+        phase + rounded_up(gaps * period, rest)
     }
+}
+
+fn rounded_up(number: u64, divisor: u64) -> u64 {
+    (number + divisor - 1) / divisor
 }

@@ -3,7 +3,7 @@ use mathlib.Core.Bool.{false}
 use native.Mathlib.Omega.{arith}
 use Rattle.windows.specs.Fits.{CanWalk}
 use Rattle.windows.specs.Question.{refused}
-use Rattle.windows.proofs.Question.{not-refused, is-refused, is-taken}
+use Rattle.windows.proofs.Question.{accepted-can-walk, is-refused, is-taken}
 use borrow.Author.Needs.{needs}
 use Rattle.windows.proofs.window.Statement.{statement}
 use Rattle.windows.proofs.window.Tie as tie
@@ -16,19 +16,7 @@ accepted c = sym (c .before .is-refused .ensures) ∙ c .if1 .left
 can-walk : (c : tie.After-at) → let x = c .before .before .before .args in CanWalk (x .e) (x .p) (c .at .result .0) (x .i .0)
 can-walk c =
     let x = c .before .before .before .args in
-    let in-range = not-refused (x .e) (x .p) (x .i .0) (accepted (c .before)) in
-    record {
-      fits =
-          record {
-            cost = in-range .0;
-            weight = omega arith;
-            period = omega arith;
-            origin = omega (arith, c .at .ensures);
-            first = in-range .2;
-            last = omega arith;
-          };
-      near = omega arith;
-    }
+    accepted-can-walk (x .e) (x .p) (x .f) (x .i .0) (accepted (c .before)) (omega arith) (omega arith) (c .at .ensures)
 
 is-refused-requires : tie.Need-is-refused-requires
 is-refused-requires c κs = search needs

@@ -1,0 +1,219 @@
+-- The formula gives what the walk gives. Assumes nothing.
+-- Up to d, counted from the origin, the row has i quanta; the other slots, g = d - i of them, are as many quanta of a row of weight (p - e)/p, and the times
+-- that 01 marks are that row's deadlines. So its g-th deadline, D, is the least marked time at or after d, which is what the walk gives (W7).
+use mathlib.Core.Path.{_≡_, refl, sym, ap, _∙_}
+use mathlib.Core.Logic.{inl, inr}
+use Prim.Native.Nat.{ℕ, _+_, _-_, _*_, _/_, _%_, _≤_, _<_}
+use native.Mathlib.Nat.{div-eq-of-lt-le, div-add-mod', mul-mod-left, mul-le-mul-left, mul-le-mul-right, le-of-mul-le-mul-right, lt-of-mul-lt-mul-right}
+use native.Mathlib.Decide.{ℕ-discrete, decLt}
+use native.Mathlib.Omega.{arith}
+use Rattle.facts.specs.Rounding.{ceilDiv}
+use Rattle.facts.proofs.Rounding.{ceil-between, ceil-is-enough, ceil-is-near, floor-is-near}
+use Rattle.counts.specs.Limits.{kept}
+use Rattle.windows.specs.Windows.{start, deadline, bit, windowLength}
+use Rattle.windows.specs.Group.{groupDeadline}
+use Rattle.windows.specs.LeastTime.{Marks, IsGroupDeadline}
+use Rattle.windows.specs.Question.{Unfit}
+use Rattle.windows.specs.Formula.{gaps, formula, groupByFormula, FormulaGivesWalk, AnswersByFormula}
+use Rattle.windows.specs.Fits.{CanWalk, products}
+use Rattle.windows.proofs.Windows.{bit-of-whole, bit-zero-divides, step, deadline-of-whole, window-spans}
+use Rattle.windows.proofs.LeastTime.{walk-gives-least-time}
+use Rattle.windows.proofs.Question.{windows-are-answered}
+use Rattle.windows.proofs.Fits.{product-fits}
+
+-- A deadline, and a start, by the products around it.
+module _ (e p o j : ℕ) where
+  deadline-between : 0 < e → (x : ℕ) → j * p ≤ x * e → x * e < j * p + e → deadline e p o j ≡ o + x
+  unfolding deadline
+  deadline-between he x low high = ap (λ y. o + y) (ceil-between (j * p) e x he low high)
+
+  start-between : (x : ℕ) → x * e ≤ (j - 1) * p → (j - 1) * p < x * e + e → start e p o j ≡ o + x
+  unfolding start
+  start-between x low high = ap (λ y. o + y) (div-eq-of-lt-le e low (omega arith))
+
+  deadline-parts : deadline e p o j ≡ o + ceilDiv (j * p) e
+  unfolding deadline
+  deadline-parts = refl
+
+  start-parts : start e p o j ≡ o + (j - 1) * p / e
+  unfolding start
+  start-parts = refl
+
+  -- So many slots after the origin is d: i·p/e of them, rounded up.
+  due-between : 0 < e → (d : ℕ) → d ≡ deadline e p o j - o → (j * p ≤ d * e) × (d * e < j * p + e)
+  due-between he d due =
+      let same : d * e ≡ ceilDiv (j * p) e * e = ap (λ x. x * e) {x = d} {y = ceilDiv (j * p) e} (omega (arith, deadline-parts)) in
+      omega (arith, ceil-is-near (j * p) he)
+
+-- A row of weight one half or more and below one, with p = e + c; its subtask i is due d slots after the origin o.
+module _ (e p c o i d : ℕ) (he : 0 < e) (hc : 0 < c) (whole : p ≡ e + c) (half : c ≤ e) (hi : 0 < i) (enough : i * p ≤ d * e) (near : d * e < i * p + e) where
+  split : (x : ℕ) → x * p ≡ x * e + x * c
+  split x = ap (λ y. x * y) whole ∙ omega arith
+
+  some : (x : ℕ) → 0 < x → c ≤ x * c
+  some x h = omega (arith, mul-le-mul-right {m = 1} {n = x} c h)
+
+  past : i < d
+  past = lt-of-mul-lt-mul-right e {m = i} {n = d} (omega (arith, split i, some i hi))
+
+  abbrev g : ℕ
+  g = ceilDiv (d * c) p
+
+  -- the other slots up to d, times p
+  others : (d - i) * p + i * p ≡ d * e + d * c
+  others =
+      let sum : (d - i + i) * p ≡ d * p = ap (λ x. x * p) {x = d - i + i} {y = d} (omega (arith, past)) in
+      omega (arith, split d)
+
+  -- g is their number,
+  gaps-are-others : g ≡ d - i
+  gaps-are-others = ceil-between (d * c) p (d - i) (omega arith) (omega (arith, others)) (omega (arith, others))
+
+  g-times-p : g * p + i * p ≡ d * e + d * c
+  g-times-p = ap (λ x. x * p + i * p) gaps-are-others ∙ others
+
+  -- and D is the deadline of the g-th.
+  abbrev D : ℕ
+  D = ceilDiv (g * p) c
+
+  D-near : (g * p ≤ D * c) × (D * c < g * p + c)
+  D-near = ceil-is-near (g * p) hc
+
+  after : d ≤ D
+  after = le-of-mul-le-mul-right {m = d} {n = D} {k = c} (omega (arith, g-times-p, D-near)) hc
+
+  -- the subtask that marks it
+  abbrev at : ℕ
+  at = D - g
+
+  at-times-p : at * p + g * p ≡ D * e + D * c
+  at-times-p =
+      let more = lt-of-mul-lt-mul-right c {m = g} {n = D + 1} (omega (arith, split g, D-near)) in
+      let sum : (at + g) * p ≡ D * p = ap (λ x. x * p) {x = at + g} {y = D} (omega arith) in
+      omega (arith, split D)
+
+  first : 0 < at
+  first = lt-of-mul-lt-mul-right p {m = 0} {n = at} (omega (arith, at-times-p, D-near, mul-le-mul-right {m = 1} {n = D} e (omega (arith, after, past))))
+
+  three-long : 1 < D → start e p o at ≡ o + (D - 2) → deadline e p o at ≡ o + (D + 1) → windowLength e p o at ≡ 3
+  unfolding windowLength
+  three-long two begins ends = omega (arith, begins, ends)
+
+  -- Its window ends at D, with bit 0; or it is 3 slots long, and ends one slot later.
+  marks : Marks e p o at (o + D)
+  marks = go (ℕ-discrete (at * p) (D * e))
+    where
+      go : Dec (at * p ≡ D * e) → Marks e p o at (o + D)
+      go (yes same) =
+          inl (bit-of-whole e p at (ap (λ x. x % e) same ∙ mul-mod-left D e), sym (deadline-between e p o at he D (omega arith) (omega arith)))
+      go (no other) =
+          let ends = deadline-between e p o at he (D + 1) (omega (arith, at-times-p, D-near)) (omega (arith, at-times-p, D-near)) in
+          let two : 1 < D = lt-of-mul-lt-mul-right e {m = 1} {n = D} (omega (arith, step p at first, at-times-p, D-near)) in
+          let less : (D - 2) * e + 2 * e ≡ D * e = sym (omega (arith, ap (λ x. x * e) {x = D} {y = D - 2 + 2} (omega arith))) in
+          let begins = start-between e p o at (D - 2) (omega (arith, step p at first, at-times-p, D-near)) (omega (arith, step p at first, at-times-p, D-near)) in
+          inr (three-long two begins ends, omega (arith, ends))
+
+  -- No time from d on is marked sooner: one marked by subtask j, v slots after the origin, has v - j other slots before it, and those are at least g.
+  least : (j u : ℕ) → 0 < j → Marks e p o j u → o + d ≤ u → o + D ≤ u
+  least j u hj m du = go m
+    where
+      v : ℕ
+      v = u - o
+
+      by : (k : ℕ) → g ≤ k → k * p ≤ v * c → o + D ≤ u
+      by k more few =
+          let x = ceil-is-enough {a = g * p} {b = c} {x = v} hc .1 (omega (arith, mul-le-mul-right p more)) in
+          omega arith
+
+      go : Marks e p o j u → o + D ≤ u
+      go (inl (b, at-d)) =
+          let divides = bit-zero-divides e p j b in
+          let is = deadline-of-whole e p o he j divides in
+          let v-is : v ≡ j * p / e = omega arith in
+          let even : v * e ≡ j * p = ap (λ x. x * e) v-is ∙ omega (arith, div-add-mod' (j * p) e, divides) in
+          let less : j < v = lt-of-mul-lt-mul-right e {m = j} {n = v} (omega (arith, split j, some j hj)) in
+          let sum : (v - j + j) * p ≡ v * p = ap (λ x. x * p) {x = v - j + j} {y = v} (omega arith) in
+          let later = mul-le-mul-right {m = d} {n = v} c (omega arith) in
+          by (v - j) (ceil-is-enough {a = d * c} {b = p} {x = v - j} (omega arith) .1 (omega (arith, split v))) (omega (arith, split v))
+      go (inr (w, at-d)) =
+          let begins = start-parts e p o j in
+          let ends = deadline-parts e p o j in
+          let s = (j - 1) * p / e in
+          let spans = window-spans e p o he (omega arith) hj in
+          let v-is : v * e ≡ (s + 2) * e = ap (λ x. x * e) {x = v} {y = s + 2} (omega arith) in
+          let end-is : ceilDiv (j * p) e * e ≡ (v + 1) * e = ap (λ x. x * e) {x = ceilDiv (j * p) e} {y = v + 1} (omega arith) in
+          let low : v * e < j * p = omega (arith, ceil-is-near (j * p) he) in
+          let high : j * p < v * e + c = omega (arith, floor-is-near ((j - 1) * p) he, step p j hj) in
+          let less : j < v = lt-of-mul-lt-mul-right e {m = j} {n = v} (omega (arith, split j, some j hj)) in
+          let sum : (v - j + j) * p ≡ v * p = ap (λ x. x * p) {x = v - j + j} {y = v} (omega arith) in
+          let later = mul-le-mul-right {m = d} {n = v} c (omega arith) in
+          let more = lt-of-mul-lt-mul-right p {m = g} {n = v - j + 1} (omega (arith, split v, g-times-p)) in
+          by (v - j) (omega arith) (omega (arith, split v))
+
+  is-group-deadline : deadline e p o i ≡ o + d → IsGroupDeadline e p o i (o + D)
+  is-group-deadline due =
+      record {
+        after = omega (arith, due, after);
+        marked = (at, first, marks);
+        least = λ j u hj m du. least j u hj m (omega (arith, due));
+      }
+
+pub formula-gives-walk : FormulaGivesWalk
+unfolding groupByFormula formula gaps
+formula-gives-walk e p o i he below half hi =
+    let d = deadline e p o i - o in
+    let around = due-between e p o i he d refl in
+    walk-gives-least-time e p o i _ he (omega arith) half hi .0
+    (is-group-deadline e p (p - e) o i d he (omega arith) (omega arith) (omega arith) hi (around .0) (around .1) (omega (arith, deadline-parts e p o i)))
+
+pub answers-by-formula : AnswersByFormula
+answers-by-formula e p f i half fit = windows-are-answered e p f i .if-fit fit ∙ rw (by (decLt 0 e) (decLt e p) (decLt 0 i)) refl
+  where
+    by : Dec (0 < e) → Dec (e < p) → Dec (0 < i) → groupByFormula e p f i ≡ groupDeadline e p f i
+    by (yes cost) (yes below) (yes first) = formula-gives-walk e p f i cost below half first
+    by (no a) _ _ = absurd (fit (Unfit.no-cost (omega arith)))
+    by (yes a) (no b) _ = absurd (fit (Unfit.not-below (omega arith)))
+    by (yes a) (yes b) (no c) = absurd (fit (Unfit.before-first (omega arith)))
+
+-- for the function
+
+-- The bits of a row of weight one are 0.
+whole-has-bit-0 : (e p i : ℕ) → p ≡ e → bit e p i ≡ 0
+whole-has-bit-0 e p i whole = bit-of-whole e p i (ap (λ x. i * x % e) whole ∙ mul-mod-left i e)
+
+module _ {e p o i : ℕ} (can : CanWalk e p o i) (half : p ≤ 2 * e) {d : ℕ} (due : d ≡ deadline e p o i - o) where
+  -- The products of the formula fit 64 bits: d·(p-e) is at most d·e, that is below (i+1)·p,
+  pub rest-product-fits : d * (p - e) < products
+  rest-product-fits =
+      let few = mul-le-mul-left {m = p - e} {n = e} d (omega arith) in
+      let wide = product-fits {n = i + 1} {p = p} (omega (arith, can .near)) (can .fits .period) in
+      omega (arith, due-between e p o i (can .fits .cost) d due, can .fits .weight)
+
+  -- and g·p is less than p above it.
+  pub gaps-product-fits : {g : ℕ} → g ≡ ceilDiv (d * (p - e)) p → g * p < products
+  gaps-product-fits {g} is =
+      let same : g * p ≡ ceilDiv (d * (p - e)) p * p = ap (λ x. x * p) is in
+      let rounds = ceil-is-near (d * (p - e)) {b = p} (omega (arith, can .fits .cost, can .fits .weight)) in
+      let few = mul-le-mul-left {m = p - e} {n = e} d (omega arith) in
+      let wide = product-fits {n = i + 2} {p = p} (omega (arith, can .near)) (can .fits .period) in
+      omega (arith, due-between e p o i (can .fits .cost) d due, can .fits .weight)
+
+  -- Past the test of the bit the row is below weight one, and the formula gives its group deadline.
+  module _ (one : bit e p i ≡ 0 → ⊥) where
+    pub below-one : e < p
+    below-one = go (decLt e p)
+      where
+        go : Dec (e < p) → e < p
+        go (yes l) = l
+        go (no l) = absurd (one (whole-has-bit-0 e p i (omega (arith, can .fits .weight))))
+
+    pub formula-is : {g slots t : ℕ} → g ≡ ceilDiv (d * (p - e)) p → slots ≡ ceilDiv (g * p) (p - e) → t ≡ kept (o + slots) → t ≡ groupDeadline e p o i
+    unfolding groupByFormula formula gaps
+    formula-is {g} {slots} {t} g-is slots-are t-is =
+        let near = ceil-is-near (g * p) {b = p - e} (omega (arith, below-one)) in
+        let few : slots * 1 ≤ slots * (p - e) = mul-le-mul-left {m = 1} {n = p - e} slots (omega (arith, below-one)) in
+        let same : slots * (p - e) ≡ ceilDiv (g * p) (p - e) * (p - e) = ap (λ x. x * (p - e)) slots-are in
+        let exact : t ≡ o + slots = omega (arith, gaps-product-fits g-is, can .fits .origin, can .fits .period) in
+        exact
+        ∙ ap (λ x. o + x) (slots-are ∙ ap (λ x. ceilDiv (x * p) (p - e)) (g-is ∙ ap (λ x. ceilDiv (x * (p - e)) p) due))
+        ∙ formula-gives-walk e p o i (can .fits .cost) below-one half (can .fits .first)
