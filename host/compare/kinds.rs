@@ -44,7 +44,8 @@ macro_rules! kinds {
 
 kinds! {
     // file      case                          what is said of it              asked of        cases
-    mod window,  window::Case:                 "windows",                      PROBE,          40_000;
+    mod window,  window::Case<false>:          "windows",                      PROBE,          40_000;
+                 window::Case<true>:           "windows by the walk",          PROBE,          40_000;
     mod table,   Lent<table::Tables, false>:   "tables",                       PROBE,          10_000;
     mod value,   value::Case<false>:           "table values",                 PROBE,          5_000;
     mod slot,    slot::Case<u8>:               "slots",                        PROBE,          20_000;

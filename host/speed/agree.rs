@@ -77,10 +77,7 @@ fn one(table: &[u8], k: u8) -> Result<u64, String> {
 
 /// The records with these cores free from slot to slot, up to the first late one, and the state at the end: of the second program, and the
 /// same of plain and hurried; in each slot plain has the same rows on the same cores.
-fn by_rust(
-    table: &[u8],
-    mut free: impl FnMut() -> u32,
-) -> Result<(Vec<Entry>, State), String> {
+fn by_rust(table: &[u8], mut free: impl FnMut() -> u32) -> Result<(Vec<Entry>, State), String> {
     let mut state =
         fresh(second::table::read(table).map_err(|number| format!("refused {}", number))?);
     let mut plain = plain::slot::State::fresh(plain::table::read(table).unwrap_or_default());

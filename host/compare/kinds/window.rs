@@ -1,11 +1,12 @@
-//! Windows asked for alone.
+//! Windows asked for alone: with D by the formula, or by the walk. What ours finds by one of them, the second program is asked for by the
+//! other, so that formula and walk are held to each other as well.
 
 use crate::kind::*;
 use crate::make::weight::{self, phase, weight};
-use second::windows::window;
+use second::windows::{heavy, window, window_by_walk};
 
 #[derive(Clone)]
-pub struct Case {
+pub struct Case<const BY_WALK: bool> {
     e: u16,
     p: u16,
     f: u16,
@@ -14,17 +15,19 @@ pub struct Case {
 
 const LAST: u64 = 1_000_000_001;
 
-impl Kind for Case {
+impl<const BY_WALK: bool> Kind for Case<BY_WALK> {
     /// The last i is refused by all of its 8 bytes, and would not be by the lower 4 of them.
     const GROUPS: &'static [Group] = &[
         "answer (1 in 20): 0 | 50",
         "weight (1 in 30): heavy | one half | light",
         "bit (1 in 15): 0 | 1",
+        "of a heavy row with bit 1, phase (1 in 15): 0 | above 0",
+        "of a heavy row, slots from d to D (1 in 500): 0 | 1 to 9 | 10 to 999 | 1,000 or more",
         "of a right row, i (1 in 300): 0 | 1,000,000,001 | 1,000,000,002 | \
          right in its low 4 bytes alone",
     ];
 
-    fn wild(random: &mut Random) -> Case {
+    fn wild(random: &mut Random) -> Self {
         let (e, p) = weight(random);
         Case {
             e,
@@ -39,7 +42,7 @@ impl Kind for Case {
         if let Some(way) = to.turn(smaller.len()) {
             *self = smaller[way].clone();
         }
-        to.letter(b'W')
+        to.letter(if BY_WALK { b'G' } else { b'W' })
             .part("e", &mut self.e)
             .part("p", &mut self.p)
             .part("f", &mut self.f)
@@ -47,7 +50,8 @@ impl Kind for Case {
     }
 
     fn answered(&self, to: &mut Message) {
-        let answer = window(self.e, self.p, self.f, self.i);
+        let other_way = if BY_WALK { window } else { window_by_walk };
+        let answer = other_way(self.e, self.p, self.f, self.i);
         to.number("number", answer.number)
             .number("r", answer.start)
             .number("d", answer.deadline)
@@ -56,11 +60,20 @@ impl Kind for Case {
     }
 
     fn count(&self, answer: &[u8], tally: &mut Tally) {
-        let Case { e, p, i, .. } = *self;
+        let Case { e, p, f, i } = *self;
         tally.saw("answer", answer[0]);
         if answer[0] == 0 {
+            let found = window(e, p, f, i);
             tally.saw("weight", weight::name(e, p));
-            tally.saw("bit", answer[1 + 8 + 8]);
+            tally.saw("bit", found.bit);
+            if heavy(e, p) {
+                let phase = if f == 0 { "0" } else { "above 0" };
+                tally.saw_if(found.bit == 1, "of a heavy row with bit 1, phase", phase);
+                let slots = found.group.saturating_sub(found.deadline);
+                let ranges = [0..=0, 1..=9, 10..=999, 1_000..=u64::MAX];
+                let met = ranges.map(|range| range.contains(&slots));
+                tally.saw_each("of a heavy row, slots from d to D", met);
+            }
         }
         let low = u64::from(i as u32);
         let low_right = i != low && (1..=LAST).contains(&low);
@@ -71,9 +84,9 @@ impl Kind for Case {
     }
 }
 
-impl Case {
+impl<const BY_WALK: bool> Case<BY_WALK> {
     /// In the first job, or of nearly the same weight.
-    fn smaller(&self) -> [Case; 4] {
+    fn smaller(&self) -> [Self; 4] {
         let first = self.i.saturating_sub(1) % u64::from(self.e).max(1) + 1;
         let i = self.i.min(first);
         let (e, p) = (self.e.saturating_sub(1), self.p.saturating_sub(1));

@@ -1,15 +1,17 @@
-//! A real-time dispatcher after the paper "Exact scope and rules", called 01 below, and after three
+//! A real-time dispatcher after the paper "Exact scope and rules", called 01 below, and after four
 //! requests of the paper "More requests from customers": "A core for each picked row", called
-//! 02, One, "Why did tank 14 wait?", called 02, Two, and "Half is heavy", called 02, Three. Where
-//! One and Three change 01, they are followed; Two asks of the slot that is about to run and
-//! changes nothing.
+//! 02, One, "Why did tank 14 wait?", called 02, Two, "Half is heavy", called 02, Three, and "The
+//! long walk", called 02, Four. Where One and Three change 01, they are followed; Two asks of the
+//! slot that is about to run and changes nothing; Four finds the group deadline by a formula and
+//! changes no answer.
 //!
 //! One module for each part of 01, and one for each of One and Two; the papers' words stand in the
 //! comments beside the code that follows them, and their numbers stand in the code as they are
 //! written there.
 //!
 //! * `table`: the table, in bytes, and the faults of a table value.
-//! * `windows`: start, deadline, bit and group deadline of a subtask.
+//! * `windows`: start, deadline, bit and group deadline of a subtask, the last by the formula of
+//!   02, Four, and by 01's walk.
 //! * `share`: the exact share of a row.
 //! * `cores`: a core for each picked row (02, One).
 //! * `slot`: who is ready, who goes first, one slot's choice, and what decided it.
@@ -27,7 +29,8 @@
 //! place. The first five are those of 01's "Slips we have made", the next three are of the kind
 //! that is off by one. The next show at the ends of what may be asked alone: a number cut to
 //! fewer bytes, a limit that lets one too many or too few pass, a kind or a place that is not
-//! looked at. The next four are of 02, One, and the last three of 02, Two.
+//! looked at. The next four are of 02, One, the next three of 02, Two, and the last two of
+//! 02, Four.
 //!
 //! | name | place | the mistake |
 //! |---|---|---|
@@ -40,7 +43,7 @@
 //! | `deadline_rounded_down` | `windows::deadline_after_phase` | floor in place of ceil |
 //! | `half_is_light` | `windows::heavy` | 1/2 counted light |
 //! | `input_read_short` | `printer::read_input` | only the first 65,536 bytes are judged |
-//! | `subtask_as_4_bytes` | `windows::window` | i cut to 32 bits |
+//! | `subtask_as_4_bytes` | `windows::window_with` | i cut to 32 bits |
 //! | `place_as_4_bytes` | `slot::slot_on` | the place cut to 32 bits |
 //! | `slots_limit_4097` | `printer::MOST_SLOTS` | 4,097 slots are taken |
 //! | `record_begins_at_0` | `trace::record` | every part is said to begin at 0 |
@@ -53,6 +56,8 @@
 //! | `best_in_place_of_lowest` | `why::named_of` | the first of the picked is named, not the last |
 //! | `no_core_before_ready` | `why::reason` | at k = 0 every row has no core free |
 //! | `row_before_cores` | `why::refusal` | 36 is tested before 33 |
+//! | `phase_counted_twice` | `windows::group_deadline` | the formula's d counted from time 0 |
+//! | `walk_stops_before_d` | `windows::walked_group_deadline` | a 3-slot window ends its own walk |
 
 // compilers that know the lint warn of a cfg name they were not told of; older ones do not know
 // the lint

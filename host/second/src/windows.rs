@@ -5,7 +5,9 @@
 //! reduced."
 //!
 //! The functions with a phase of 64 bits serve every other part; `window` is the one "asked for
-//! alone". All of them reckon in 128 bits, where nothing below can overflow.
+//! alone". In all of these D is found by the formula of 02, Four. `window_by_walk` is `window` with
+//! D found by 01's walk over the windows, so that each can be checked by the other. All reckon in
+//! 128 bits, where nothing below can overflow.
 
 /// What comes back when a window is asked for alone. `number` is 0 or 50.
 #[derive(Clone, Copy, PartialEq, Eq, Debug)]
@@ -25,6 +27,17 @@ pub struct Window {
 /// e = 0, if e is not below p, or if i is not in 1 to 1,000,000,001; then r, d, b and D come
 /// back as 0."
 pub fn window(e: u16, p: u16, f: u16, i: u64) -> Window {
+    window_with(group_deadline, e, p, f, i)
+}
+
+/// The same "with D found by the walk", letter `G` of the probe's protocol: "number, r, d, b as
+/// `W`; D 0 for a light row; 50 with zeros for a refused window."
+pub fn window_by_walk(e: u16, p: u16, f: u16, i: u64) -> Window {
+    window_with(walked_group_deadline, e, p, f, i)
+}
+
+/// The window asked for alone. `group` finds its D; it is not asked of a window that is refused.
+fn window_with(group: fn(u16, u16, u64, u64) -> u128, e: u16, p: u16, f: u16, i: u64) -> Window {
     // slip: i cut to 32 bits
     #[cfg(slip = "subtask_as_4_bytes")]
     let i = u64::from(i as u32);
@@ -44,7 +57,7 @@ pub fn window(e: u16, p: u16, f: u16, i: u64) -> Window {
         start: start(e, p, phase, i) as u64,
         deadline: deadline(e, p, phase, i) as u64,
         bit: bit(e, p, i),
-        group: group_deadline(e, p, phase, i) as u64,
+        group: group(e, p, phase, i) as u64,
     }
 }
 
@@ -110,16 +123,75 @@ fn reduced(e: u16, p: u16) -> (u16, u16) {
 /// that is the deadline of a subtask of this row with b = 0, or one less than the deadline of a
 /// subtask of this row whose window is 3 slots long."
 ///
-/// It is reckoned, not sought; the walk over the windows that 01 names for the bench meets the
-/// same time (the tests take it). A row of e = p, which no table has, may be asked for as well.
-/// Without a window (e = 0, e above p, i = 0) it is 0.
+/// These words stay "as the text people read"; D is reckoned, not sought. 02, Four: "For heavy
+/// rows, with d counted from the phase, D is f + ceil(g·p/(p-e)) where g = ceil(d·(p-e)/p). What
+/// the answer promises stays."
+///
+/// It stays for this reason. With e < p the windows of a heavy row start one or two slots apart,
+/// and a time t is of the sort that 01 seeks exactly when none starts in slot t - 1: then one
+/// starts at t - 2 and the next at t, which is its "d - b", so that it ends at t with b = 0, or at
+/// t + 1 and is 3 slots long; and of both sorts of window the next starts at t. The slots in which
+/// none starts are those before the deadlines of a row of p - e in p. So says 001: "D can be
+/// calculated by using (8) to determine the deadlines of a task of weight 1 - wt(T)".
+///
+/// Of that row's deadlines the first at or after d is that of its subtask g, the first subtask with
+/// g·p at or above d·(p-e): its own is at or after d, and those before it are at most d. None of
+/// these is d itself: then no window would start in slot d - 1, b would be 0, d·(p-e) would be
+/// (d-i)·p, and the deadline of g, then d - i, would be d as well; but deadlines rise strictly.
+///
+/// A row of e = p, which no table has, may be asked for as well; there p - e is 0 and the formula
+/// has no value. Without a window (e = 0, e above p, i = 0) D is 0.
 pub fn group_deadline(e: u16, p: u16, f: u64, i: u64) -> u128 {
     if e == 0 || e > p || i == 0 || !heavy(e, p) {
         return 0;
     }
-    let (e, p) = (u128::from(e), u128::from(p));
-    let deadline = deadline_after_phase(e, p, u128::from(i));
-    u128::from(f) + first_group_deadline(e, p, deadline)
+    let (e, p, f) = (u128::from(e), u128::from(p), u128::from(f));
+    // "with d counted from the phase"
+    let d = deadline_after_phase(e, p, u128::from(i));
+    if e == p {
+        // every subtask has b = 0
+        return f + d;
+    }
+    // slip: d counted from time 0
+    #[cfg(slip = "phase_counted_twice")]
+    let d = f + d;
+    let g = rounded_up(d * (p - e), p);
+    f + rounded_up(g * p, p - e)
+}
+
+/// ceil(dividend/divisor); the divisor is not 0.
+fn rounded_up(dividend: u128, divisor: u128) -> u128 {
+    (dividend + divisor - 1) / divisor
+}
+
+/// D again, with the formula nowhere in it: "The bench must be able to follow it: walk the row's
+/// windows forward and stop at the first that fits."
+///
+/// The walk begins with subtask i itself, since the windows before it end before d, and it ends
+/// with the job at the latest, whose last window has b = 0. The window of i is not refused: 0 < e,
+/// e < p, and i is not 0.
+fn walked_group_deadline(e: u16, p: u16, f: u64, i: u64) -> u128 {
+    // "0 for a light row"
+    if !heavy(e, p) {
+        return 0;
+    }
+    // "the smallest time at or after d that is"
+    let d = deadline(e, p, f, i);
+    let mut subtask = i;
+    loop {
+        let end = deadline(e, p, f, subtask);
+        // "one less than the deadline of a subtask of this row whose window is 3 slots long"
+        let is_3_slots_long = end - start(e, p, f, subtask) == 3;
+        // slip: whether that is "at or after d" is not asked
+        if is_3_slots_long && (end - 1 >= d || cfg!(slip = "walk_stops_before_d")) {
+            return end - 1;
+        }
+        // "the deadline of a subtask of this row with b = 0"
+        if bit(e, p, subtask) == 0 {
+            return end;
+        }
+        subtask += 1;
+    }
 }
 
 // ---- the same for phase 0; the callers have seen that e is not 0 and i is not 0 ----
@@ -147,33 +219,20 @@ fn bit_of(e: u128, p: u128, i: u128) -> u8 {
     }
 }
 
-/// The smallest time at or after `time`, which is not 0, "that is the deadline of a subtask of this
-/// row with b = 0, or one less than the deadline of a subtask of this row whose window is 3 slots
-/// long". The row is heavy.
-///
-/// With e = p every time from 1 on is a deadline with b = 0. With e < p the windows of a heavy row
-/// start one or two slots apart, and a time t is of that sort exactly when none starts in slot
-/// t - 1: then one starts at t - 2 and the next at t, which is its "d - b", so that it ends at t
-/// with b = 0, or at t + 1 and is 3 slots long; and of both sorts of window the next starts at t.
-/// The slots in which none starts are those before the deadlines of a row of p - e in p. So says
-/// 001: "D can be calculated by using (8) to determine the deadlines of a task of weight
-/// 1 - wt(T)".
-fn first_group_deadline(e: u128, p: u128, time: u128) -> u128 {
-    if e == p {
-        return time;
-    }
-    let rest = p - e;
-    // ceil(j·p/rest) is at or after `time` exactly when j·p is above (time - 1)·rest
-    let j = (time - 1) * rest / p + 1;
-    deadline_after_phase(rest, p, j)
-}
-
 #[cfg(test)]
 mod tests {
     use super::*;
 
+    /// What is answered with D by the formula and, the same, with D by the walk.
+    fn agreed(e: u16, p: u16, f: u16, i: u64) -> Window {
+        let reckoned = window(e, p, f, i);
+        let walked = window_by_walk(e, p, f, i);
+        assert_eq!(reckoned, walked, "{}/{} from {}, subtask {}", e, p, f, i);
+        reckoned
+    }
+
     fn asked(e: u16, p: u16, f: u16, i: u64) -> (u64, u64, u8, u64) {
-        let answer = window(e, p, f, i);
+        let answer = agreed(e, p, f, i);
         assert_eq!(answer.number, 0);
         (answer.start, answer.deadline, answer.bit, answer.group)
     }
@@ -279,19 +338,96 @@ mod tests {
         assert_eq!(asked(65534, 65535, 0, 65533), (65532, 65534, 1, 65535));
         assert_eq!(asked(65534, 65535, 0, 65534), (65533, 65535, 0, 65535));
         assert_eq!(asked(65534, 65535, 0, 65535), (65535, 65537, 1, 131070));
+        // from the middle half a job is walked; with the latest phase all is 65,535 later
+        assert_eq!(asked(65534, 65535, 0, 32767), (32766, 32768, 1, 65535));
+        assert_eq!(asked(65534, 65535, 65535, 1), (65535, 65537, 1, 131070));
+        assert_eq!(asked(65534, 65535, 65535, 32767), (98301, 98303, 1, 131070));
+        assert_eq!(
+            asked(65534, 65535, 65535, 65534),
+            (131068, 131070, 0, 131070)
+        );
+    }
+
+    #[test]
+    fn the_longest_walk_at_the_last_subtasks_that_may_be_asked() {
+        // 15,259 jobs of 65,534 are 999,983,306 subtasks and 999,998,565 slots; 1,000,000,001 is
+        // subtask 16,695 of the next job, which ends at time 1,000,064,100
+        assert_eq!(
+            asked(65534, 65535, 0, 1_000_000_001),
+            (1_000_015_259, 1_000_015_261, 1, 1_000_064_100)
+        );
+        assert_eq!(
+            asked(65534, 65535, 65535, 1_000_000_001),
+            (1_000_080_794, 1_000_080_796, 1, 1_000_129_635)
+        );
+        assert_eq!(
+            asked(65534, 65535, 0, 999_983_306),
+            (999_998_563, 999_998_565, 0, 999_998_565)
+        );
+        assert_eq!(
+            asked(65534, 65535, 0, 999_983_307),
+            (999_998_565, 999_998_567, 1, 1_000_064_100)
+        );
+    }
+
+    #[test]
+    fn d_is_counted_from_the_phase() {
+        // 02, Four, by hand for 8/11, i = 3: d 5, g = ceil(15/11) = 2, ceil(22/3) = 8; with d
+        // counted from time 0 and f = 7 it would be g = ceil(36/11) = 4, 7 + ceil(44/3) = 22
+        assert_eq!(asked(8, 11, 7, 3), (9, 12, 1, 15));
+        for f in 0..=65_535u16 {
+            let phase = u64::from(f);
+            assert_eq!(asked(8, 11, f, 3), (phase + 2, phase + 5, 1, phase + 8));
+        }
+    }
+
+    #[test]
+    fn an_origin_moves_the_group_deadline_and_nothing_else() {
+        for &origin in &[1, 65_536, 70_368_744_177_664, u64::MAX] {
+            for &(e, p) in &[(1, 2), (2, 3), (8, 11), (65_534, 65_535), (9, 9)] {
+                for i in 1..=20 {
+                    let moved = group_deadline(e, p, origin, i) - u128::from(origin);
+                    assert_eq!(moved, group_deadline(e, p, 0, i));
+                }
+            }
+        }
+    }
+
+    #[test]
+    fn a_window_of_3_slots_does_not_end_its_own_walk() {
+        // 8/11, subtask 3: 2 to 5, and 4 is before its d; subtask 6, 6 to 9, ends the walk
+        assert_eq!(asked(8, 11, 0, 3).3, 8);
+        // 3/4 has no window of 3 slots: 0-2, 1-3, 2-4 with b 0
+        assert_eq!(asked(3, 4, 0, 1), (0, 2, 1, 4));
+        // 32768/65535: subtask 2, 1 to 4, is one, and so is the next
+        assert_eq!(asked(32768, 65535, 0, 2), (1, 4, 1, 5));
+        assert_eq!(asked(32768, 65535, 0, 3), (3, 6, 1, 7));
+    }
+
+    #[test]
+    fn a_window_with_b_0_ends_its_own_walk() {
+        for p in 2..200u16 {
+            for e in (p + 1) / 2..p {
+                let last = asked(e, p, 5, u64::from(e));
+                assert_eq!(
+                    last,
+                    (5 + u64::from(p) - 2, 5 + u64::from(p), 0, 5 + u64::from(p))
+                );
+            }
+        }
     }
 
     #[test]
     fn borders_of_i() {
-        assert_eq!(window(1, 2, 0, 0).number, 50);
-        assert_eq!(window(1, 2, 0, 1).number, 0);
-        assert_eq!(window(1, 2, 0, 1_000_000_001).number, 0);
-        assert_eq!(window(1, 2, 0, 1_000_000_002).number, 50);
-        assert_eq!(window(1, 2, 0, u64::MAX).number, 50);
+        assert_eq!(agreed(1, 2, 0, 0).number, 50);
+        assert_eq!(agreed(1, 2, 0, 1).number, 0);
+        assert_eq!(agreed(1, 2, 0, 1_000_000_001).number, 0);
+        assert_eq!(agreed(1, 2, 0, 1_000_000_002).number, 50);
+        assert_eq!(agreed(1, 2, 0, u64::MAX).number, 50);
         // their last four bytes alone are 0, 1 and 1,000,000,001
-        assert_eq!(window(1, 2, 0, 4_294_967_296).number, 50);
-        assert_eq!(window(1, 2, 0, 4_294_967_297).number, 50);
-        assert_eq!(window(1, 2, 0, 5_294_967_297).number, 50);
+        assert_eq!(agreed(1, 2, 0, 4_294_967_296).number, 50);
+        assert_eq!(agreed(1, 2, 0, 4_294_967_297).number, 50);
+        assert_eq!(agreed(1, 2, 0, 5_294_967_297).number, 50);
         // 65535·1,000,000,001 and 65535·1,000,000,002
         assert_eq!(
             asked(1, 65535, 65535, 1_000_000_001),
@@ -313,14 +449,18 @@ mod tests {
             bit: 0,
             group: 0,
         };
-        assert_eq!(window(0, 0, 0, 1), refused);
-        assert_eq!(window(0, 5, 3, 1), refused);
-        assert_eq!(window(1, 1, 3, 1), refused);
-        assert_eq!(window(5, 4, 3, 1), refused);
-        assert_eq!(window(1, 0, 3, 1), refused);
-        assert_eq!(window(65535, 65535, 65535, 1), refused);
-        assert_eq!(window(2, 3, 4, 0), refused);
-        assert_eq!(window(2, 3, 4, 1_000_000_002), refused);
+        assert_eq!(agreed(0, 0, 0, 1), refused);
+        assert_eq!(agreed(0, 5, 3, 1), refused);
+        assert_eq!(agreed(1, 1, 3, 1), refused);
+        assert_eq!(agreed(5, 4, 3, 1), refused);
+        assert_eq!(agreed(1, 0, 3, 1), refused);
+        assert_eq!(agreed(65535, 65535, 65535, 1), refused);
+        assert_eq!(agreed(2, 3, 4, 0), refused);
+        assert_eq!(agreed(2, 3, 4, 1_000_000_002), refused);
+        assert_eq!(agreed(2, 3, 4, u64::MAX), refused);
+        // of a light row too, and of the longest walk
+        assert_eq!(agreed(1, 3, 4, 0), refused);
+        assert_eq!(agreed(65534, 65535, 0, 1_000_000_002), refused);
     }
 
     #[test]
@@ -390,33 +530,15 @@ mod tests {
         }
     }
 
-    /// "walk the row's windows forward and stop at the first that fits"
-    fn group_by_walk(e: u16, p: u16, i: u64) -> u64 {
-        let (e, p) = (u64::from(e), u64::from(p));
-        let d = (i * p + e - 1) / e;
-        let mut j = i;
-        loop {
-            let (j_start, j_deadline) = ((j - 1) * p / e, (j * p + e - 1) / e);
-            if j_deadline - j_start == 3 && j_deadline - 1 >= d {
-                return j_deadline - 1;
-            }
-            if j * p % e == 0 {
-                return j_deadline;
-            }
-            j += 1;
-        }
-    }
-
     #[test]
     fn the_group_deadline_is_the_smallest_time_and_001_agrees() {
         for p in 2..40u16 {
             for e in 1..p {
                 for i in 1..=2 * u64::from(e) + 2 {
-                    let here = window(e, p, 0, i);
+                    let here = agreed(e, p, 0, i);
                     if 2 * e >= p {
                         assert_eq!(here.group, group_by_list(e, p, here.deadline));
                         assert_eq!(here.group, group_by_rest(e, p, here.deadline));
-                        assert_eq!(here.group, group_by_walk(e, p, i));
                     } else {
                         assert_eq!(here.group, 0);
                     }
@@ -432,10 +554,50 @@ mod tests {
                 let e = p - rest;
                 let last = u64::from(e);
                 for &i in &[1, 2, last / 2, last - 1, last, last + 1, 3 * last] {
-                    let group = window(e, p, 0, i).group;
-                    assert_eq!(group, group_by_walk(e, p, i), "{}/{}, {}", e, p, i);
+                    let here = agreed(e, p, 0, i);
+                    assert_eq!(here.group, group_by_rest(e, p, here.deadline));
                 }
             }
+        }
+    }
+
+    #[test]
+    fn formula_and_walk_agree_for_all_heavy_rows_of_short_periods() {
+        for p in 2..=72u16 {
+            for e in (p + 1) / 2..p {
+                for i in 1..=u64::from(e) + 1 {
+                    for &f in &[0, 1, 2, 5, p - 1, p, 1_000, 65_535] {
+                        let here = agreed(e, p, f, i);
+                        assert!(here.group >= here.deadline);
+                    }
+                }
+            }
+        }
+    }
+
+    #[test]
+    fn formula_and_walk_agree_at_the_last_subtasks_that_may_be_asked() {
+        for p in 2..=40u16 {
+            for e in (p + 1) / 2..p {
+                for back in 0..=u64::from(e) {
+                    agreed(e, p, 65_535, 1_000_000_001 - back);
+                }
+            }
+        }
+    }
+
+    #[test]
+    fn a_light_row_has_no_group_deadline() {
+        for p in 3..=60u16 {
+            for e in 1..(p + 1) / 2 {
+                for i in 1..=u64::from(e) + 1 {
+                    assert_eq!(agreed(e, p, 9, i).group, 0);
+                }
+            }
+        }
+        for &i in &[1, 2, 32_767, 32_768, 1_000_000_001] {
+            assert_eq!(agreed(32_767, 65_535, 65_535, i).group, 0);
+            assert_eq!(agreed(1, 65_535, 0, i).group, 0);
         }
     }
 
