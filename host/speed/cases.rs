@@ -38,8 +38,8 @@ pub fn program(name: &str) -> Result<Program, String> {
 /// A case: does its work for a program and a number, and answers whether every answer was right.
 pub type Case = Box<dyn Fn(&Program, u32) -> bool>;
 
-/// The number is that of slots, of checks of the trace, of tables read, or of calls for a fresh state and its first slot; `.. fresh` is the
-/// last one without the slot, to be taken off.
+/// The number is that of slots, of checks of the trace, of tables read, or of calls for a fresh state and its first slot; one with `fresh` in
+/// its name is without the slot, to be taken off.
 pub fn case(name: &str) -> Result<Case, String> {
     match name {
         "slot" => Ok(slots(boxes::full())),
@@ -57,10 +57,20 @@ pub fn case(name: &str) -> Result<Case, String> {
         }
         "walks" => Ok(first_slots(boxes::longest_walks(), 7, 1)),
         "walks_fresh" => Ok(first_slots(boxes::longest_walks(), 7, 0)),
-        "equal" => Ok(slots(boxes::equal(1, 4))),
-        "worst" => Ok(first_slots(boxes::equal(5, 21), 8, 1)),
-        "worst_fresh" => Ok(first_slots(boxes::equal(5, 21), 8, 0)),
-        _ => Err(format!("no case is called {}", name)),
+        _ => equal(name).ok_or(format!("no case is called {}", name)),
+    }
+}
+
+/// The cases of 32 equal rows: `slots_1/4`, `first_5/21`, `fresh_5/21`.
+fn equal(name: &str) -> Option<Case> {
+    let (what, weight) = name.split_once('_')?;
+    let (e, p) = weight.split_once('/')?;
+    let table = boxes::equal(e.parse().ok()?, p.parse().ok()?);
+    match what {
+        "slots" => Some(slots(table)),
+        "first" => Some(first_slots(table, 8, 1)),
+        "fresh" => Some(first_slots(table, 8, 0)),
+        _ => None,
     }
 }
 
