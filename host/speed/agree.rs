@@ -22,8 +22,8 @@ fn all_boxes() -> Vec<Vec<u8>> {
         boxes::full(),
         boxes::short(),
         boxes::longest_walks(),
-        boxes::equal(1, 4),
-        boxes::equal(5, 21),
+        boxes::equal(1, 4, false),
+        boxes::equal(5, 21, true),
     ];
     for number in 0..RANDOM_BOXES {
         let cycle = random.pick(&CYCLES);

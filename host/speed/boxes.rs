@@ -31,25 +31,29 @@ fn row(tank: u16, cost: u16, period: u16) -> Row {
     }
 }
 
-/// Rows of these weights (e, p), plain and with phase 0, on 8 cores.
-pub fn plain_rows(cycle: u32, weights: impl Iterator<Item = (u16, u16)>) -> Vec<u8> {
+/// Rows of these weights (e, p), with phase 0, on 8 cores.
+fn rows(cycle: u32, weights: impl Iterator<Item = (u16, u16)>, early: bool) -> Vec<u8> {
+    let kind = early.into();
     let rows: Vec<Row> = weights
         .zip(0..)
-        .map(|((e, p), tank)| row(tank, e, p))
+        .map(|((e, p), tank)| Row {
+            kind,
+            ..row(tank, e, p)
+        })
         .collect();
     draft(cycle, &BOARDS, &rows).bytes()
 }
 
 /// 8 rows that each take a core but for one slot in 65,535, and 8 that fill the cores: a full box. Each of the 8 would be walked for over 65,534
-/// windows, if D were found by a walk: the most that a table can ask for in one slot.
+/// windows, if D were found by a walk: the most that was found in one slot.
 pub fn longest_walks() -> Vec<u8> {
     let weights = [(65_534, 65_535), (1, 65_535)];
-    plain_rows(65_535, weights.into_iter().flat_map(|it| [it; 8]))
+    rows(65_535, weights.into_iter().flat_map(|it| [it; 8]), false)
 }
 
-/// A farm of 32 equal tanks: each row has the deadline and the bit of every other.
-pub fn equal(e: u16, p: u16) -> Vec<u8> {
-    plain_rows(p.into(), [(e, p); 32].into_iter())
+/// A farm of 32 equal tanks: at first each row has the deadline and the bit of every other.
+pub fn equal(e: u16, p: u16, early: bool) -> Vec<u8> {
+    rows(p.into(), [(e, p); 32].into_iter(), early)
 }
 
 const BOARDS: [u8; 8] = [0, 1, 2, 3, 4, 5, 6, 7];

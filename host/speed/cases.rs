@@ -38,11 +38,10 @@ pub fn program(name: &str) -> Result<Program, String> {
 /// A case: does its work for a program and a number, and answers whether every answer was right.
 pub type Case = Box<dyn Fn(&Program, u32) -> bool>;
 
-/// The number is that of slots, of checks of the trace, of tables read, or of calls for a fresh state and its first slot; one with `fresh` in
-/// its name is without the slot, to be taken off.
+/// `trace`, `table`, or what is done with a box, and which box: `slots_BOX`, `first_BOX`, `fresh_BOX`. The number is that of checks, of tables read, of
+/// slots, of fresh states with their first slot, or of fresh states without, to be taken off.
 pub fn case(name: &str) -> Result<Case, String> {
     match name {
-        "slot" => Ok(slots(boxes::full())),
         "trace" => {
             let (short, trace) = (boxes::short(), boxes::million());
             Ok(Box::new(move |program, number| {
@@ -55,29 +54,36 @@ pub fn case(name: &str) -> Result<Case, String> {
                 (0..number).all(|_| (program.table_check)(&full) == 0)
             }))
         }
-        "walks" => Ok(first_slots(boxes::longest_walks(), 7, 1)),
-        "walks_fresh" => Ok(first_slots(boxes::longest_walks(), 7, 0)),
-        _ => equal(name).ok_or(format!("no case is called {}", name)),
+        _ => of_a_box(name).ok_or(format!("no case is called {}", name)),
     }
 }
 
-/// The cases of 32 equal rows: `slots_1/4`, `first_5/21`, `fresh_5/21`.
-fn equal(name: &str) -> Option<Case> {
-    let (what, weight) = name.split_once('_')?;
-    let (e, p) = weight.split_once('/')?;
-    let table = boxes::equal(e.parse().ok()?, p.parse().ok()?);
+fn of_a_box(name: &str) -> Option<Case> {
+    let (what, which) = name.split_once('_')?;
+    let (table, k) = match which {
+        "full" => (boxes::full(), 8),
+        "walks" => (boxes::longest_walks(), 7),
+        weight => (equal(weight)?, 8),
+    };
     match what {
-        "slots" => Some(slots(table)),
-        "first" => Some(first_slots(table, 8, 1)),
-        "fresh" => Some(first_slots(table, 8, 0)),
+        "slots" => Some(slots(table, k)),
+        "first" => Some(first_slots(table, k, 1)),
+        "fresh" => Some(first_slots(table, k, 0)),
         _ => None,
     }
 }
 
-/// So many slots with all cores free.
-fn slots(table: Vec<u8>) -> Case {
+/// 32 equal rows: `1/4`, or, of early release, `1/4e`.
+fn equal(weight: &str) -> Option<Vec<u8>> {
+    let (e, rest) = weight.split_once('/')?;
+    let p = rest.trim_end_matches('e');
+    Some(boxes::equal(e.parse().ok()?, p.parse().ok()?, rest != p))
+}
+
+/// So many slots.
+fn slots(table: Vec<u8>, k: u8) -> Case {
     Box::new(move |program, number| {
-        (program.slots)(&table, 8, number, &mut [0; 10]) == number.into()
+        (program.slots)(&table, k, number, &mut [0; 10]) == number.into()
     })
 }
 

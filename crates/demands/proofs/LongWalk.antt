@@ -1,4 +1,4 @@
--- The long walk: the formula gives what it gives, and there is one answer. Assumes nothing.
+-- The formula gives what the long walk gives, and there is one answer. Assumes nothing.
 use mathlib.Core.Path.{refl, _∙_}
 use Prim.Native.Nat.{ℕ, _≤_}
 use native.Mathlib.Omega.{arith}

@@ -160,8 +160,9 @@ pub record ShutOutOfWhy (explain : Explainer) : Type 0 where
   pub knows-one-rule : KnowsOneRule explain → ⊥
   pub says-now : SaysNow explain → ⊥
 
--- Who answers the window question keeps the promise of `window`, which is that of `window_by_walk` too. Shut out are one that answers D 0 whenever the weight is exactly one half (02, Three); and, of
--- heavy rows, one that puts d into the formula as it is, not counted from the phase, one that rounds its divisions down, and one whose walk stops at the window of i itself if that is 3 slots long (02, Four).
+-- Who answers the window question keeps the promise of `window`, which is that of `window_by_walk` too. Shut out is one that answers D 0 whenever the weight is exactly
+-- one half (02, Three). Of heavy rows (02, Four) so are one that puts d into the formula as it is, not counted from the phase, one that rounds the formula's divisions down,
+-- and one whose walk stops at the window of i itself if that is 3 slots long.
 abbrev pub Answerer : Type 0
 Answerer = ℕ → ℕ → ℕ → Subtask → Window
 

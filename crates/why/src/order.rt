@@ -15,7 +15,7 @@ struct End {
     bit: u8,
 }
 
-// The first rule that decides. Group deadlines are asked for last: each is a walk.
+// The first rule that decides. Group deadlines are asked for last, and only if both bits are 1.
 pub(crate) fn rule_between(ahead: Row, had: Quanta, behind: Row, given: Quanta) -> Rule
     requires { ⌜ HasWindow ahead (had .0) × HasWindow behind (given .0) ⌝ }
     ensures { λ r. ⌜ r ≡ ruleFor (rankOf ahead 0 (had .0)) (rankOf behind 0 (given .0)) ⌝ }

@@ -39,7 +39,7 @@ module _ (e p o j : ℕ) where
   unfolding start
   start-parts = refl
 
-  -- So many slots after the origin is d: i·p/e of them, rounded up.
+  -- d counted from the origin is j·p/e, rounded up.
   due-between : 0 < e → (d : ℕ) → d ≡ deadline e p o j - o → (j * p ≤ d * e) × (d * e < j * p + e)
   due-between he d due =
       let same : d * e ≡ ceilDiv (j * p) e * e = ap (λ x. x * e) {x = d} {y = ceilDiv (j * p) e} (omega (arith, deadline-parts)) in
@@ -120,21 +120,23 @@ module _ (e p c o i d : ℕ) (he : 0 < e) (hc : 0 < c) (whole : p ≡ e + c) (ha
       v : ℕ
       v = u - o
 
-      by : (k : ℕ) → g ≤ k → k * p ≤ v * c → o + D ≤ u
-      by k more few =
-          let x = ceil-is-enough {a = g * p} {b = c} {x = v} hc .1 (omega (arith, mul-le-mul-right p more)) in
+      -- by the products around it
+      by : v * e ≤ j * p → j * p < v * e + c → o + D ≤ u
+      by low high =
+          let less : j < v = lt-of-mul-lt-mul-right e {m = j} {n = v} (omega (arith, split j, some j hj)) in
+          let sum : (v - j + j) * p ≡ v * p = ap (λ x. x * p) {x = v - j + j} {y = v} (omega arith) in
+          let later = mul-le-mul-right {m = d} {n = v} c (omega arith) in
+          let more = lt-of-mul-lt-mul-right p {m = g} {n = v - j + 1} (omega (arith, split v, g-times-p)) in
+          let few = mul-le-mul-right {m = g} {n = v - j} p (omega arith) in
+          let x = ceil-is-enough {a = g * p} {b = c} {x = v} hc .1 (omega (arith, split v)) in
           omega arith
 
       go : Marks e p o j u → o + D ≤ u
       go (inl (b, at-d)) =
           let divides = bit-zero-divides e p j b in
-          let is = deadline-of-whole e p o he j divides in
-          let v-is : v ≡ j * p / e = omega arith in
+          let v-is : v ≡ j * p / e = omega (arith, deadline-of-whole e p o he j divides) in
           let even : v * e ≡ j * p = ap (λ x. x * e) v-is ∙ omega (arith, div-add-mod' (j * p) e, divides) in
-          let less : j < v = lt-of-mul-lt-mul-right e {m = j} {n = v} (omega (arith, split j, some j hj)) in
-          let sum : (v - j + j) * p ≡ v * p = ap (λ x. x * p) {x = v - j + j} {y = v} (omega arith) in
-          let later = mul-le-mul-right {m = d} {n = v} c (omega arith) in
-          by (v - j) (ceil-is-enough {a = d * c} {b = p} {x = v - j} (omega arith) .1 (omega (arith, split v))) (omega (arith, split v))
+          by (omega arith) (omega arith)
       go (inr (w, at-d)) =
           let begins = start-parts e p o j in
           let ends = deadline-parts e p o j in
@@ -142,13 +144,7 @@ module _ (e p c o i d : ℕ) (he : 0 < e) (hc : 0 < c) (whole : p ≡ e + c) (ha
           let spans = window-spans e p o he (omega arith) hj in
           let v-is : v * e ≡ (s + 2) * e = ap (λ x. x * e) {x = v} {y = s + 2} (omega arith) in
           let end-is : ceilDiv (j * p) e * e ≡ (v + 1) * e = ap (λ x. x * e) {x = ceilDiv (j * p) e} {y = v + 1} (omega arith) in
-          let low : v * e < j * p = omega (arith, ceil-is-near (j * p) he) in
-          let high : j * p < v * e + c = omega (arith, floor-is-near ((j - 1) * p) he, step p j hj) in
-          let less : j < v = lt-of-mul-lt-mul-right e {m = j} {n = v} (omega (arith, split j, some j hj)) in
-          let sum : (v - j + j) * p ≡ v * p = ap (λ x. x * p) {x = v - j + j} {y = v} (omega arith) in
-          let later = mul-le-mul-right {m = d} {n = v} c (omega arith) in
-          let more = lt-of-mul-lt-mul-right p {m = g} {n = v - j + 1} (omega (arith, split v, g-times-p)) in
-          by (v - j) (omega arith) (omega (arith, split v))
+          by (omega (arith, ceil-is-near (j * p) he)) (omega (arith, floor-is-near ((j - 1) * p) he, step p j hj))
 
   is-group-deadline : deadline e p o i ≡ o + d → IsGroupDeadline e p o i (o + D)
   is-group-deadline due =
@@ -182,21 +178,22 @@ whole-has-bit-0 : (e p i : ℕ) → p ≡ e → bit e p i ≡ 0
 whole-has-bit-0 e p i whole = bit-of-whole e p i (ap (λ x. i * x % e) whole ∙ mul-mod-left i e)
 
 module _ {e p o i : ℕ} (can : CanWalk e p o i) (half : p ≤ 2 * e) {d : ℕ} (due : d ≡ deadline e p o i - o) where
-  -- The products of the formula fit 64 bits: d·(p-e) is at most d·e, that is below (i+1)·p,
-  pub rest-product-fits : d * (p - e) < products
-  rest-product-fits =
+  -- p - e is at most e, so d·(p-e) is at most d·e, and that is below (i+1)·p.
+  rest-is-near : d * (p - e) < (i + 1) * p
+  rest-is-near =
       let few = mul-le-mul-left {m = p - e} {n = e} d (omega arith) in
-      let wide = product-fits {n = i + 1} {p = p} (omega (arith, can .near)) (can .fits .period) in
       omega (arith, due-between e p o i (can .fits .cost) d due, can .fits .weight)
 
-  -- and g·p is less than p above it.
+  -- The products of the formula fit 64 bits: this one,
+  pub rest-product-fits : d * (p - e) < products
+  rest-product-fits = omega (arith, rest-is-near, product-fits {n = i + 1} {p = p} (omega (arith, can .near)) (can .fits .period))
+
+  -- and g·p, which is less than p above it.
   pub gaps-product-fits : {g : ℕ} → g ≡ ceilDiv (d * (p - e)) p → g * p < products
   gaps-product-fits {g} is =
       let same : g * p ≡ ceilDiv (d * (p - e)) p * p = ap (λ x. x * p) is in
       let rounds = ceil-is-near (d * (p - e)) {b = p} (omega (arith, can .fits .cost, can .fits .weight)) in
-      let few = mul-le-mul-left {m = p - e} {n = e} d (omega arith) in
-      let wide = product-fits {n = i + 2} {p = p} (omega (arith, can .near)) (can .fits .period) in
-      omega (arith, due-between e p o i (can .fits .cost) d due, can .fits .weight)
+      omega (arith, rest-is-near, product-fits {n = i + 2} {p = p} (omega (arith, can .near)) (can .fits .period))
 
   -- Past the test of the bit the row is below weight one, and the formula gives its group deadline.
   module _ (one : bit e p i ≡ 0 → ⊥) where

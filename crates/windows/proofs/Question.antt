@@ -84,7 +84,6 @@ is-taken e p f i h same pr pd pb pD =
 
 -- One that gets a window is not refused,
 pub window-is-accepted : (e p f i : ℕ) {r d D : Slot} {b : ℕ} → replyOf (Window r d b D) ≡ windowReply e p f i → refused e p i ≡ false
-unfolding windowReply
 window-is-accepted e p f i q = go (refused e p i) refl
   where
     go : (x : Bool) → refused e p i ≡ x → refused e p i ≡ false

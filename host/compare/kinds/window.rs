@@ -1,5 +1,5 @@
 //! Windows asked for alone: with D by the formula, or by the walk. What ours finds by one of them, the second program is asked for by the
-//! other, so that formula and walk are held to each other as well.
+//! other, so that formula and walk are held to each other as well: a slip in its walk shows here in `W`, one in its formula in `G`.
 
 use crate::kind::*;
 use crate::make::weight::{self, phase, weight};

@@ -20,7 +20,8 @@
 //! * `checker`: the judge of traces from any origin.
 //! * `printer`: the slot printer's whole output.
 //! * `never_late`: full boxes by chance, run with all cores free.
-//! * `questions`: single rules of the above, asked of numbers that no table or state may have.
+//! * `questions`: single rules of the above, asked of numbers that no table or state may have; D of
+//!   a next window by the walk.
 //!
 //! # Planted slips
 //!
@@ -30,7 +31,9 @@
 //! that is off by one. The next show at the ends of what may be asked alone: a number cut to
 //! fewer bytes, a limit that lets one too many or too few pass, a kind or a place that is not
 //! looked at. The next four are of 02, One, the next three of 02, Two, and the last two of
-//! 02, Four.
+//! 02, Four: the first of these shows in `windows::window` and in the order, where D is found by
+//! the formula, the other in `windows::window_by_walk` and `questions::next_window`, where it is
+//! found by the walk.
 //!
 //! | name | place | the mistake |
 //! |---|---|---|

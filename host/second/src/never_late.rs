@@ -374,8 +374,9 @@ impl Filling {
     }
 }
 
-/// The heaviest row a filling counts on: 59/60 of a core, so that the way to a group deadline
-/// stays short in a long cycle.
+/// The heaviest row a filling counts on: by choice 59/60 of a core, rounded up to whole quanta, but
+/// always below the whole core, as "e not below p" is refused (18). Rows met by chance may be
+/// heavier.
 fn heaviest(cycle: u32) -> Fraction {
     Fraction {
         cost: (cycle - (cycle / 60).max(1)) as u16,

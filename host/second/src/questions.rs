@@ -3,6 +3,10 @@
 //! "Nothing is judged before: rows, quanta and numbers may be wild." The rules themselves stand in
 //! the other modules; what is here is which numbers they are asked with, and what is said of those
 //! that go without an answer. (The state that is fresh from a table value is `slot::fresh`.)
+//!
+//! D of a next window is found by 01's walk, not by the formula of 02, Four, so that a program that
+//! reckons it can be checked by one that walks. The picks have the order of a slot, and with it the
+//! formula.
 
 use crate::share;
 use crate::slot;
@@ -71,7 +75,7 @@ pub fn next_window(e: u16, p: u16, origin: u64, quanta: u64) -> Option<NextWindo
         deadline: windows::deadline(e, p, origin, i) as u64,
         bit: windows::bit(e, p, i),
         job_start: windows::job_start(e, p, origin, i) as u64,
-        group_deadline: windows::group_deadline(e, p, origin, i) as u64,
+        group_deadline: windows::walked_group_deadline(e, p, origin, i) as u64,
     })
 }
 
@@ -271,6 +275,73 @@ mod tests {
             asked(65534, 65535, 0, REACHED),
             (job + 2, job + 4, 1, job, job + 65_535)
         );
+        // with two quanta less the whole job is walked, here from the last origin
+        let job = REACHED + job;
+        assert_eq!(
+            asked(65534, 65535, REACHED, REACHED - 2),
+            (job, job + 2, 1, job, job + 65_535)
+        );
+        // 2^46 = 65,535·j + 16,384: with e = p so many quanta into the job
+        let far = 2 * REACHED;
+        assert_eq!(
+            asked(65535, 65535, REACHED, REACHED),
+            (far, far + 1, 0, far - 16_384, far + 1)
+        );
+    }
+
+    /// D of the next window, which is walked to, is what the formula of 02, Four gives.
+    fn walk_and_formula_agree(e: u16, p: u16, origin: u64, quanta: u64) {
+        let walked = next_window(e, p, origin, quanta).unwrap().group_deadline;
+        let reckoned = windows::group_deadline(e, p, origin, quanta + 1);
+        assert_eq!(
+            u128::from(walked),
+            reckoned,
+            "{}/{} from {}, {} quanta",
+            e,
+            p,
+            origin,
+            quanta
+        );
+    }
+
+    #[test]
+    fn walk_and_formula_agree_for_all_rows_of_short_periods() {
+        // light rows, heavy ones, and e = p
+        for p in 1..=40 {
+            for e in 1..=p {
+                for quanta in 0..=2 * u64::from(e) {
+                    for &origin in &[0, 1, 7, 65_536, 4_294_967_296, REACHED] {
+                        walk_and_formula_agree(e, p, origin, quanta);
+                    }
+                }
+            }
+        }
+    }
+
+    #[test]
+    fn walk_and_formula_agree_at_the_end_of_the_reach() {
+        for p in 1..=40 {
+            for e in 1..=p {
+                for back in 0..=u64::from(e) {
+                    walk_and_formula_agree(e, p, REACHED - 1, REACHED - back);
+                    walk_and_formula_agree(e, p, REACHED, REACHED - back);
+                }
+            }
+        }
+    }
+
+    #[test]
+    fn walk_and_formula_agree_for_long_rows() {
+        for &p in &[4_096, 65_519, 65_534, 65_535u16] {
+            for &rest in &[0, 1, 2, 3, 7, 100, p / 3, p / 2, p / 2 + 1, p - 1] {
+                let job = u64::from(p - rest);
+                for &quanta in &[0, 1, job / 2, job - 1, job, REACHED - 1, REACHED] {
+                    for &origin in &[0, 65_536, REACHED] {
+                        walk_and_formula_agree(p - rest, p, origin, quanta);
+                    }
+                }
+            }
+        }
     }
 
     #[test]

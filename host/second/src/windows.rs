@@ -5,9 +5,10 @@
 //! reduced."
 //!
 //! The functions with a phase of 64 bits serve every other part; `window` is the one "asked for
-//! alone". In all of these D is found by the formula of 02, Four. `window_by_walk` is `window` with
-//! D found by 01's walk over the windows, so that each can be checked by the other. All reckon in
-//! 128 bits, where nothing below can overflow.
+//! alone". D is found in two ways, so that each can be checked by the other. `group_deadline`
+//! reckons it by the formula of 02, Four, for `window` and for the order. `walked_group_deadline`
+//! walks over the windows as 01 has it, for `window_by_walk` and for `questions::next_window`.
+//! Times are reckoned in 128 bits, where nothing below can overflow.
 
 /// What comes back when a window is asked for alone. `number` is 0 or 50.
 #[derive(Clone, Copy, PartialEq, Eq, Debug)]
@@ -168,11 +169,15 @@ fn rounded_up(dividend: u128, divisor: u128) -> u128 {
 /// windows forward and stop at the first that fits."
 ///
 /// The walk begins with subtask i itself, since the windows before it end before d, and it ends
-/// with the job at the latest, whose last window has b = 0. The window of i is not refused: 0 < e,
-/// e < p, and i is not 0.
-fn walked_group_deadline(e: u16, p: u16, f: u64, i: u64) -> u128 {
-    // "0 for a light row"
-    if !heavy(e, p) {
+/// with the job at the latest, whose last window has b = 0; with e = p every window has b = 0, and
+/// it ends at once.
+///
+/// It may be asked for every e, p and f, and for i up to 2^46 + 1, the next subtask after the most
+/// quanta that a question is answered for; the last subtask it can meet is i + e - 1. Without a
+/// window (e = 0, e above p, i = 0) D is 0, whatever the other numbers.
+pub(crate) fn walked_group_deadline(e: u16, p: u16, f: u64, i: u64) -> u128 {
+    // "0 for a light row", and without a window
+    if e == 0 || e > p || i == 0 || !heavy(e, p) {
         return 0;
     }
     // "the smallest time at or after d that is"
@@ -382,7 +387,7 @@ mod tests {
     }
 
     #[test]
-    fn an_origin_moves_the_group_deadline_and_nothing_else() {
+    fn the_group_deadline_moves_by_the_origin() {
         for &origin in &[1, 65_536, 70_368_744_177_664, u64::MAX] {
             for &(e, p) in &[(1, 2), (2, 3), (8, 11), (65_534, 65_535), (9, 9)] {
                 for i in 1..=20 {
@@ -474,6 +479,7 @@ mod tests {
                 let group = group_deadline(e, p, u64::MAX, i);
                 if e == 0 || e > p || i == 0 {
                     assert_eq!(group, 0);
+                    assert_eq!(walked_group_deadline(e, p, u64::MAX, i), 0);
                 } else {
                     // e = p: subtask i ends i after the phase with b = 0
                     assert_eq!(group, u128::from(u64::MAX) + u128::from(i));
@@ -610,6 +616,7 @@ mod tests {
                 assert_eq!(deadline(e, e, 9, i), 9 + u128::from(i));
                 assert_eq!(bit(e, e, i), 0);
                 assert_eq!(group_deadline(e, e, 9, i), 9 + u128::from(i));
+                assert_eq!(walked_group_deadline(e, e, 9, i), 9 + u128::from(i));
                 assert_eq!(window(e, e, 9, i).number, 50);
             }
         }

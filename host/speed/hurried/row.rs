@@ -73,7 +73,7 @@ impl Row {
         self.forward();
     }
 
-    /// The group deadline, without a walk. A heavy row leaves period - cost slots of each period empty. The group ends where the first
+    /// The group deadline. A heavy row leaves period - cost slots of each period empty. The group ends where the first
     /// empty slot, evenly spread, that is due at or after the deadline is due.
     pub fn group_deadline(&self) -> u64 {
         if 2 * self.cost < self.period {
