@@ -14,7 +14,9 @@ OneAnswer =
     (e p f : ℕ) (i : Subtask) (found walked : Window) → windows·window e p f i found → windows·window-by-walk e p f i walked → found ≡ walked
 
 pub record LongWalk : Type 0 where
+  -- "D is f + ceil(g·p/(p-e)) where g = ceil(d·(p-e)/p)": of every heavy row below weight one that is what the walk gives,
   pub formula-gives-walk : FormulaGivesWalk
+  -- and so the D of every window that is answered.
   pub answers-by-formula : AnswersByFormula
   pub one-answer : OneAnswer
   -- "A row of 65,534 in 65,535 makes the group deadline walk a whole job": from its first subtask over 65,534 windows;

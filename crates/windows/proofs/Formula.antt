@@ -16,7 +16,7 @@ use Rattle.windows.specs.LeastTime.{Marks, IsGroupDeadline}
 use Rattle.windows.specs.Question.{Unfit}
 use Rattle.windows.specs.Formula.{gaps, formula, groupByFormula, FormulaGivesWalk, AnswersByFormula}
 use Rattle.windows.specs.Fits.{CanWalk, products}
-use Rattle.windows.proofs.Windows.{bit-of-whole, bit-zero-divides, step, deadline-of-whole, window-spans}
+use Rattle.windows.proofs.Windows.{bit-of-whole, bit-zero-divides, whole-has-bit-0, step, deadline-of-whole, window-spans}
 use Rattle.windows.proofs.LeastTime.{walk-gives-least-time}
 use Rattle.windows.proofs.Question.{windows-are-answered}
 use Rattle.windows.proofs.Fits.{product-fits}
@@ -172,10 +172,6 @@ answers-by-formula e p f i half fit = windows-are-answered e p f i .if-fit fit �
     by (yes a) (yes b) (no c) = absurd (fit (Unfit.before-first (omega arith)))
 
 -- for the function
-
--- The bits of a row of weight one are 0.
-whole-has-bit-0 : (e p i : ℕ) → p ≡ e → bit e p i ≡ 0
-whole-has-bit-0 e p i whole = bit-of-whole e p i (ap (λ x. i * x % e) whole ∙ mul-mod-left i e)
 
 module _ {e p o i : ℕ} (can : CanWalk e p o i) (half : p ≤ 2 * e) {d : ℕ} (due : d ≡ deadline e p o i - o) where
   -- p - e is at most e, so d·(p-e) is at most d·e, and that is below (i+1)·p.

@@ -49,6 +49,10 @@ bit-zero-divides e p i b = go (ℕ-discrete (i * p % e) 0)
     go (yes h) = h
     go (no h) = absurd (omega (arith, b, bit-of-part e p i h))
 
+-- A row of weight one has bit 0 throughout.
+pub whole-has-bit-0 : (e p i : ℕ) → p ≡ e → bit e p i ≡ 0
+whole-has-bit-0 e p i whole = bit-of-whole e p i (ap (λ x. i * x % e) whole ∙ mul-mod-left i e)
+
 -- The last subtask of a job has bit 0,
 pub bit-at-job-end : (e p i : ℕ) → bit e p (lastOfJob e i) ≡ 0
 unfolding lastOfJob
