@@ -1,23 +1,14 @@
 -- The formula gives what the long walk gives, and there is one answer. Assumes nothing.
 use mathlib.Core.Path.{refl, _∙_}
-use Prim.Native.Nat.{ℕ, _≤_}
 use native.Mathlib.Omega.{arith}
 use Rattle.facts.specs.Rounding.{ceilDiv}
 use Rattle.windows.specs.Windows.{start, deadline, bit}
-use Rattle.windows.specs.Question.{Unfit}
 use Rattle.windows.specs.Formula.{gaps, formula, groupByFormula}
-use Rattle.windows.proofs.Question.{window-is-determined}
+use Rattle.windows.proofs.Question.{window-is-determined, is-fit}
 use Rattle.windows.proofs.Formula.{formula-gives-walk, answers-by-formula}
 use Rattle.demands.specs.LongWalk.{LongWalk}
 
--- The row of 65,534 in 65,535 can be asked for,
-fit : (i : ℕ) → 1 ≤ i → i ≤ 1_000_000_001 → Unfit 65_534 65_535 i → ⊥
-fit i first last (Unfit.no-cost z) = omega arith
-fit i first last (Unfit.not-below l) = omega arith
-fit i first last (Unfit.before-first l) = omega arith
-fit i first last (Unfit.past-last l) = omega arith
-
--- and by the formula its windows are computed without a walk.
+-- By the formula the windows of the row of 65,534 in 65,535 are computed without a walk.
 pub long-walk : LongWalk
 unfolding ceilDiv start deadline bit gaps formula groupByFormula
 long-walk =
@@ -25,6 +16,6 @@ long-walk =
       formula-gives-walk = formula-gives-walk;
       answers-by-formula = answers-by-formula;
       one-answer = λ e p f i found walked. window-is-determined e p f (i .0) found walked;
-      whole-job = answers-by-formula 65_534 65_535 0 1 (omega arith) (fit 1 (omega arith) (omega arith)) ∙ refl;
-      last-subtask = answers-by-formula 65_534 65_535 65_535 1_000_000_001 (omega arith) (fit 1_000_000_001 (omega arith) (omega arith)) ∙ refl;
+      whole-job = answers-by-formula 65_534 65_535 0 1 (omega arith) (is-fit _ _ _ (omega arith) (omega arith) (omega arith) (omega arith)) ∙ refl;
+      last-subtask = answers-by-formula 65_534 65_535 65_535 1_000_000_001 (omega arith) (is-fit _ _ _ (omega arith) (omega arith) (omega arith) (omega arith)) ∙ refl;
     }

@@ -13,12 +13,11 @@ use Rattle.counts.specs.Limits.{kept}
 use Rattle.windows.specs.Windows.{start, deadline, bit, windowLength}
 use Rattle.windows.specs.Group.{groupDeadline}
 use Rattle.windows.specs.LeastTime.{Marks, IsGroupDeadline}
-use Rattle.windows.specs.Question.{Unfit}
 use Rattle.windows.specs.Formula.{gaps, formula, groupByFormula, FormulaGivesWalk, AnswersByFormula}
 use Rattle.windows.specs.Fits.{CanWalk, products}
 use Rattle.windows.proofs.Windows.{bit-of-whole, bit-zero-divides, whole-has-bit-0, step, deadline-of-whole, window-spans}
 use Rattle.windows.proofs.LeastTime.{walk-gives-least-time}
-use Rattle.windows.proofs.Question.{windows-are-answered}
+use Rattle.windows.proofs.Question.{fit-says, windows-are-answered}
 use Rattle.windows.proofs.Fits.{product-fits}
 
 -- A deadline, and a start, by the products around it.
@@ -163,13 +162,9 @@ formula-gives-walk e p o i he below half hi =
     (is-group-deadline e p (p - e) o i d he (omega arith) (omega arith) (omega arith) hi (around .0) (around .1) (omega (arith, deadline-parts e p o i)))
 
 pub answers-by-formula : AnswersByFormula
-answers-by-formula e p f i half fit = windows-are-answered e p f i .if-fit fit ∙ rw (by (decLt 0 e) (decLt e p) (decLt 0 i)) refl
-  where
-    by : Dec (0 < e) → Dec (e < p) → Dec (0 < i) → groupByFormula e p f i ≡ groupDeadline e p f i
-    by (yes cost) (yes below) (yes first) = formula-gives-walk e p f i cost below half first
-    by (no a) _ _ = absurd (fit (Unfit.no-cost (omega arith)))
-    by (yes a) (no b) _ = absurd (fit (Unfit.not-below (omega arith)))
-    by (yes a) (yes b) (no c) = absurd (fit (Unfit.before-first (omega arith)))
+answers-by-formula e p f i half fit =
+    let range = fit-says e p i fit in
+    windows-are-answered e p f i .if-fit fit ∙ rw (formula-gives-walk e p f i (range .0) (range .1) half (range .2)) refl
 
 -- for the function
 

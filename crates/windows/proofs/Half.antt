@@ -9,11 +9,11 @@ use Rattle.facts.specs.First.{atFirst}
 use Rattle.windows.specs.Windows.{start, deadline, bit}
 use Rattle.windows.specs.Group.{stops, stopTime, groupDeadline}
 use Rattle.windows.specs.Former.{formerHeavy, formerGroupDeadline}
-use Rattle.windows.specs.Question.{lastSubtask, Unfit, windowReply}
+use Rattle.windows.specs.Question.{lastSubtask, windowReply}
 use Rattle.windows.specs.Half.{IsOneHalf, MovedAtHalf}
 use Rattle.windows.proofs.Windows.{bit-of-whole, deadline-of-whole}
 use Rattle.windows.proofs.Group.{light-has-none, heavy-walks, walk-begins, ends-by-bit}
-use Rattle.windows.proofs.Question.{windows-are-answered}
+use Rattle.windows.proofs.Question.{is-fit, windows-are-answered}
 
 -- e divides i·p at weight one half,
 half-divides : (e p i : ℕ) → p ≡ 2 * e → i * p % e ≡ 0
@@ -61,14 +61,8 @@ deadline-at-half e o i cost =
 half-is-answered : (e f i : ℕ) → 0 < e → 0 < i → i ≤ lastSubtask →
     windowReply e (2 * e) f i ≡ record { number = 0; r = f + 2 * (i - 1); d = f + 2 * i; b = 0; D = f + 2 * i }
 half-is-answered e f i cost first last =
-    windows-are-answered e (2 * e) f i .if-fit fit
+    windows-are-answered e (2 * e) f i .if-fit (is-fit e (2 * e) i cost (omega arith) first last)
     ∙ rw (start-at-half e f i cost, half-has-bit-0 e (2 * e) i refl, bit-0-ends-at-once e (2 * e) f i cost (omega arith) (half-has-bit-0 e (2 * e) i refl), deadline-at-half e f i cost)
-  where
-    fit : Unfit e (2 * e) i → ⊥
-    fit (Unfit.no-cost z) = omega arith
-    fit (Unfit.not-below l) = omega arith
-    fit (Unfit.before-first l) = omega arith
-    fit (Unfit.past-last l) = omega arith
 
 pub moved-at-half : MovedAtHalf
 unfolding formerGroupDeadline formerHeavy

@@ -115,11 +115,20 @@ unfit-if-refused e p i h = go (decLe 1 e) (decLe (e + 1) p) (decLe 1 i) (decLe i
         let fit : refused e p i ≡ false = simp (ne-eqb e 0 (λ z. omega arith), lt-ltb e p (omega arith), le-leb 1 i a, le-leb i lastSubtask b) in
         absurd (true≢false (sym h ∙ fit))
 
-fit-if-not-refused : (e p i : ℕ) → refused e p i ≡ false → Unfit e p i → ⊥
-fit-if-not-refused e p i h (Unfit.no-cost z) = omega (arith, not-refused e p i h .0)
-fit-if-not-refused e p i h (Unfit.not-below z) = omega (arith, not-refused e p i h .1)
-fit-if-not-refused e p i h (Unfit.before-first z) = omega (arith, not-refused e p i h .2)
-fit-if-not-refused e p i h (Unfit.past-last z) = omega (arith, not-refused e p i h .3)
+-- A question within the limits is fit,
+pub is-fit : (e p i : ℕ) → 0 < e → e < p → 1 ≤ i → i ≤ lastSubtask → Unfit e p i → ⊥
+is-fit e p i cost weight first last (Unfit.no-cost z) = omega arith
+is-fit e p i cost weight first last (Unfit.not-below z) = omega arith
+is-fit e p i cost weight first last (Unfit.before-first z) = omega arith
+is-fit e p i cost weight first last (Unfit.past-last z) = omega arith
+
+-- and a fit one is within the limits.
+pub fit-says : (e p i : ℕ) → (Unfit e p i → ⊥) → (0 < e) × (e < p) × (1 ≤ i) × (i ≤ lastSubtask)
+fit-says e p i fit = go (refused e p i) refl
+  where
+    go : (x : Bool) → refused e p i ≡ x → (0 < e) × (e < p) × (1 ≤ i) × (i ≤ lastSubtask)
+    go true h = absurd (fit (unfit-if-refused e p i h))
+    go false h = not-refused e p i h
 
 -- A question is refused exactly if it is unfit.
 pub windows-are-answered : WindowsAreAnswered
@@ -128,4 +137,6 @@ windows-are-answered e p f i = go (refused e p i) refl
   where
     go : (x : Bool) → refused e p i ≡ x → IsAnswered e p f i
     go true h = record { if-unfit = λ u. rw h; if-fit = λ n. absurd (n (unfit-if-refused e p i h)) }
-    go false h = record { if-unfit = λ u. absurd (fit-if-not-refused e p i h u); if-fit = λ n. accepted-is-answered e p f i h }
+    go false h =
+        let range = not-refused e p i h in
+        record { if-unfit = λ u. absurd (is-fit e p i (range .0) (range .1) (range .2) (range .3) u); if-fit = λ n. accepted-is-answered e p f i h }
