@@ -9,7 +9,7 @@ use Rattle.facts.specs.Counting.{some}
 use Rattle.counts.specs.declared.Slot.{Slot}
 use Rattle.counts.specs.declared.Subtask.{Subtask}
 use Rattle.windows.specs.declared.Answer.{Answer as Window}
-use Rattle.windows.specs.Question.{replyOf}
+use Rattle.windows.specs.Question.{Reply, replyOf}
 use Rattle.windows.specs.Formula.{formula}
 use Rattle.table.specs.declared.Reading.{Reading}
 use Rattle.table.specs.Bytes.{tableNumber}
@@ -172,20 +172,19 @@ IsAnswerer window = (e p f : ℕ) (i : Subtask) → CanAskWindow e p f i → win
 abbrev pub HalfIsLight : Answerer → Type 0
 HalfIsLight window = (e f : ℕ) (i : Subtask) → CanAskWindow e (2 * e) f i → replyOf (window e (2 * e) f i) .D ≡ 0
 
+-- so of every window of a heavy row that is answered
+abbrev pub OfHeavyRows : Answerer → (ℕ → ℕ → ℕ → Reply → Type 0) → Type 0
+OfHeavyRows window wrong =
+    (e p f : ℕ) (i : Subtask) → CanAskWindow e p f i → p ≤ 2 * e → replyOf (window e p f i) .number ≡ 0 → wrong e p f (replyOf (window e p f i))
+
 abbrev pub PhaseLeftIn : Answerer → Type 0
-PhaseLeftIn window =
-    (e p f : ℕ) (i : Subtask) → CanAskWindow e p f i → p ≤ 2 * e → let reply = replyOf (window e p f i) in reply .number ≡ 0 →
-    reply .D ≡ formula e p f (reply .d)
+PhaseLeftIn window = OfHeavyRows window (λ e p f reply. reply .D ≡ formula e p f (reply .d))
 
 abbrev pub RoundsDown : Answerer → Type 0
-RoundsDown window =
-    (e p f : ℕ) (i : Subtask) → CanAskWindow e p f i → p ≤ 2 * e → let reply = replyOf (window e p f i) in reply .number ≡ 0 →
-    reply .D ≡ f + (reply .d - f) * (p - e) / p * p / (p - e)
+RoundsDown window = OfHeavyRows window (λ e p f reply. reply .D ≡ f + (reply .d - f) * (p - e) / p * p / (p - e))
 
 abbrev pub OwnWindowCounts : Answerer → Type 0
-OwnWindowCounts window =
-    (e p f : ℕ) (i : Subtask) → CanAskWindow e p f i → p ≤ 2 * e → let reply = replyOf (window e p f i) in reply .number ≡ 0 →
-    reply .d ≡ reply .r + 3 → reply .D + 1 ≡ reply .d
+OwnWindowCounts window = OfHeavyRows window (λ e p f reply. reply .d ≡ reply .r + 3 → reply .D + 1 ≡ reply .d)
 
 pub record ShutOutOfWindow (window : Answerer) : Type 0 where
   pub half-is-light : HalfIsLight window → ⊥

@@ -4,7 +4,7 @@
 use mathlib.Core.Path.{_≡_, refl, sym, ap, _∙_}
 use mathlib.Core.Logic.{inl, inr}
 use Prim.Native.Nat.{ℕ, _+_, _-_, _*_, _/_, _%_, _≤_, _<_}
-use native.Mathlib.Nat.{div-eq-of-lt-le, div-add-mod', mul-mod-left, mul-le-mul-left, mul-le-mul-right, le-of-mul-le-mul-right, lt-of-mul-lt-mul-right}
+use native.Mathlib.Nat.{div-add-mod', mul-mod-left, mul-le-mul-left, mul-le-mul-right, le-of-mul-le-mul-right, lt-of-mul-lt-mul-right}
 use native.Mathlib.Decide.{ℕ-discrete, decLt}
 use native.Mathlib.Omega.{arith}
 use Rattle.facts.specs.Rounding.{ceilDiv}
@@ -15,34 +15,10 @@ use Rattle.windows.specs.Group.{groupDeadline}
 use Rattle.windows.specs.LeastTime.{Marks, IsGroupDeadline}
 use Rattle.windows.specs.Formula.{gaps, formula, groupByFormula, FormulaGivesWalk, AnswersByFormula}
 use Rattle.windows.specs.Fits.{CanWalk, products}
-use Rattle.windows.proofs.Windows.{bit-of-whole, bit-zero-divides, whole-has-bit-0, step, deadline-of-whole, window-spans}
+use Rattle.windows.proofs.Windows.{bit-of-whole, bit-zero-divides, whole-has-bit-0, step, deadline-of-whole, window-spans, deadline-between, start-between, deadline-parts, start-parts, due-between}
 use Rattle.windows.proofs.LeastTime.{walk-gives-least-time}
 use Rattle.windows.proofs.Question.{fit-says, windows-are-answered}
 use Rattle.windows.proofs.Fits.{product-fits}
-
--- A deadline, and a start, by the products around it.
-module _ (e p o j : ℕ) where
-  deadline-between : 0 < e → (x : ℕ) → j * p ≤ x * e → x * e < j * p + e → deadline e p o j ≡ o + x
-  unfolding deadline
-  deadline-between he x low high = ap (λ y. o + y) (ceil-between (j * p) e x he low high)
-
-  start-between : (x : ℕ) → x * e ≤ (j - 1) * p → (j - 1) * p < x * e + e → start e p o j ≡ o + x
-  unfolding start
-  start-between x low high = ap (λ y. o + y) (div-eq-of-lt-le e low (omega arith))
-
-  deadline-parts : deadline e p o j ≡ o + ceilDiv (j * p) e
-  unfolding deadline
-  deadline-parts = refl
-
-  start-parts : start e p o j ≡ o + (j - 1) * p / e
-  unfolding start
-  start-parts = refl
-
-  -- d counted from the origin is j·p/e, rounded up.
-  due-between : 0 < e → (d : ℕ) → d ≡ deadline e p o j - o → (j * p ≤ d * e) × (d * e < j * p + e)
-  due-between he d due =
-      let same : d * e ≡ ceilDiv (j * p) e * e = ap (λ x. x * e) {x = d} {y = ceilDiv (j * p) e} (omega (arith, deadline-parts)) in
-      omega (arith, ceil-is-near (j * p) he)
 
 -- A row of weight one half or more and below one, with p = e + c; its subtask i is due d slots after the origin o.
 module _ (e p c o i d : ℕ) (he : 0 < e) (hc : 0 < c) (whole : p ≡ e + c) (half : c ≤ e) (hi : 0 < i) (enough : i * p ≤ d * e) (near : d * e < i * p + e) where

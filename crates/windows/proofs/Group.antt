@@ -1,6 +1,6 @@
 -- The walk of the group deadline, a window at a time. Assumes nothing.
 use mathlib.Core.Path.{_≡_, sym, _∙_}
-use mathlib.Core.Bool.{true, false, not}
+use mathlib.Core.Bool.{Bool, true, false, not}
 use Prim.Native.Nat.{ℕ, _+_, _-_, _*_, _≤_, _<_}
 use native.Mathlib.Decide.{decLt}
 use native.Mathlib.Omega.{arith}
@@ -13,15 +13,6 @@ use Rattle.windows.specs.Group.{heavy, stops, stopTime, groupDeadline}
 use Rattle.windows.proofs.Windows.{lastOfJob, bit-at-job-end, job-end-is-near}
 
 -- for callers
-
--- A row is light below weight one half, and heavy from there on.
-pub light-is-below-half : (e p : ℕ) → not (heavy e p) ≡ true → 2 * e < p
-unfolding heavy
-light-is-below-half e p light = leb-false p (2 * e) (not-true _ light)
-
-pub heavy-is-half-or-more : (e p : ℕ) → not (heavy e p) ≡ false → p ≤ 2 * e
-unfolding heavy
-heavy-is-half-or-more e p heavy = leb-true p (2 * e) (not-false _ heavy)
 
 -- A light row's group deadline is 0,
 pub light-has-none : (e p o i : ℕ) → 2 * e < p → groupDeadline e p o i ≡ 0
@@ -70,6 +61,18 @@ walk-ends-within-job e p o i he =
     (job-end-is-near e i he .0)
     (job-end-is-near e i he .1)
     (bit-stops e p o i (lastOfJob e i) (bit-at-job-end e p i))
+
+-- for the functions
+
+-- A row that the test says to be light has no group deadline, and any other is of weight one half or more.
+module _ (e p : ℕ) {light : Bool} (said : light ≡ not (heavy e p)) where
+  pub said-light : light ≡ true → (o i : ℕ) → groupDeadline e p o i ≡ 0
+  unfolding heavy
+  said-light is o i = light-has-none e p o i (leb-false p (2 * e) (not-true _ (sym said ∙ is)))
+
+  pub said-heavy : light ≡ false → p ≤ 2 * e
+  unfolding heavy
+  said-heavy is = leb-true p (2 * e) (not-false _ (sym said ∙ is))
 
 -- for the loop that walks
 

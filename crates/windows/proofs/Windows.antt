@@ -1,13 +1,13 @@
 -- The laws of windows, for every origin and every time. Assumes nothing.
-use mathlib.Core.Path.{_≡_, ap, _∙_}
+use mathlib.Core.Path.{_≡_, refl, ap, _∙_}
 use mathlib.Core.Logic.{_⊎_, inl, inr}
 use Prim.Native.Nat.{ℕ, _+_, _-_, _*_, _/_, _%_, _≤_, _<_}
-use native.Mathlib.Nat.{div-lt-iff-lt-mul, le-div-iff-mul-le, div-mul-le-self, lt-div-mul-add, mul-le-mul-left, mul-le-mul-right, mul-mod-left}
+use native.Mathlib.Nat.{div-eq-of-lt-le, div-lt-iff-lt-mul, le-div-iff-mul-le, div-mul-le-self, lt-div-mul-add, mul-le-mul-left, mul-le-mul-right, mul-mod-left}
 use native.Mathlib.Decide.{ℕ-discrete, decLt}
 use native.Mathlib.Omega.{arith}
 use borrow.Author.Tests.{eq-eqb, ne-eqb}
 use Rattle.facts.specs.Rounding.{ceilDiv}
-use Rattle.facts.proofs.Rounding.{ceil-is-enough, below-ceil-falls-short, floor-is-near, ceil-is-near, ceil-of-whole, ceil-of-part}
+use Rattle.facts.proofs.Rounding.{ceil-is-enough, below-ceil-falls-short, floor-is-near, ceil-is-near, ceil-between, ceil-of-whole, ceil-of-part}
 use Rattle.windows.specs.Windows.{start, deadline, bit, NextStartIsDLessB, windowLength, jobStart}
 
 -- "A job is e quanta in a row": the last subtask of the job that holds subtask i
@@ -158,6 +158,30 @@ module _ (e p o : ℕ) (he : 0 < e) where
       let whole = ceil-of-whole (i * p) he (bit-zero-divides e p i b) in
       let short = div-lt-iff-lt-mul {x = i * p} {y = r + 3} he .1 (omega (arith, floor-is-near ((i - 1) * p) he, step p i hi)) in
       omega arith
+
+-- A deadline, and a start, by the products around it.
+module _ (e p o j : ℕ) where
+  pub deadline-between : 0 < e → (x : ℕ) → j * p ≤ x * e → x * e < j * p + e → deadline e p o j ≡ o + x
+  unfolding deadline
+  deadline-between he x low high = ap (λ y. o + y) (ceil-between (j * p) e x he low high)
+
+  pub start-between : (x : ℕ) → x * e ≤ (j - 1) * p → (j - 1) * p < x * e + e → start e p o j ≡ o + x
+  unfolding start
+  start-between x low high = ap (λ y. o + y) (div-eq-of-lt-le e low (omega arith))
+
+  pub deadline-parts : deadline e p o j ≡ o + ceilDiv (j * p) e
+  unfolding deadline
+  deadline-parts = refl
+
+  pub start-parts : start e p o j ≡ o + (j - 1) * p / e
+  unfolding start
+  start-parts = refl
+
+  -- d counted from the origin is j·p/e, rounded up.
+  pub due-between : 0 < e → (d : ℕ) → d ≡ deadline e p o j - o → (j * p ≤ d * e) × (d * e < j * p + e)
+  due-between he d due =
+      let same : d * e ≡ ceilDiv (j * p) e * e = ap (λ x. x * e) {x = d} {y = ceilDiv (j * p) e} (omega (arith, deadline-parts)) in
+      omega (arith, ceil-is-near (j * p) he)
 
 -- A subtask that is due earlier comes earlier.
 pub due-in-order : (e p o : ℕ) → 0 < e → e ≤ p → (i j : ℕ) → deadline e p o i < deadline e p o j → i < j

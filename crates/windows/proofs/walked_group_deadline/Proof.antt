@@ -6,7 +6,7 @@ use borrow.Author.Needs.{needs}
 use Rattle.windows.specs.Fits.{Fits}
 use Rattle.windows.specs.Windows.{start, bit, windowLength}
 use Rattle.windows.proofs.Windows.{bit-is-0-or-1, next-start-is-deadline-less-bit}
-use Rattle.windows.proofs.Group.{Walking, light-is-below-half, heavy-is-half-or-more, light-has-none, walk-begins, walk-is-near, ends-by-bit, ends-by-length, walks-on}
+use Rattle.windows.proofs.Group.{Walking, said-light, said-heavy, walk-begins, walk-is-near, ends-by-bit, ends-by-length, walks-on}
 use Rattle.windows.proofs.walked_group_deadline.Statement.{statement}
 use Rattle.windows.proofs.walked_group_deadline.Tie as tie
 
@@ -33,7 +33,7 @@ fits a =
 
 -- past the test the row is heavy
 is-heavy : (c : tie.Else1 Inv-loop μ-loop) → let x = c .before .before .args in x .p ≤ 2 * x .e
-is-heavy c = heavy-is-half-or-more _ _ (sym (c .before .is-light .ensures) ∙ c .if1 .left)
+is-heavy c = said-heavy _ _ (c .before .is-light .ensures) (c .if1 .left)
 
 -- past the test of the bit it is not 0
 no-bit : (x : tie.Else2 Inv-loop μ-loop) → let a = x .before .before .before .before in bit (a .before .before .before .before .args .e) (a .before .before .before .before .args .p) (a .loop .j .0) ≡ 0 → ⊥
@@ -46,9 +46,7 @@ at-requires : tie.Need-at-requires Inv-loop μ-loop
 at-requires c κs = search needs
 
 returns : tie.Need-returns Inv-loop μ-loop
-returns c =
-    let x = c .before .before .before .args in
-    c .at .ensures ∙ sym (light-has-none (x .e) (x .p) (x .o .0) (x .i .0) (light-is-below-half _ _ (sym (c .before .before .is-light .ensures) ∙ c .before .if1 .taken)))
+returns c = c .at .ensures ∙ sym (said-light _ _ (c .before .before .is-light .ensures) (c .before .if1 .taken) _ _)
 
 window-start-requires : tie.Need-window-start-requires Inv-loop μ-loop
 window-start-requires c κs = c .before .before .pre .fits
