@@ -10,7 +10,7 @@
 // value, the time (8), the stopped mark (1), 32 quanta and a placement: a count (1), 8 rows (1 each), 8 cores (1 each).
 //
 // Nothing is judged before: rows, quanta and numbers may be wild. Kind 1 is early release, and any other kind is plain. A question about
-// one row is answered if 0 < e, e is at or below p, and the numbers asked with it (quanta, and origin or time) are each at or below 2^46.
+// one row is answered if 0 < e, e is at or below p, and the numbers asked with it (quanta, and origin or time) are each at or below 2^40.
 //
 // | request                                       | answer                                                                       |
 // |-----------------------------------------------|------------------------------------------------------------------------------|

@@ -2,13 +2,13 @@
 -- Up to d, counted from the origin, the row has i quanta; the other slots, g = d - i of them, are as many quanta of a row of weight (p - e)/p, and the times
 -- that 01 marks are that row's deadlines. So its g-th deadline, D, is the least marked time at or after d, which is what the walk gives (W7).
 use mathlib.Core.Path.{_≡_, refl, sym, ap, _∙_}
-use mathlib.Core.Logic.{inl, inr}
+use mathlib.Core.Logic.{_⊎_, inl, inr}
 use Prim.Native.Nat.{ℕ, _+_, _-_, _*_, _/_, _%_, _≤_, _<_}
 use native.Mathlib.Nat.{div-add-mod', mul-mod-left, mul-le-mul-left, mul-le-mul-right, le-of-mul-le-mul-right, lt-of-mul-lt-mul-right}
 use native.Mathlib.Decide.{ℕ-discrete, decLt}
 use native.Mathlib.Omega.{arith}
 use Rattle.facts.specs.Rounding.{ceilDiv}
-use Rattle.facts.proofs.Rounding.{ceil-between, ceil-is-enough, ceil-is-near, floor-is-near}
+use Rattle.facts.proofs.Rounding.{ceil-between, ceil-is-enough, below-ceil-falls-short, ceil-is-near, floor-is-near}
 use Rattle.counts.specs.Limits.{kept}
 use Rattle.windows.specs.Windows.{start, deadline, bit, windowLength}
 use Rattle.windows.specs.Group.{groupDeadline}
@@ -16,6 +16,7 @@ use Rattle.windows.specs.LeastTime.{Marks, IsGroupDeadline}
 use Rattle.windows.specs.Formula.{gaps, formula, groupByFormula, FormulaGivesWalk, AnswersByFormula}
 use Rattle.windows.specs.Fits.{CanWalk, products}
 use Rattle.windows.proofs.Windows.{bit-of-whole, bit-zero-divides, whole-has-bit-0, step, deadline-of-whole, window-spans, deadline-between, start-between, deadline-parts, start-parts, due-between}
+use Rattle.windows.proofs.Group.{light-has-none}
 use Rattle.windows.proofs.LeastTime.{walk-gives-least-time}
 use Rattle.windows.proofs.Question.{fit-says, windows-are-answered}
 use Rattle.windows.proofs.Fits.{product-fits}
@@ -141,6 +142,48 @@ pub answers-by-formula : AnswersByFormula
 answers-by-formula e p f i half fit =
     let range = fit-says e p i fit in
     windows-are-answered e p f i .if-fit fit ∙ rw (formula-gives-walk e p f i (range .0) (range .1) half (range .2)) refl
+
+-- For callers: how far D lies behind d. Where d is o + x, and x·e is s above i·p, it takes one short division.
+pub group-deadline-behind : (e p o i x s : ℕ) → 0 < e → e < p → p ≤ 2 * e → 0 < i → i * p + s ≡ x * e → s < e →
+    groupDeadline e p o i ≡ o + x + ceilDiv s (p - e)
+unfolding groupByFormula formula gaps
+group-deadline-behind e p o i x s he below half hi sum few =
+    let d-is = deadline-between e p o i he x (omega arith) (omega arith) in
+    let due : deadline e p o i - o ≡ x = omega (arith, d-is) in
+    let product = g-times-p e p (p - e) o i x he (omega arith) (omega arith) (omega arith) hi (omega arith) (omega arith) in
+    let near = ceil-is-near s {b = p - e} (omega arith) in
+    let behind = ceil-between (ceilDiv (x * (p - e)) p * p) (p - e) (x + ceilDiv s (p - e)) (omega arith) (omega arith) (omega arith) in
+    sym (formula-gives-walk e p o i he below half hi)
+    ∙ (ap (λ y. o + ceilDiv (ceilDiv (y * (p - e)) p * p) (p - e)) due
+    ∙ omega (arith, behind))
+
+-- Where the bit is 1, D is 0, or past d and less than e slots behind it.
+pub group-deadline-is-near : (e p o i : ℕ) → 0 < e → e ≤ p → 0 < i → bit e p i ≡ 1 →
+    (groupDeadline e p o i ≡ 0) ⊎ ((deadline e p o i < groupDeadline e p o i) × (groupDeadline e p o i < deadline e p o i + e))
+group-deadline-is-near e p o i he weight hi one = go (decLt (2 * e) p)
+  where
+    go : Dec (2 * e < p) → (groupDeadline e p o i ≡ 0) ⊎ ((deadline e p o i < groupDeadline e p o i) × (groupDeadline e p o i < deadline e p o i + e))
+    go (yes light) = inl (light-has-none e p o i light)
+    go (no heavy) =
+        let x = deadline e p o i - o in
+        let around = due-between e p o i he x refl in
+        let s = x * e - i * p in
+        let part : 0 < s = more (ℕ-discrete (i * p) (x * e)) around in
+        let below : e < p = under (decLt e p) in
+        let behind = group-deadline-behind e p o i x s he below (omega arith) hi (omega arith) (omega arith) in
+        let few = ceil-is-enough {a = s} {b = p - e} {x = s} (omega arith) .1 (omega (arith, mul-le-mul-left {m = 1} {n = p - e} s (omega arith))) in
+        let some = below-ceil-falls-short {a = s} {b = p - e} {x = 0} (omega arith) .1 (omega arith) in
+        inr (omega (arith, behind, deadline-parts e p o i), omega (arith, behind, deadline-parts e p o i))
+      where
+        more : Dec (i * p ≡ (deadline e p o i - o) * e) → (i * p ≤ (deadline e p o i - o) * e) × ((deadline e p o i - o) * e < i * p + e) →
+            0 < (deadline e p o i - o) * e - i * p
+        more (yes same) a =
+            absurd (omega (arith, one, bit-of-whole e p i (ap (λ x. x % e) same ∙ mul-mod-left (deadline e p o i - o) e)))
+        more (no other) a = omega arith
+
+        under : Dec (e < p) → e < p
+        under (yes l) = l
+        under (no l) = absurd (omega (arith, one, whole-has-bit-0 e p i (omega arith)))
 
 -- for the function
 

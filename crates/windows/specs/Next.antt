@@ -8,9 +8,9 @@ use Rattle.windows.specs.declared.Moment.{Moment}
 use Rattle.windows.specs.declared.Moment.the-variants as moment
 use Rattle.windows.specs.Windows.{deadline, bit}
 
--- How far a question may reach, 2 to the 46: origins, quanta and times up to here are answered (docs/DECISIONS.md, 11 and 32).
+-- How far a question may reach, 2 to the 40: origins, quanta and times up to here are answered (docs/DECISIONS.md, 11 and 32).
 abbrev pub reach : ℕ
-reach = 70_368_744_177_664
+reach = 1_099_511_627_776
 
 -- A question about the next window is answered for each row that can be, with an origin and quanta within reach.
 abbrev pub nextAnswered : ℕ → ℕ → ℕ → ℕ → Bool
