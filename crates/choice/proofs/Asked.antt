@@ -1,23 +1,22 @@
 -- What the lower crates answer about a row, and what the functions here make of it. Assumes nothing.
-use Prim.Native.Nat.{ℕ, _+_, _-_, _*_, _%_, _<_}
-use mathlib.Core.Path.{_≡_, refl, _∙_}
-use mathlib.Core.List.{List}
-use mathlib.Core.Bool.{Bool, true, false, false≢true}
+use Prim.Native.Nat.{ℕ, _+_, _-_, _*_, _<_}
+use mathlib.Core.Path.{_≡_, refl, sym, ap, _∙_}
+use mathlib.Core.Bool.{true, false, cond, false≢true}
+use mathlib.Core.Logic.{_⊎_, inl, inr}
+use lib.Dec.{eqb}
 use native.Mathlib.Omega.{arith}
-use borrow.Author.Tests.{eq-eqb, ne-eqb}
 use Rattle.counts.specs.Limits.{most}
-use Rattle.windows.specs.Group.{groupDeadline}
-use Rattle.windows.specs.Windows.{deadline, bit}
-use Rattle.windows.proofs.Windows.{deadline-is-near}
-use Rattle.windows.proofs.Fits.{product-fits}
+use Rattle.windows.proofs.Windows.{bit-is-0-or-1}
 use Rattle.table.specs.declared.Row.{Row}
-use Rattle.pd2.specs.Ready.{originOf, ready}
+use Rattle.pd2.specs.Ready.{ready}
+use Rattle.pd2.specs.Order.{rankOf}
 use Rattle.pd2.specs.Verdict.{answered}
-use Rattle.pd2.specs.Choice.{rowAt, quantaAt}
 use Rattle.pd2.specs.Near.{HasWindow}
-use Rattle.pd2.proofs.Verdicts.{in-reach, yes-is-answered}
+use Rattle.pd2.proofs.Verdicts.{in-reach, yes-when-answered, yes-is-answered}
+use Rattle.pd2.proofs.Readiness.{ready-is-due-within-period}
 use Rattle.choice.specs.Choice.{saysReady}
-use Rattle.choice.specs.Classes.{keyOf, keyIn, KeysAre, groupOf, ClassHasWindows}
+use Rattle.choice.specs.Keys.{behind, keyFor, HasKey, keyOf}
+use Rattle.choice.proofs.KeyOrder.{rank-has-key, behind-fits}
 
 -- A row that is answered to be ready has a window,
 pub window-if-ready : (row : Row) (q t : ℕ) → saysReady row q t ≡ true → HasWindow row q
@@ -25,52 +24,38 @@ window-if-ready row q t h =
     let numbers = in-reach row q t (yes-is-answered (answered row q t) (ready row q t) h) in
     record { cost = numbers .0; weight = numbers .1; quanta = numbers .2 }
 
--- and so has one with a key below the largest number.
-pub class-has-windows : {rows : List Row} {quanta : List ℕ} {t : ℕ} {keys : List ℕ} → KeysAre rows quanta t keys → {class : ℕ} → class < most →
-    ClassHasWindows rows quanta keys class
+-- which ends soon after the latest slot that may be asked for.
+pub ready-is-due-soon : (row : Row) (q t : ℕ) → row .period < 65_536 → saysReady row q t ≡ true → rankOf row 0 q .d < 2_000_000_000_000
+ready-is-due-soon row q t period h =
+    let asked = yes-is-answered (answered row q t) (ready row q t) h in
+    let numbers = in-reach row q t asked in
+    let is : ready row q t ≡ true = sym (yes-when-answered (ready row q t) asked) ∙ h in
+    omega (arith, numbers .3, ready-is-due-within-period row q t (numbers .0) is)
+
+-- The key of a row that is not ready,
+pub unready-key : (row : Row) (i q t : ℕ) → saysReady row q t ≡ false → (most ≡ keyOf row i q t) × (saysReady row q t ≡ true → (most < most) × HasKey (rankOf row i q))
 unfolding keyOf
-class-has-windows {rows} {quanta} {t} {keys} keyed {class} low i l same = go (saysReady (rowAt rows i) (quantaAt quanta i) t) refl
-  where
-    go : (b : Bool) → saysReady (rowAt rows i) (quantaAt quanta i) t ≡ b → HasWindow (rowAt rows i) (quantaAt quanta i)
-    go true e = window-if-ready (rowAt rows i) (quantaAt quanta i) t e
-    go false e =
-        let largest : keyIn keys i ≡ most = keyed .each i l ∙ rw e refl in
-        absurd (omega arith)
+unready-key row i q t h = rw h (refl, λ e. absurd (false≢true e))
 
--- The key of a row that is not ready.
-pub unready-key : (row : Row) (q t : ℕ) → saysReady row q t ≡ false → (most ≡ keyOf row q t) × (saysReady row q t ≡ true → most < most)
-unfolding keyOf
-unready-key row q t h = rw h (refl, λ e. absurd (false≢true e))
+-- and of one that is.
+pub ready-key : (row : Row) (i q t : ℕ) → saysReady row q t ≡ true → {d b far key : ℕ} → d ≡ rankOf row 0 q .d → b ≡ rankOf row 0 q .b → far ≡ behind (rankOf row 0 q) →
+    key ≡ ((2 * d + (1 - b)) * 65_536 + (65_535 - far)) * 64 + i → key ≡ keyOf row i q t
+unfolding keyOf keyFor
+ready-key row i q t h pd pb pf is = is ∙ rw (h, pd, pb, pf) refl
 
-module _ (row : Row) (q : ℕ) (u : HasWindow row q) where
-  -- Its deadline is far from the largest number.
-  pub deadline-is-small : row .phase < 65_536 → row .period < 65_536 → deadline (row .cost) (row .period) (originOf row) (q + 1) < 5_000_000_000_000_000_000
-  deadline-is-small phase period =
-      let near = deadline-is-near (row .cost) (row .period) (originOf row) (q + 1) (u .cost) in
-      let product = product-fits {n = q + 1} (omega (arith, u .quanta)) period in
-      omega arith
+-- How far D lies behind d,
+module _ (row : Row) (q : ℕ) (has : HasWindow row q) (cost : row .cost < 65_536) where
+  pub bit-0-has-none : {b : ℕ} → b ≡ rankOf row 0 q .b → b ≡ 0 → (0 ≡ behind (rankOf row 0 q)) × (0 < 65_536)
+  bit-0-has-none is z = (rw (sym is ∙ z) refl, omega arith)
 
-  -- The key of a row that is ready.
-  pub ready-key : row .phase < 65_536 → row .period < 65_536 → (t : ℕ) → saysReady row q t ≡ true → {d b : ℕ} →
-      d ≡ deadline (row .cost) (row .period) (originOf row) (q + 1) → b ≡ bit (row .cost) (row .period) (q + 1) →
-      (2 * d + (1 - b) ≡ keyOf row q t) × (saysReady row q t ≡ true → 2 * d + (1 - b) < most)
-  unfolding keyOf
-  ready-key phase period t h pd pb =
-      let small = deadline-is-small phase period in
-      rw (h, pd, pb) (refl, λ e. omega arith)
+  -- where the bit is not 0.
+  pub asked-behind : {d b D far : ℕ} → d ≡ rankOf row 0 q .d → b ≡ rankOf row 0 q .b → (b ≡ 0 → ⊥) → D ≡ rankOf row 0 q .D → far ≡ D - d →
+      (far ≡ behind (rankOf row 0 q)) × (far < 65_536)
+  asked-behind {d} {b} {D} {far} pd pb one pD is = (same, omega (arith, same, behind-fits (rankOf row 0 q) (rank-has-key row 0 q has cost (omega arith))))
+    where
+      go : (rankOf row 0 q .b ≡ 0) ⊎ (rankOf row 0 q .b ≡ 1) → far ≡ behind (rankOf row 0 q)
+      go (inl z) = absurd (one (pb ∙ z))
+      go (inr z) = is ∙ rw (pD, pd, z) refl
 
-  -- The group deadline that is asked for,
-  pub group-asked : (key class : ℕ) → key ≡ class → (class % 2 ≡ 1 → ⊥) → {D : ℕ} → D ≡ groupDeadline (row .cost) (row .period) (originOf row) (q + 1) →
-      D ≡ groupOf row q key class
-  unfolding groupOf
-  group-asked key class same even e = rw (eq-eqb key class same, ne-eqb (class % 2) 1 even) e
-
--- and none where the row is not in the class,
-pub no-group-outside : (row : Row) (q key class : ℕ) → (key ≡ class → ⊥) → 0 ≡ groupOf row q key class
-unfolding groupOf
-no-group-outside row q key class other = rw (ne-eqb key class other) refl
-
--- or the class has b = 0.
-pub no-group-at-bit-0 : (row : Row) (q key class : ℕ) → key ≡ class → class % 2 ≡ 1 → 0 ≡ groupOf row q key class
-unfolding groupOf
-no-group-at-bit-0 row q key class same odd = rw (eq-eqb key class same, eq-eqb (class % 2) 1 odd) refl
+      same : far ≡ behind (rankOf row 0 q)
+      same = go (bit-is-0-or-1 (row .cost) (row .period) (q + 1))

@@ -1,62 +1,155 @@
--- The key of a rank orders as PD2 does, up to ties. Assumes nothing.
-use Prim.Native.Nat.{ℕ, _-_, _≤_, _<_}
-use mathlib.Core.Path.{_≡_, _∙_}
-use mathlib.Core.Bool.{Bool, cond, _&&_, _||_}
+-- The order of the keys is PD2's order. Assumes nothing.
+use Prim.Native.Nat.{ℕ, _+_, _-_, _*_, _≤_, _<_}
+use mathlib.Core.Path.{_≡_, refl, sym, ap, _∙_}
+use mathlib.Core.Bool.{Bool, true, false, _&&_, _||_}
 use mathlib.Core.Logic.{_⊎_, inl, inr}
 use native.Mathlib.Decide.{decLt}
 use native.Mathlib.Omega.{arith}
 use borrow.Author.Tests.{lt-ltb, le-ltb, eq-eqb, ne-eqb}
 use lib.Dec.{ltb, eqb}
-use Rattle.pd2.specs.Order.{Rank, before, bitDecides, groupDecides, rowDecides}
+use Rattle.facts.proofs.Tests.{same-test}
+use Rattle.windows.proofs.Windows.{bit-is-0-or-1}
+use Rattle.windows.proofs.Formula.{group-deadline-is-near}
+use Rattle.table.specs.declared.Row.{Row}
+use Rattle.pd2.specs.Order.{Rank, rankOf, before, bitDecides, groupDecides, rowDecides}
+use Rattle.pd2.specs.Ready.{originOf}
+use Rattle.pd2.specs.Near.{HasWindow}
 use Rattle.pd2.proofs.Order.{sooner-goes-first, later-does-not, other-rules-decide}
-use Rattle.choice.specs.Classes.{keyFor, larger}
+use Rattle.choice.specs.Keys.{behind, keyFor, HasKey, KeysOrderAsPd2}
 
--- Which of two ranks of one key goes first: "if both have b = 1, larger D; then the lower row number".
-abbrev pub tie : Rank → Rank → Bool
-tie x y = cond (eqb (x .b) 1) (larger (x .D) (x .row) (y .D) (y .row)) (ltb (x .row) (y .row))
-
-abbrev byKey : Rank → Rank → Bool
-byKey x y = ltb (keyFor x) (keyFor y) || (eqb (keyFor x) (keyFor y) && tie x y)
-
--- among equal deadlines and bits of 1
-group-is-larger : (D D′ row row′ : ℕ) → ltb D′ D || (eqb D D′ && ltb row row′) ≡ larger D row D′ row′
-group-is-larger D D′ row row′ = go (decLt D D′) (decLt D′ D)
+-- For callers: D lies no further behind d than 16 bits can say,
+pub behind-fits : (x : Rank) → HasKey x → behind x < 65_536
+behind-fits x has = go (has .bit)
   where
-    go : Dec (D < D′) → Dec (D′ < D) → ltb D′ D || (eqb D D′ && ltb row row′) ≡ larger D row D′ row′
-    go (yes l) m = let h : D ≤ D′ = omega arith in simp (lt-ltb _ _ l, le-ltb _ _ h, ne-eqb D D′ (λ e. omega arith))
-    go (no l) (yes m) = simp (lt-ltb _ _ m)
-    go (no l) (no m) =
-        let h : D ≤ D′ = omega arith in
-        let k : D′ ≤ D = omega arith in
-        simp (le-ltb _ _ h, le-ltb _ _ k, eq-eqb D D′ (omega arith))
+    near : (x .D ≡ 0) ⊎ ((x .d < x .D) × (x .D < x .d + 65_536)) → x .D - x .d < 65_536
+    near (inl none) = omega arith
+    near (inr some) = omega arith
 
--- PD2's order is the order of the keys and, among equal keys, the tie.
-pub before-is-by-key : (x y : Rank) → (x .b ≡ 0) ⊎ (x .b ≡ 1) → (y .b ≡ 0) ⊎ (y .b ≡ 1) →
-    before x y ≡ ltb (keyFor x) (keyFor y) || (eqb (keyFor x) (keyFor y) && tie x y)
-before-is-by-key x y bx by = go (decLt (x .d) (y .d)) (decLt (y .d) (x .d)) bx by
+    go : (x .b ≡ 0) ⊎ (x .b ≡ 1) → behind x < 65_536
+    go (inl b) = rw b (omega arith)
+    go (inr b) = rw b (near (has .group b))
+
+-- and where it is larger, it lies further behind.
+further : (d D D′ : ℕ) → (D ≡ 0) ⊎ ((d < D) × (D < d + 65_536)) → D′ < D → D′ - d < D - d
+further d D D′ (inl none) l = absurd (omega arith)
+further d D D′ (inr some) l = omega arith
+
+-- A key by its parts,
+abbrev key : ℕ → ℕ → ℕ → ℕ → ℕ
+key d b far row = ((2 * d + (1 - b)) * 65_536 + (65_535 - far)) * 64 + row
+
+-- of which the front ones count first: where they differ, the others do not matter.
+module _ (d b far row d′ b′ far′ row′ : ℕ) (hb : b ≤ 1) (hb′ : b′ ≤ 1) (hr : row < 64) (hr′ : row′ < 64) where
+  by-deadline : d < d′ → key d b far row < key d′ b′ far′ row′
+  by-deadline l = omega arith
+
+  by-bit : d ≡ d′ → b′ < b → key d b far row < key d′ b′ far′ row′
+  by-bit same l = omega arith
+
+  by-group : d ≡ d′ → b ≡ b′ → far < 65_536 → far′ < far → key d b far row < key d′ b′ far′ row′
+  by-group same equal fits l = omega arith
+
+  by-row : d ≡ d′ → b ≡ b′ → far ≡ far′ → ltb row row′ ≡ ltb (key d b far row) (key d′ b′ far′ row′)
+  by-row same equal alike = same-test {b = row′} {d = key d′ b′ far′ row′} (λ l. omega arith, λ l. omega arith)
+
+at-most-1 : {b : ℕ} → (b ≡ 0) ⊎ (b ≡ 1) → b ≤ 1
+at-most-1 (inl z) = omega arith
+at-most-1 (inr z) = omega arith
+
+-- The three rules of one deadline, by the bits.
+module _ (x y : Rank) where
+  abbrev rules : Bool
+  rules = bitDecides x y || groupDecides x y || rowDecides x y
+
+  at-00 : x .b ≡ 0 → y .b ≡ 0 → rules ≡ ltb (x .row) (y .row)
+  at-00 p q = rw (p, q) refl
+
+  at-01 : x .b ≡ 0 → y .b ≡ 1 → rules ≡ false
+  at-01 p q = rw (p, q) refl
+
+  at-10 : x .b ≡ 1 → y .b ≡ 0 → rules ≡ true
+  at-10 p q = rw (p, q) refl
+
+  at-11 : x .b ≡ 1 → y .b ≡ 1 → rules ≡ ltb (y .D) (x .D) || (eqb (x .D) (y .D) && ltb (x .row) (y .row))
+  at-11 p q = rw (p, q) refl
+
+module _ (x y : Rank) (hx : HasKey x) (hy : HasKey y) where
+  abbrev key-x : ℕ
+  key-x = key (x .d) (x .b) (behind x) (x .row)
+
+  abbrev key-y : ℕ
+  key-y = key (y .d) (y .b) (behind y) (y .row)
+
+  bx : x .b ≤ 1
+  bx = at-most-1 (hx .bit)
+
+  by : y .b ≤ 1
+  by = at-most-1 (hy .bit)
+
+  -- where both bits are 1, the further D goes first
+  by-groups : x .d ≡ y .d → x .b ≡ 1 → y .b ≡ 1 → ltb (y .D) (x .D) || (eqb (x .D) (y .D) && ltb (x .row) (y .row)) ≡ ltb key-x key-y
+  by-groups same p q = go (decLt (y .D) (x .D)) (decLt (x .D) (y .D))
+    where
+      far-x : behind x ≡ x .D - x .d
+      far-x = rw p refl
+
+      far-y : behind y ≡ y .D - y .d
+      far-y = rw q refl
+
+      go : Dec (y .D < x .D) → Dec (x .D < y .D) → ltb (y .D) (x .D) || (eqb (x .D) (y .D) && ltb (x .row) (y .row)) ≡ ltb key-x key-y
+      go (yes l) m =
+          let more = further (x .d) (x .D) (y .D) (hx .group p) l in
+          let less : key-x < key-y = by-group (x .d) (x .b) (behind x) (x .row) (y .d) (y .b) (behind y) (y .row) bx by (hx .row) (hy .row) same (p ∙ sym q) (behind-fits x hx) (omega (arith, far-x, far-y, more)) in
+          rw (lt-ltb (y .D) (x .D) l) (sym (lt-ltb key-x key-y less))
+      go (no l) (yes m) =
+          let more = further (y .d) (y .D) (x .D) (hy .group q) m in
+          let less : key-y < key-x = by-group (y .d) (y .b) (behind y) (y .row) (x .d) (x .b) (behind x) (x .row) by bx (hy .row) (hx .row) (sym same) (q ∙ sym p) (behind-fits y hy) (omega (arith, far-x, far-y, more)) in
+          rw (le-ltb (y .D) (x .D) (omega arith), ne-eqb (x .D) (y .D) (λ e. omega arith)) (sym (le-ltb key-x key-y (omega arith)))
+      go (no l) (no m) =
+          let even : x .D ≡ y .D = omega arith in
+          let last = by-row (x .d) (x .b) (behind x) (x .row) (y .d) (y .b) (behind y) (y .row) bx by (hx .row) (hy .row) same (p ∙ sym q) (omega (arith, far-x, far-y)) in
+          rw (le-ltb (y .D) (x .D) (omega arith), eq-eqb (x .D) (y .D) even) last
+
+  by-bits : x .d ≡ y .d → (x .b ≡ 0) ⊎ (x .b ≡ 1) → (y .b ≡ 0) ⊎ (y .b ≡ 1) → rules x y ≡ ltb key-x key-y
+  by-bits same (inl p) (inl q) =
+      let alike : behind x ≡ behind y = rw (p, q) refl in
+      at-00 x y p q ∙ by-row (x .d) (x .b) (behind x) (x .row) (y .d) (y .b) (behind y) (y .row) bx by (hx .row) (hy .row) same (p ∙ sym q) alike
+  by-bits same (inl p) (inr q) =
+      let less : key-y < key-x = by-bit (y .d) (y .b) (behind y) (y .row) (x .d) (x .b) (behind x) (x .row) by bx (hy .row) (hx .row) (sym same) (omega arith) in
+      at-01 x y p q ∙ sym (le-ltb key-x key-y (omega arith))
+  by-bits same (inr p) (inl q) =
+      let less : key-x < key-y = by-bit (x .d) (x .b) (behind x) (x .row) (y .d) (y .b) (behind y) (y .row) bx by (hx .row) (hy .row) same (omega arith) in
+      at-10 x y p q ∙ sym (lt-ltb key-x key-y less)
+  by-bits same (inr p) (inr q) = at-11 x y p q ∙ by-groups same p q
+
+  by-keys : before x y ≡ ltb key-x key-y
+  by-keys = go (decLt (x .d) (y .d)) (decLt (y .d) (x .d))
+    where
+      go : Dec (x .d < y .d) → Dec (y .d < x .d) → before x y ≡ ltb key-x key-y
+      go (yes l) m =
+          let less : key-x < key-y = by-deadline (x .d) (x .b) (behind x) (x .row) (y .d) (y .b) (behind y) (y .row) bx by (hx .row) (hy .row) l in
+          sooner-goes-first x y l ∙ sym (lt-ltb key-x key-y less)
+      go (no l) (yes m) =
+          let less : key-y < key-x = by-deadline (y .d) (y .b) (behind y) (y .row) (x .d) (x .b) (behind x) (x .row) by bx (hy .row) (hx .row) m in
+          later-does-not x y m ∙ sym (le-ltb key-x key-y (omega arith))
+      go (no l) (no m) = let same : x .d ≡ y .d = omega arith in other-rules-decide x y same ∙ by-bits same (hx .bit) (hy .bit)
+
+pub keys-order-as-pd2 : KeysOrderAsPd2
+unfolding keyFor
+keys-order-as-pd2 x y hx hy = by-keys x y hx hy
+
+-- The rank of a row that has a next window has a key.
+pub rank-has-key : (row : Row) (i q : ℕ) → HasWindow row q → row .cost < 65_536 → i < 64 → HasKey (rankOf row i q)
+rank-has-key row i q has cost few =
+    record {
+      bit = bit-is-0-or-1 (row .cost) (row .period) (q + 1);
+      group = λ one. near (group-deadline-is-near (row .cost) (row .period) (originOf row) (q + 1) (has .cost) (has .weight) (omega arith) one);
+      row = few;
+    }
   where
-    go : Dec (x .d < y .d) → Dec (y .d < x .d) → (x .b ≡ 0) ⊎ (x .b ≡ 1) → (y .b ≡ 0) ⊎ (y .b ≡ 1) → before x y ≡ byKey x y
-    go (yes l) m p q =
-        let k : keyFor x < keyFor y = omega arith in
-        sooner-goes-first x y l ∙ simp (lt-ltb _ _ k)
-    go (no l) (yes m) p q =
-        let k : keyFor y ≤ keyFor x = omega arith in
-        later-does-not x y m ∙ simp (le-ltb _ _ k, ne-eqb (keyFor x) (keyFor y) (λ e. omega arith))
-    go (no l) (no m) p q = other-rules-decide x y (omega arith) ∙ by-bits p q
-      where
-        -- at the same deadline the keys go by the bits
-        by-bits : (x .b ≡ 0) ⊎ (x .b ≡ 1) → (y .b ≡ 0) ⊎ (y .b ≡ 1) → bitDecides x y || groupDecides x y || rowDecides x y ≡ byKey x y
-        by-bits (inl p) (inl q) =
-            let k : keyFor y ≤ keyFor x = omega arith in
-            let same : keyFor x ≡ keyFor y = omega arith in
-            simp (le-ltb _ _ k, eq-eqb (keyFor x) (keyFor y) same) (rw (p, q))
-        by-bits (inl p) (inr q) =
-            let k : keyFor y ≤ keyFor x = omega arith in
-            simp (le-ltb _ _ k, ne-eqb (keyFor x) (keyFor y) (λ e. omega arith)) (rw (p, q))
-        by-bits (inr p) (inl q) =
-            let k : keyFor x < keyFor y = omega arith in
-            simp (lt-ltb _ _ k) (rw (p, q))
-        by-bits (inr p) (inr q) =
-            let k : keyFor y ≤ keyFor x = omega arith in
-            let same : keyFor x ≡ keyFor y = omega arith in
-            simp (le-ltb _ _ k, eq-eqb (keyFor x) (keyFor y) same) (rw (p, q) (group-is-larger (x .D) (y .D) (x .row) (y .row)))
+    x : Rank
+    x = rankOf row i q
+
+    near : (x .D ≡ 0) ⊎ ((x .d < x .D) × (x .D < x .d + row .cost)) → (x .D ≡ 0) ⊎ ((x .d < x .D) × (x .D < x .d + 65_536))
+    near (inl none) = inl none
+    near (inr some) = inr (some .0, omega (arith, some .1))

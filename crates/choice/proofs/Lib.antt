@@ -1,7 +1,7 @@
-pub mod Asked
 pub mod KeyOrder
-pub mod Classes
-pub mod Cuts
+pub mod Inserted
+pub mod Left
+pub mod Asked
 pub mod Filled
 pub mod Picked
 pub mod Chosen

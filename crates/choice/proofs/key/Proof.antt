@@ -3,16 +3,16 @@ use mathlib.Core.Bool.{true, true≢false}
 use mathlib.Core.Logic.{⊎-elim}
 use Prim.Native.Nat.{_+_, _≤_, _<_}
 use borrow.Author.Tests.{not-true, not-false}
-use Rattle.windows.specs.Windows.{deadline, bit}
 use Rattle.windows.proofs.Windows.{bit-is-0-or-1}
 use Rattle.windows.proofs.Next.{dueTime, dueBit, isDue}
-use Rattle.pd2.specs.Ready.{originOf}
+use Rattle.pd2.specs.Order.{rankOf}
 use Rattle.pd2.specs.Near.{HasWindow}
 use Rattle.pd2.specs.Verdict.{isYes}
 use Rattle.pd2.proofs.Verdicts.{due-is-said}
 use native.Mathlib.Omega.{arith}
 use Rattle.choice.specs.Choice.{saysReady}
-use Rattle.choice.proofs.Asked.{window-if-ready, deadline-is-small, unready-key, ready-key}
+use Rattle.choice.proofs.Asked.{window-if-ready, ready-is-due-soon, unready-key, ready-key}
+use Rattle.choice.proofs.KeyOrder.{rank-has-key}
 use borrow.Author.Needs.{needs}
 use Rattle.choice.proofs.key.Statement.{statement}
 use Rattle.choice.proofs.key.Tie as tie
@@ -28,7 +28,7 @@ is-ready : (c : tie.After-is-yes) → c .is-yes .result ≡ saysReady (c .before
 is-ready c = c .is-yes .ensures ∙ ap isYes (c .before .ready .ensures)
 
 returns : tie.Need-returns
-returns c = unready-key _ _ _ (sym (is-ready (c .before)) ∙ not-true _ (c .if1 .taken))
+returns c = unready-key _ _ _ _ (sym (is-ready (c .before)) ∙ not-true _ (c .if1 .taken))
 
 -- past the test it is, so it has a window
 ready-then : (c : tie.Else1) → let a = c .before .before .before in saysReady (a .args .row) (a .args .given .0) (a .args .slot .0) ≡ true
@@ -56,51 +56,39 @@ returns-2 c =
     let said = due-is-said _ _ (windowed (c .before .before .before .before)) small (c .before .before .before .origin .ensures) (c .before .before .next-due .ensures) in
     absurd (true≢false (sym (ap isDue said) ∙ ap isDue (c .enum-told .given .1)))
 
+-- d and b, as the windows say them
+said : (c : tie.After-known-told) →
+    let a = c .before .before .before .before .before .before .before .before in
+    (c .before .due .given .0 .0 .0 ≡ rankOf (a .args .row) 0 (a .args .given .0) .d) × (c .before .due .given .0 .1 .0 ≡ rankOf (a .args .row) 0 (a .args .given .0) .b)
+said c =
+    let a = c .before .before .before .before .before .before .before .before in
+    let small : a .args .row .phase < 65_536 = search needs in
+    let is = sym (c .before .due .given .1) ∙ due-is-said _ _ (windowed (c .before .before .before .before .before)) small (c .before .before .before .before .origin .ensures) (c .before .before .before .next-due .ensures) in
+    (ap dueTime is, ap dueBit is)
+
+how-far-behind-requires : tie.Need-how-far-behind-requires
+how-far-behind-requires c κs = (windowed (c .before .before .before .before .before), said c .0, said c .1)
+
 time-requires : tie.Need-time-requires
 time-requires c κs = search needs
 
--- d and b, as the windows say them
-said : (c : tie.After-time) →
-    let a = c .before .before .before .before .before .before .before .before .before in
+packed-requires : tie.Need-packed-requires
+packed-requires c κs =
+    let known = c .before .before in
+    let a = known .before .before .before .before .before .before .before .before in
     let row = a .args .row in
-    (c .time .result ≡ deadline (row .cost) (row .period) (originOf row) (a .args .given .0 + 1)) × (c .before .before .due .given .0 .1 .0 ≡ bit (row .cost) (row .period) (a .args .given .0 + 1))
-said c =
-    let a = c .before .before .before .before .before .before .before .before .before in
-    let small : a .args .row .phase < 65_536 = search needs in
-    let is = sym (c .before .before .due .given .1) ∙ due-is-said _ _ (windowed (c .before .before .before .before .before .before)) small (c .before .before .before .before .before .origin .ensures) (c .before .before .before .before .next-due .ensures) in
-    (c .time .ensures ∙ ap dueTime is, ap dueBit is)
-
--- they are small
-small-due : (c : tie.After-time) → (c .time .result < 5_000_000_000_000_000_000) × (c .before .before .due .given .0 .1 .0 ≤ 1)
-small-due c =
-    let a = c .before .before .before .before .before .before .before .before .before in
-    let phase : a .args .row .phase < 65_536 = search needs in
-    let period : a .args .row .period < 65_536 = search needs in
-    let is = said c in
-    let row = a .args .row in
-    let low = deadline-is-small row (a .args .given .0) (windowed (c .before .before .before .before .before .before)) phase period in
+    let period : row .period < 65_536 = search needs in
+    let soon = ready-is-due-soon row (a .args .given .0) (a .args .slot .0) period (ready-then (known .before .before .before .before .before)) in
     let one = bit-is-0-or-1 (row .cost) (row .period) (a .args .given .0 + 1) in
-    (omega (arith, is .0, low), ⊎-elim (λ z. omega (arith, is .1, z)) (λ z. omega (arith, is .1, z)) one)
-
-mul-result : tie.Need-mul-result
-mul-result c = let small = small-due c in omega arith
-
-sub-result : tie.Need-sub-result
-sub-result c = small-due c .1
-
-cast-result : tie.Need-cast-result
-cast-result c = omega arith
-
-add-result : tie.Need-add-result
-add-result c = let small = small-due c in omega arith
+    (omega (arith, c .time .ensures, said known .0, soon), ⊎-elim (λ z. omega (arith, said known .1, z)) (λ z. omega (arith, said known .1, z)) one, c .before .how-far-behind .ensures .1, omega (arith, a .pre))
 
 returns-3 : tie.Need-returns-3
 returns-3 c =
-    let a = c .before .before .before .before .before .before .before .before .before in
-    let phase : a .args .row .phase < 65_536 = search needs in
-    let period : a .args .row .period < 65_536 = search needs in
-    let is = said c in
-    ready-key _ _ (windowed (c .before .before .before .before .before .before)) phase period _ (ready-then (c .before .before .before .before .before .before)) (is .0) (is .1)
+    let known = c .before .before .before in
+    let a = known .before .before .before .before .before .before .before .before in
+    let cost : a .args .row .cost < 65_536 = search needs in
+    let ready = ready-then (known .before .before .before .before .before) in
+    (ready-key _ _ _ _ ready (c .before .time .ensures ∙ said known .0) (said known .1) (c .before .before .how-far-behind .ensures .0) (c .packed .ensures .0), λ _. (c .packed .ensures .1, rank-has-key _ _ _ (windowed (known .before .before .before .before .before)) cost (omega (arith, a .pre))))
 
 pub key-spec : {M : Type 1} → statement M
 key-spec =
@@ -114,9 +102,7 @@ key-spec =
     enum-known-due
     enum-told
     returns-2
+    how-far-behind-requires
     time-requires
-    mul-result
-    sub-result
-    cast-result
-    add-result
+    packed-requires
     returns-3)

@@ -33,7 +33,7 @@ row-is : (c : tie.In-loop Inv-loop μ-loop) → let a = c .before .before in c .
 row-is c = omega (arith, c .loop-test .taken, c .before .before .pre .all)
 
 key-requires : tie.Need-key-requires Inv-loop μ-loop
-key-requires c κs = search needs
+key-requires c κs = omega arith
 
 mul-keys : tie.Need-mul-keys Inv-loop μ-loop
 mul-keys c = omega arith

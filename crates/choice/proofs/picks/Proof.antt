@@ -1,4 +1,4 @@
-use mathlib.Core.Path.{_≡_, _∙_}
+use mathlib.Core.Path.{_≡_, refl, _∙_}
 use lib.ListN.{length}
 use Rattle.counts.specs.Numbers.{numbersOf}
 use Rattle.choice.proofs.Chosen.{first-in-place, same-chosen}
@@ -9,22 +9,19 @@ use Rattle.choice.proofs.picks.Tie as tie
 at-most-32-requires : tie.Need-at-most-32-requires
 at-most-32-requires c κs = search needs
 
-at-most-8-requires : tie.Need-at-most-8-requires
-at-most-8-requires c κs = search needs
-
 choose-requires : tie.Need-choose-requires
 choose-requires c κs =
-    let a = c .before .before in
+    let a = c .before in
     let many : length (a .args .rows) ≡ 32 = search needs in
     let long : length (a .args .quanta) ≡ 32 = search needs in
-    (first-in-place (a .args .rows) (a .args .quanta) (a .args .n) many long (c .before .at-most-32 .ensures .0), c .at-most-8 .ensures .1)
+    first-in-place (a .args .rows) (a .args .quanta) (a .args .n) many long (c .at-most-32 .ensures .0)
 
 returns : tie.Need-returns
 returns c =
-    let a = c .before .before .before in
+    let a = c .before .before in
     let many : length (a .args .rows) ≡ 32 = search needs in
-    let same = same-chosen (a .args .rows) (numbersOf (a .args .quanta)) (a .args .n) (a .args .time .0) (a .args .k) many (c .before .before .at-most-32 .ensures .0) (c .before .at-most-8 .ensures .0) in
+    let same = same-chosen (a .args .rows) (numbersOf (a .args .quanta)) (a .args .n) (a .args .time .0) (a .args .k) many (c .before .at-most-32 .ensures .0) refl in
     (c .choose .ensures .0, c .choose .ensures .1 ∙ same)
 
 pub picks-spec : {M : Type 1} → statement M
-picks-spec = tie.close (tie.spec at-most-32-requires at-most-8-requires choose-requires returns)
+picks-spec = tie.close (tie.spec at-most-32-requires choose-requires returns)

@@ -1,24 +1,28 @@
+use mathlib.Core.Path.{refl}
 use mathlib.Core.Bool.{false}
 use Prim.Native.Nat.{_-_, _≤_}
 use native.Mathlib.Omega.{arith}
-use borrow.Author.Needs.{needs}
+use lib.Dec.{ltb}
 use Rattle.facts.proofs.Filling.{Filled, filling-begins, fills-one-more}
-use Rattle.choice.specs.Classes.{keyIn, groupIn, inCut}
+use Rattle.choice.specs.Keys.{keyIn}
 use Rattle.choice.proofs.Filled.{marks-are}
-use Rattle.choice.proofs.marks.Statement.{statement}
-use Rattle.choice.proofs.marks.Tie as tie
+use Rattle.choice.proofs.before.Statement.{statement}
+use Rattle.choice.proofs.before.Tie as tie
 
 abbrev Inv-loop : tie.InvT-loop
-Inv-loop keys groups n cut marks₀ i₀ marks i = Filled (inCut (keyIn keys) (groupIn groups) n (cut .class) (cut .left)) false false 32 i marks × (i ≤ n)
+Inv-loop keys n first marks₀ i₀ marks i = Filled (λ j. ltb (keyIn keys j) first) false false 32 i marks × (i ≤ n)
 
 abbrev μ-loop : tie.MeasureT-loop
-μ-loop keys groups n cut marks₀ i₀ marks i = n - i
+μ-loop keys n first marks₀ i₀ marks i = n - i
 
 loop-holds : tie.Need-loop-holds Inv-loop μ-loop
 loop-holds c = (filling-begins _ _ _ _, omega arith)
 
-is-picked-requires : tie.Need-is-picked-requires Inv-loop μ-loop
-is-picked-requires c κs = search needs
+mul-key : tie.Need-mul-key Inv-loop μ-loop
+mul-key c = omega arith
+
+element-copy-out-key : tie.Need-element-copy-out-key Inv-loop μ-loop
+element-copy-out-key c = omega arith
 
 array-write-marks : tie.Need-array-write-marks Inv-loop μ-loop
 array-write-marks c = omega arith
@@ -33,21 +37,22 @@ loop-again : tie.Need-loop-again Inv-loop μ-loop
 loop-again c =
     let l = c .before .loop-test .taken in
     let a = c .before .before in
-    (fills-one-more _ _ _ _ (a .loop .inv .0) (omega (arith, l, a .before .pre)) (c .is-picked .ensures), omega (arith, l))
+    (fills-one-more _ _ _ _ (a .loop .inv .0) (omega (arith, l, a .before .pre)) refl, omega (arith, l))
 
 returns : tie.Need-returns Inv-loop μ-loop
 returns c =
     let a = c .before in
     marks-are _ _ _ (a .loop .inv .0) (omega (arith, a .loop .inv .1, c .loop-test .left)) (a .before .pre)
 
-pub marks-spec : {M : Type 1} → statement M
-marks-spec =
+pub before-spec : {M : Type 1} → statement M
+before-spec =
     tie.close
     (tie.spec
     Inv-loop
     μ-loop
     loop-holds
-    is-picked-requires
+    mul-key
+    element-copy-out-key
     array-write-marks
     add-i
     loop-less

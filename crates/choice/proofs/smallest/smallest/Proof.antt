@@ -1,19 +1,20 @@
-use mathlib.Core.Path.{_≡_}
-use Prim.Native.Nat.{_-_, _≤_}
+use mathlib.Core.Path.{_≡_, refl}
+use Prim.Native.Nat.{_+_, _-_, _≤_}
 use native.Mathlib.Omega.{arith}
-use Rattle.choice.specs.Classes.{keyIn, Smallest}
-use Rattle.choice.proofs.Cuts.{smallest-of-none, smallest-of-more}
-use Rattle.choice.proofs.ending.smallest.Statement.{statement}
-use Rattle.choice.proofs.ending.smallest.Tie as tie
+use borrow.Author.Needs.{needs}
+use Rattle.choice.specs.Keys.{keyIn, Smallest}
+use Rattle.choice.proofs.Left.{smallest-of-none, smallest-of-more}
+use Rattle.choice.proofs.smallest.smallest.Statement.{statement}
+use Rattle.choice.proofs.smallest.smallest.Tie as tie
 
 abbrev Inv-loop : tie.InvT-loop
-Inv-loop keys n best₀ i₀ best i = Smallest (keyIn keys) i 9 best × (i ≤ n)
+Inv-loop keys n k best₀ i₀ best i = Smallest (keyIn keys) i (k + 1) best × (i ≤ n)
 
 abbrev μ-loop : tie.MeasureT-loop
-μ-loop keys n best₀ i₀ best i = n - i
+μ-loop keys n k best₀ i₀ best i = n - i
 
 loop-holds : tie.Need-loop-holds Inv-loop μ-loop
-loop-holds c = (smallest-of-none _ 9, omega arith)
+loop-holds c = (smallest-of-none _ 9 _ (omega (arith, c .pre .1)), omega arith)
 
 mul-key : tie.Need-mul-key Inv-loop μ-loop
 mul-key c = omega arith
@@ -21,8 +22,11 @@ mul-key c = omega arith
 element-copy-out-key : tie.Need-element-copy-out-key Inv-loop μ-loop
 element-copy-out-key c = omega arith
 
+least-requires : tie.Need-least-requires Inv-loop μ-loop
+least-requires c κs = search needs
+
 with-key-requires : tie.Need-with-key-requires Inv-loop μ-loop
-with-key-requires c κs = c .before .before .before .loop .inv .0 .rises
+with-key-requires c κs = omega (arith, c .least .ensures, c .before .before .before .before .before .pre .1)
 
 add-i : tie.Need-add-i Inv-loop μ-loop
 add-i c = omega arith
@@ -32,8 +36,8 @@ loop-less c = omega arith
 
 loop-again : tie.Need-loop-again Inv-loop μ-loop
 loop-again c =
-    let a = c .before .before .before .before in
-    (smallest-of-more _ (a .loop .inv .0) (c .with-key .ensures), omega (arith, c .before .before .before .loop-test .taken))
+    let a = c .before .before .before .before .before in
+    (smallest-of-more _ _ (a .loop .inv .0) (c .before .least .ensures) (c .with-key .ensures), omega (arith, c .before .before .before .before .loop-test .taken))
 
 returns : tie.Need-returns Inv-loop μ-loop
 returns c =
@@ -50,6 +54,7 @@ smallest-spec =
     loop-holds
     mul-key
     element-copy-out-key
+    least-requires
     with-key-requires
     add-i
     loop-less
