@@ -4,4 +4,5 @@ pub mod Left
 pub mod Asked
 pub mod Filled
 pub mod Picked
+pub mod Lacking
 pub mod Chosen

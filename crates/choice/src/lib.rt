@@ -39,24 +39,28 @@ pub fn first_left(keys: &[u64; 32], n: usize, k: u8) -> u64
     ensures { λ r. ⌜ FirstLeft (keyIn (now (keys .entry))) (min n 32) (min k 8) r ⌝ }
 {
     let many = at_most_32(n);
-    let taken = at_most_8(k);
-    if many <= taken {
+    // Not by `at_most_8`: with a bound in sight the compiler makes the search slower.
+    if 8 < k {
+        return left_out(keys, many, 8);
+    }
+    left_out(keys, many, k as usize)
+}
+
+fn left_out(keys: &[u64; 32], n: usize, k: usize) -> u64
+    requires { ⌜ (n ≤ 32) × (k ≤ 8) ⌝ }
+    ensures { λ r. ⌜ FirstLeft (keyIn (now (keys .entry))) n k r ⌝ }
+{
+    if n <= k {
         return NOT_READY;
     }
-    let best = smallest::smallest(keys, many, taken);
-    best[taken]
+    let best = smallest::smallest(keys, n, k);
+    best[k]
 }
 
 fn at_most_32(n: usize) -> usize
     ensures { λ r. ⌜ (r ≡ min n 32) × (r ≤ 32) ⌝ }
 {
     if n < 32 { n } else { 32 }
-}
-
-fn at_most_8(k: u8) -> usize
-    ensures { λ r. ⌜ (r ≡ min k 8) × (r ≤ 8) ⌝ }
-{
-    if k < 8 { k as usize } else { 8 }
 }
 
 // The same of n rows that stand in their array.

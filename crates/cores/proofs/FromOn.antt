@@ -10,23 +10,9 @@ use lib.ListN.{length, getD, drop, drop-of-length-le, List·getD-append}
 use lib.Seq.{drop-cons, getD-append-add}
 use Rattle.facts.specs.Counting.{howMany, those}
 use Rattle.facts.proofs.Counting.{counted-if-passed, uncounted-if-failed, none-counted, counts-grow}
-use Rattle.facts.proofs.Listing.{as-many-listed, more-listed}
+use Rattle.facts.proofs.Listing.{as-many-listed, more-listed, stands-behind}
 use Rattle.trace.specs.Record.{marked}
 use Rattle.cores.specs.Turns.{fromOn, IsLowest}
-
--- in the list of those that pass a number stands behind as many as pass below it
-stands-behind : (a : ℕ → Bool) (n i : ℕ) → i < n → a i ≡ true → getD (those a n) (howMany a i) 0 ≡ i
-unfolding those
-stands-behind a zero i l h = absurd (omega arith)
-stands-behind a (suc n) i l h = go (decLt i n) (stands-behind a n i)
-  where
-    go : Dec (i < n) → (i < n → a i ≡ true → getD (those a n) (howMany a i) 0 ≡ i) → getD (those a n ++ cond (a n) (n ∷ []) []) (howMany a i) 0 ≡ i
-    go (yes m) rest =
-        List·getD-append (those a n) (cond (a n) (n ∷ []) []) 0 (howMany a i) (omega (arith, more-listed a i n m h, as-many-listed a i)) ∙ rest m h
-    go (no m) rest =
-        let same : i ≡ n = omega arith in
-        let last : howMany a i ≡ length (those a n) + 0 = omega (arith, ap (howMany a) same, as-many-listed a n) in
-        rw (ap a (sym same) ∙ h, last) (getD-append-add (those a n) (n ∷ []) 0 0 ∙ sym same)
 
 module _ (marks : List Bool) where
   -- the mark of a number

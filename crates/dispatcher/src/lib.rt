@@ -1,11 +1,11 @@
 // The dispatcher: who runs in a slot. The state goes in and comes back whole.
-mod judge;
+mod look;
+mod picked;
 
 use cores::Placement;
 use counts::Quanta;
 use counts::Slot;
 use table::Table;
-use trace::Stored;
 ghost use mathlib.Core.Path.{_≡_};
 ghost use mathlib.Core.Bool.{cond};
 ghost use Prim.Native.Nat.{_≤_, _<_};
@@ -110,19 +110,13 @@ impl State {
     pub fn is_broken(self) -> bool
         ensures { λ r. ⌜ r ≡ broken self ⌝ }
     {
-        if table::fault(self.table) != 0 {
-            return true;
+        let mut ready = [0u64; 32];
+        let nobody = [false; 32];
+        let cause = self.cause(nobody, 0, 0, &mut ready);
+        match cause.answer {
+            Answer::Broken => true,
+            _ => false,
         }
-        if counts::TIME_LIMIT < self.time.time() {
-            return true;
-        }
-        let n = self.table.n as usize;
-        let rows = self.table.rows;
-        let quanta = self.quanta;
-        if judge::has_broken_row(rows, quanta, n, self.time, self.stopped) {
-            return true;
-        }
-        self.last.is_faulty(self.table.cores, self.table.n)
     }
 
     // One slot with a set of cores free: its record stands at the given place in the buffer, and each picked row has a core.
@@ -132,51 +126,59 @@ impl State {
         ensures { λ r. ⌜ r .state ≡ slotOf self free (now (buffer .entry)) place .state ⌝ }
         ensures { λ _. ⌜ now (buffer .exit) ≡ slotOf self free (now (buffer .entry)) place .bytes ⌝ }
     {
-        let cause = self.cause(free, buffer.len(), place);
-        let Answer::Done = cause else {
-            return self.refused(cause);
+        let mut ready = [0u64; 32];
+        let cause = self.cause(free, buffer.len(), place, &mut ready);
+        let Answer::Done = cause.answer else {
+            return self.refused(cause.answer);
         };
+        let found = cause.found;
         let k = cores::how_many(free);
-        let marks = self.picks(k);
-        let stored = trace::write(&mut buffer[place..], k, marks);
-        let Stored::Written = stored else {
-            return self.refused(Answer::NoRoom);
-        };
+        let first = choice::first_left(&ready, found, k);
+        picked::put_record(&mut buffer[place..], k, &ready, found, first);
+        let late = picked::lowest_late(&ready, found, first, self.time, self.table.n);
         let placed = cores_for(buffer, place, free, self.last);
-        self.one_on(marks, placed)
+        self.one_on(buffer, place, placed, late)
     }
 
-    // The refusal that is met before rows are picked, for a buffer of so many bytes; Done where none is.
-    fn cause(self, free: [bool; 32], len: usize, place: usize) -> Answer
-        ensures { λ r. ⌜ CauseIs self free len place r ⌝ }
+    // The refusal that is met, for a buffer of so many bytes; Done where none is, with the keys of the rows that are ready.
+    fn cause(self, free: [bool; 32], len: usize, place: usize, ready: &mut [u64; 32]) -> Cause
     {
-        if self.is_broken() {
-            return Answer::Broken;
+        if table::fault(self.table) != 0 {
+            return refusal(Answer::Broken);
         }
-        if self.stopped {
-            return Answer::Stopped;
+        if counts::TIME_LIMIT < self.time.time() {
+            return refusal(Answer::Broken);
         }
-        if counts::TIME_LIMIT <= self.time.time() {
-            return Answer::AtLimit;
-        }
-        if cores::names_past(free, self.table.cores) {
-            return Answer::NoSuchCore;
-        }
-        if len < place {
-            return Answer::NoRoom;
-        }
-        Answer::Done
-    }
-
-    // The rows picked with k cores free, as marks.
-    fn picks(self, k: u8) -> [bool; 32]
-        requires { ⌜ UsableState self × (k ≤ 8) ⌝ }
-        ensures { λ r. ⌜ marked r ≡ picksIn self k ⌝ }
-    {
         let n = self.table.n as usize;
         let rows = self.table.rows;
         let quanta = self.quanta;
-        choice::picks(rows, quanta, n, self.time, k)
+        let looked = look::look(rows, quanta, n, self.time, self.stopped, ready);
+        if looked.broken {
+            return refusal(Answer::Broken);
+        }
+        if self.last.is_faulty(self.table.cores, self.table.n) {
+            return refusal(Answer::Broken);
+        }
+        if self.stopped {
+            return refusal(Answer::Stopped);
+        }
+        if counts::TIME_LIMIT <= self.time.time() {
+            return refusal(Answer::AtLimit);
+        }
+        if cores::names_past(free, self.table.cores) {
+            return refusal(Answer::NoSuchCore);
+        }
+        if len < place {
+            return refusal(Answer::NoRoom);
+        }
+        let found = looked.found;
+        if len - place < record_length(found, cores::how_many(free)) {
+            return refusal(Answer::NoRoom);
+        }
+        Cause {
+            answer: Answer::Done,
+            found,
+        }
     }
 
     // A refusal hands back the state as it came, and places nobody.
@@ -192,21 +194,16 @@ impl State {
         }
     }
 
-    // The slot is over: the marked rows have one quantum more, time is one higher, what ran where is remembered, and lateness is judged.
-    fn one_on(self, marks: [bool; 32], placed: Placement) -> Outcome
-        requires { ⌜ CanRun self marks ⌝ }
-        ensures { λ r. ⌜ Judged (stepped self (marked marks) placed) r ⌝ }
+    // The slot is over: the rows that its record names have one quantum more, time is one higher, what ran where is remembered, and lateness is judged.
+    fn one_on(self, buffer: &[u8], place: usize, placed: Placement, late: u8) -> Outcome
     {
-        self.run(marks, placed).judge()
+        self.run(buffer, place, placed).judge(late)
     }
 
-    // One quantum more for each marked row, the time one higher, and the memory of this slot.
-    fn run(mut self, marks: [bool; 32], placed: Placement) -> State
-        requires { ⌜ CanRun self marks ⌝ }
-        ensures { λ r. ⌜ r ≡ stepped self (marked marks) placed ⌝ }
+    fn run(mut self, buffer: &[u8], place: usize, placed: Placement) -> State
     {
         let given = self.quanta;
-        let quanta = pd2::give(given, marks);
+        let quanta = given_to(given, buffer, place);
         self.quanta = quanta;
         let time = self.time.later(1);
         self.time = time;
@@ -215,12 +212,9 @@ impl State {
     }
 
     // Answer 1 and a stopped state if a row is late, else 0.
-    fn judge(mut self) -> Outcome
-        requires { ⌜ UsableState self ⌝ }
-        ensures { λ r. ⌜ Judged self r ⌝ }
+    fn judge(mut self, late: u8) -> Outcome
     {
-        let late = self.lowest_late();
-        let n = self.table.n as usize;
+        let n = self.table.n;
         self.stopped = late < n;
         let answer = done(late, n, self.time);
         let placed = self.last;
@@ -230,17 +224,38 @@ impl State {
             state: self,
         }
     }
+}
 
-    // The lowest row that is late, or the number of rows where none is.
-    fn lowest_late(self) -> usize
-        requires { ⌜ UsableState self ⌝ }
-        ensures { λ r. ⌜ Lowest (ofRow self (lateAt (timeOf self))) (length (rowsIn self)) r ⌝ }
-    {
-        let n = self.table.n as usize;
-        let rows = self.table.rows;
-        let quanta = self.quanta;
-        pd2::lowest_late(rows, quanta, n, self.time)
-    }
+// Whether a row breaks the state; if not, so many rows are ready.
+struct Looked {
+    broken: bool,
+    found: usize,
+}
+
+// What is found before a slot is run: its refusal, or Done and how many rows are ready.
+struct Cause {
+    answer: Answer,
+    found: usize,
+}
+
+fn refusal(answer: Answer) -> Cause
+{
+    Cause { answer, found: 0 }
+}
+
+// How many bytes the record has if so many rows are ready and so many cores free: "the first min(free cores, ready rows) are picked".
+fn record_length(ready: usize, free: u8) -> usize
+{
+    let cores = free as usize;
+    if ready < cores { 2 + ready } else { 2 + cores }
+}
+
+// The quanta after the slot whose record stands at the place.
+fn given_to(quanta: [Quanta; 32], buffer: &[u8], place: usize) -> [Quanta; 32]
+{
+    let first = place + 2;
+    let past = first + wide(buffer[place + 1]);
+    picked::give(quanta, &buffer[first..past])
 }
 
 // The cores of the rows that were picked: those that the record at the place names, so that they need not be looked for among the marks again.
@@ -260,12 +275,11 @@ fn wide(x: u8) -> usize
 }
 
 // What a slot that is done answers: the lowest late row is named.
-fn done(late: usize, n: usize, time: Slot) -> Answer
-    requires { ⌜ n ≤ 32 ⌝ }
+fn done(late: u8, n: u8, time: Slot) -> Answer
     ensures { λ r. ⌜ saidOf r ≡ cond (ltb late n) (named 1 late (time .0)) (bare 0) ⌝ }
 {
     if late < n {
-        let row = late as u8;
+        let row = late;
         return Answer::Late { row, time };
     }
     Answer::Done

@@ -11,6 +11,7 @@ pub mod Sums
 pub mod Findings
 pub mod Rising
 pub mod Filling
+pub mod Sublists
 pub mod Places
 pub mod Loops
 pub mod Determined

@@ -90,6 +90,30 @@ listed-rise a (suc n) i j d l h = go (decLt j (length (those a n))) (listed-rise
         let before : i < length (those a n) = omega (arith, last .2) in
         rw (last .0, listed-before a n i d before) (listed-pass a n i d before .0)
 
+-- In the list of those that pass a number stands behind as many as pass below it,
+pub stands-behind : (a : ℕ → Bool) (n i d : ℕ) → i < n → a i ≡ true → getD (those a n) (howMany a i) d ≡ i
+unfolding those
+stands-behind a zero i d l h = absurd (omega arith)
+stands-behind a (suc n) i d l h = go (decLt i n) (stands-behind a n i d)
+  where
+    go : Dec (i < n) → (i < n → a i ≡ true → getD (those a n) (howMany a i) d ≡ i) → getD (those a n ++ cond (a n) (n ∷ []) []) (howMany a i) d ≡ i
+    go (yes m) rest =
+        List·getD-append (those a n) (cond (a n) (n ∷ []) []) d (howMany a i) (omega (arith, more-listed a i n m h, as-many-listed a i)) ∙ rest m h
+    go (no m) rest =
+        let same : i ≡ n = omega arith in
+        let last : howMany a i ≡ length (those a n) = omega (arith, ap (howMany a) same, as-many-listed a n) in
+        rw (ap a (sym same) ∙ h, last) (getD-append-seam (those a n) n [] d ∙ sym same)
+
+-- and so the one at a place has as many below it as the place says.
+pub as-many-below : (a : ℕ → Bool) (n j d : ℕ) → j < length (those a n) → howMany a (getD (those a n) j d) ≡ j
+unfolding those
+as-many-below a zero j d h = absurd (omega arith)
+as-many-below a (suc n) j d h = go (decLt j (length (those a n))) (as-many-below a n j d)
+  where
+    go : Dec (j < length (those a n)) → (j < length (those a n) → howMany a (getD (those a n) j d) ≡ j) → howMany a (getD (those a (suc n)) j d) ≡ j
+    go (yes l) rest = rw (listed-before a n j d l) (rest l)
+    go (no l) rest = let x = listed-last a n j d (omega arith) h in rw (x .0) (sym (as-many-listed a n) ∙ sym (x .2))
+
 -- Tests that agree below the bound list the same.
 pub same-list : (a b : ℕ → Bool) (n : ℕ) → ((i : ℕ) → i < n → a i ≡ b i) → those a n ≡ those b n
 unfolding those

@@ -5,5 +5,6 @@ pub mod Picks
 pub mod Choice
 pub mod Half
 pub mod Verdicts
+pub mod Standing
 pub mod Rows
 pub mod Courses

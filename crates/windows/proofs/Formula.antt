@@ -4,7 +4,7 @@
 use mathlib.Core.Path.{_≡_, refl, sym, ap, _∙_}
 use mathlib.Core.Logic.{_⊎_, inl, inr}
 use Prim.Native.Nat.{ℕ, _+_, _-_, _*_, _/_, _%_, _≤_, _<_}
-use native.Mathlib.Nat.{div-add-mod', mul-mod-left, mul-le-mul-left, mul-le-mul-right, le-of-mul-le-mul-right, lt-of-mul-lt-mul-right}
+use native.Mathlib.Nat.{div-add-mod', mod-lt, mul-mod-left, mul-le-mul-left, mul-le-mul-right, le-of-mul-le-mul-right, lt-of-mul-lt-mul-right}
 use native.Mathlib.Decide.{ℕ-discrete, decLt}
 use native.Mathlib.Omega.{arith}
 use Rattle.facts.specs.Rounding.{ceilDiv}
@@ -15,7 +15,7 @@ use Rattle.windows.specs.Group.{groupDeadline}
 use Rattle.windows.specs.LeastTime.{Marks, IsGroupDeadline}
 use Rattle.windows.specs.Formula.{gaps, formula, groupByFormula, FormulaGivesWalk, AnswersByFormula}
 use Rattle.windows.specs.Fits.{CanWalk, products}
-use Rattle.windows.proofs.Windows.{bit-of-whole, bit-zero-divides, whole-has-bit-0, step, deadline-of-whole, window-spans, deadline-between, start-between, deadline-parts, start-parts, due-between}
+use Rattle.windows.proofs.Windows.{bit-of-whole, bit-is-0-or-1, bit-zero-divides, whole-has-bit-0, step, deadline-of-whole, window-spans, deadline-between, start-between, deadline-parts, start-parts, due-between}
 use Rattle.windows.proofs.Group.{light-has-none}
 use Rattle.windows.proofs.LeastTime.{walk-gives-least-time}
 use Rattle.windows.proofs.Question.{fit-says, windows-are-answered}
@@ -184,6 +184,44 @@ group-deadline-is-near e p o i he weight hi one = go (decLt (2 * e) p)
         under : Dec (e < p) → e < p
         under (yes l) = l
         under (no l) = absurd (omega (arith, one, whole-has-bit-0 e p i (omega arith)))
+
+-- For callers: d, b and D by what is lacking. After a slots from the origin i quanta lack so much of their share, times e.
+module _ (e p o i a lacking : ℕ) (he : 0 < e) (sum : i * p ≡ lacking + a * e) where
+  abbrev slots : ℕ
+  slots = a + lacking / e
+
+  product : slots * e + lacking % e ≡ i * p
+  product = omega (arith, div-add-mod' lacking e)
+
+  pub whole-lacking : lacking % e ≡ 0 → (deadline e p o i ≡ o + a + lacking / e) × (bit e p i ≡ 0)
+  whole-lacking none = (
+    deadline-between e p o i he slots (omega (arith, product)) (omega (arith, product)) ∙ omega arith,
+    bit-of-whole e p i (ap (λ x. x % e) {x = i * p} {y = slots * e} (omega (arith, product)) ∙ mul-mod-left slots e),
+  )
+
+  module _ (part : lacking % e ≡ 0 → ⊥) where
+    rest : lacking % e < e
+    rest = mod-lt lacking he
+
+    over : i * p + (e - lacking % e) ≡ (slots + 1) * e
+    over = omega (arith, product, rest)
+
+    due : deadline e p o i ≡ o + (slots + 1)
+    due = deadline-between e p o i he (slots + 1) (omega (arith, over)) (omega (arith, over, rest, part))
+
+    pub part-lacking : (deadline e p o i ≡ o + a + lacking / e + 1) × (bit e p i ≡ 1)
+    part-lacking = (due ∙ omega arith, go (bit-is-0-or-1 e p i))
+      where
+        go : (bit e p i ≡ 0) ⊎ (bit e p i ≡ 1) → bit e p i ≡ 1
+        go (inr one) = one
+        go (inl none) =
+            let even = bit-zero-divides e p i none in
+            let same : i * p / e ≡ slots + 1 = omega (arith, due, deadline-of-whole e p o he i even) in
+            absurd (part (omega (arith, ap (λ x. x * e) same, div-add-mod' (i * p) e, even, over, rest)))
+
+    pub part-behind : e < p → p ≤ 2 * e → 0 < i → groupDeadline e p o i ≡ deadline e p o i + ceilDiv (e - lacking % e) (p - e)
+    part-behind below half hi =
+        group-deadline-behind e p o i (slots + 1) (e - lacking % e) he below half hi over (omega (arith, part, rest)) ∙ omega (arith, due)
 
 -- for the function
 

@@ -1,8 +1,6 @@
+use mathlib.Core.Path.{_≡_}
+use Prim.Native.Nat.{min}
 use native.Mathlib.Omega.{arith}
-use lib.ListN.{getD}
-use mir.Syntax.{w64}
-use mir.Val.{Fits}
-use Rattle.choice.proofs.Left.{none-left, first-behind}
 use borrow.Author.Needs.{needs}
 use Rattle.choice.proofs.first_left.Statement.{statement}
 use Rattle.choice.proofs.first_left.Tie as tie
@@ -10,37 +8,25 @@ use Rattle.choice.proofs.first_left.Tie as tie
 at-most-32-requires : tie.Need-at-most-32-requires
 at-most-32-requires c κs = search needs
 
-at-most-8-requires : tie.Need-at-most-8-requires
-at-most-8-requires c κs = search needs
+left-out-requires : tie.Need-left-out-requires
+left-out-requires c κs = search needs
 
 returns : tie.Need-returns
 returns c =
-    let a = c .before .before .before in
-    rw (← c .before .before .at-most-32 .ensures .0, ← c .before .at-most-8 .ensures .0) (none-left _ (c .if1 .taken))
+    let few = c .before .before in
+    let eight : min (few .before .args .k) 8 ≡ 8 = omega (arith, c .before .if1 .taken) in
+    rw (← few .at-most-32 .ensures .0, eight) (c .left-out .ensures)
 
-smallest-requires : tie.Need-smallest-requires
-smallest-requires c κs = search needs
-
-mul-result : tie.Need-mul-result
-mul-result c = search needs
-
-array-read-result : tie.Need-array-read-result
-array-read-result c = search needs
+left-out-requires-2 : tie.Need-left-out-requires-2
+left-out-requires-2 c κs = search needs
 
 returns-2 : tie.Need-returns-2
 returns-2 c =
-    let a = c .before .before in
-    let range : Fits w64 (getD (c .smallest .result) (a .at-most-8 .result) 0) = search needs in
-    rw (← a .before .at-most-32 .ensures .0, ← a .at-most-8 .ensures .0) (first-behind _ _ (c .smallest .ensures) (omega (arith, range)))
+    let few = c .before .before in
+    let all : min (few .before .args .k) 8 ≡ few .before .args .k = omega (arith, c .before .if1 .left) in
+    rw (← few .at-most-32 .ensures .0, all) (c .left-out2 .ensures)
 
 pub first-left-spec : {M : Type 1} → statement M
 first-left-spec =
     tie.close
-    (tie.spec
-    at-most-32-requires
-    at-most-8-requires
-    returns
-    smallest-requires
-    mul-result
-    array-read-result
-    returns-2)
+    (tie.spec at-most-32-requires left-out-requires returns left-out-requires-2 returns-2)

@@ -1,0 +1,141 @@
+// One pass over the rows of a state: whether one breaks it, and the keys of those that are ready. Quanta and times are whole numbers of slots, and no division is
+// made for a row that waits, but for an early-release row that is ahead of its share.
+use crate::Looked;
+use counts::Quanta;
+use counts::Slot;
+use table::Row;
+
+// Where a row stands in a slot.
+enum Stand {
+    Outside,
+    Waits,
+    Ready,
+}
+
+// The keys of the ready rows come to the front of the lent array, by rising row number. In a stopped state no row is asked for its share, and none is ready.
+pub(crate) fn look(
+    rows: [Row; 32],
+    quanta: [Quanta; 32],
+    n: usize,
+    time: Slot,
+    stopped: bool,
+    ready: &mut [u64; 32],
+) -> Looked
+{
+    if stopped {
+        let broken = has_too_many(quanta, n, time);
+        return Looked { broken, found: 0 };
+    }
+    let mut found: usize = 0;
+    let mut i: usize = 0;
+    while i < n {
+        let row = rows[i];
+        let given = quanta[i];
+        let stand = stands(row, given.count(), time.time());
+        match stand {
+            Stand::Outside => {
+                return Looked {
+                    broken: true,
+                    found: 0,
+                };
+            }
+            Stand::Waits => {}
+            Stand::Ready => {
+                ready[found] = key(row, i, given.count(), time.time());
+                found += 1;
+            }
+        }
+        i += 1;
+    }
+    Looked {
+        broken: false,
+        found,
+    }
+}
+
+// Whether a row's quanta exceed the time.
+fn has_too_many(quanta: [Quanta; 32], n: usize, time: Slot) -> bool
+{
+    let mut i: usize = 0;
+    while i < n {
+        let given = quanta[i];
+        if time.time() < given.count() {
+            return true;
+        }
+        i += 1;
+    }
+    false
+}
+
+// Whether a row breaks the state, waits or is ready, by products.
+fn stands(row: Row, given: u64, time: u64) -> Stand
+{
+    if time < given {
+        return Stand::Outside;
+    }
+    let phase = row.phase as u64;
+    if time < phase {
+        return if given == 0 { Stand::Waits } else { Stand::Outside };
+    }
+    let elapsed = time - phase;
+    let cost = row.cost as u64;
+    let period = row.period as u64;
+    let share = elapsed * cost;
+    let had = given * period;
+    if had + period <= share {
+        return Stand::Outside;
+    }
+    if had <= share {
+        return Stand::Ready;
+    }
+    if row.kind == 1 {
+        return stands_ahead(cost, period, given, elapsed);
+    }
+    if had < share + cost {
+        return Stand::Ready;
+    }
+    if had < share + period { Stand::Waits } else { Stand::Outside }
+}
+
+// The same of an early-release row that is ahead of its share.
+fn stands_ahead(cost: u64, period: u64, given: u64, elapsed: u64) -> Stand
+{
+    let jobs = (elapsed + (period - 1)) / period;
+    let released = jobs * cost;
+    if given < released {
+        return Stand::Ready;
+    }
+    if released < given {
+        return Stand::Outside;
+    }
+    if elapsed < jobs * period { Stand::Waits } else { Stand::Ready }
+}
+
+// The key of a ready row: what its next quantum still lacks says when it is due.
+fn key(row: Row, i: usize, given: u64, time: u64) -> u64
+{
+    let cost = row.cost as u64;
+    let period = row.period as u64;
+    let share = (time - row.phase as u64) * cost;
+    let lacking = given * period + period - share;
+    let whole = time + lacking / cost;
+    let rest = lacking % cost;
+    if rest == 0 {
+        return packed(2 * whole + 1, 0, i);
+    }
+    packed(2 * whole + 2, far(cost, period, rest), i)
+}
+
+fn far(cost: u64, period: u64, rest: u64) -> u64
+{
+    if 2 * cost < period {
+        return 0;
+    }
+    let gap = period - cost;
+    (cost - rest + (gap - 1)) / gap
+}
+
+fn packed(class: u64, far: u64, row: usize) -> u64
+{
+    (class * 65_536 + (65_535 - far)) * 64 + row as u64
+}
