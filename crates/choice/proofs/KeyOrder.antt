@@ -1,12 +1,13 @@
 -- The order of the keys is PD2's order. Assumes nothing.
-use Prim.Native.Nat.{ℕ, _+_, _-_, _*_, _≤_, _<_}
+use Prim.Native.Nat.{ℕ, _+_, _-_, _*_, _%_, _≤_, _<_}
 use mathlib.Core.Path.{_≡_, refl, sym, ap, _∙_}
 use mathlib.Core.Bool.{Bool, true, false, _&&_, _||_}
 use mathlib.Core.Logic.{_⊎_, inl, inr}
+use native.Mathlib.Nat.{div-add-mod', mod-lt}
 use native.Mathlib.Decide.{decLt}
 use native.Mathlib.Omega.{arith}
 use borrow.Author.Tests.{lt-ltb, le-ltb, eq-eqb, ne-eqb}
-use lib.Dec.{ltb, eqb}
+use lib.Dec.{ltb, leb, eqb}
 use Rattle.facts.proofs.Tests.{same-test}
 use Rattle.windows.proofs.Windows.{bit-is-0-or-1}
 use Rattle.windows.proofs.Formula.{group-deadline-is-near}
@@ -153,3 +154,17 @@ rank-has-key row i q has cost few =
     near : (x .D ≡ 0) ⊎ ((x .d < x .D) × (x .D < x .d + row .cost)) → (x .D ≡ 0) ⊎ ((x .d < x .D) × (x .D < x .d + 65_536))
     near (inl none) = inl none
     near (inr some) = inr (some .0, omega (arith, some .1))
+
+-- For callers: a key ends with its row's number,
+pub key-ends-with-row : (x : Rank) → x .row < 64 → keyFor x % 64 ≡ x .row
+unfolding keyFor
+key-ends-with-row x few =
+    let front = (2 * x .d + (1 - x .b)) * 65_536 + (65_535 - behind x) in
+    let rest = mod-lt (front * 64 + x .row) {m = 64} (omega arith) in
+    omega (arith, div-add-mod' (front * 64 + x .row) 64)
+
+-- and begins with its deadline: those of the deadlines up to t + 1 lie before this number.
+pub key-begins-with-deadline : (x : Rank) → HasKey x → (t : ℕ) → ltb (keyFor x) ((2 * t + 4) * 4_194_304) ≡ leb (x .d) (t + 1)
+unfolding keyFor
+key-begins-with-deadline x has t =
+    same-test {b = (2 * t + 4) * 4_194_304} {d = t + 1} (λ l. omega (arith, at-most-1 (has .bit), has .row), λ l. omega (arith, at-most-1 (has .bit), has .row))

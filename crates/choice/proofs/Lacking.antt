@@ -1,8 +1,8 @@
 -- The key of a ready row by what its next quantum lacks. Assumes nothing.
 use Prim.Native.Nat.{ℕ, _+_, _-_, _*_, _/_, _%_, _≤_, _<_}
 use mathlib.Core.Path.{_≡_, refl, ap, _∙_}
-use mathlib.Core.Bool.{cond}
-use native.Mathlib.Decide.{decLt}
+use mathlib.Core.Bool.{true, cond}
+use native.Mathlib.Decide.{decLt, ℕ-discrete}
 use native.Mathlib.Omega.{arith}
 use borrow.Author.Tests.{lt-ltb, le-ltb}
 use lib.Dec.{ltb}
@@ -11,9 +11,10 @@ use Rattle.windows.proofs.Windows.{whole-has-bit-0}
 use Rattle.windows.proofs.Group.{light-has-none}
 use Rattle.windows.proofs.Formula.{whole-lacking, part-lacking, part-behind}
 use Rattle.table.specs.declared.Row.{Row}
-use Rattle.pd2.specs.Ready.{originOf}
+use Rattle.pd2.specs.Ready.{originOf, ready}
 use Rattle.pd2.specs.Order.{Rank, rankOf}
 use Rattle.pd2.specs.Share.{CanBe}
+use Rattle.pd2.proofs.Readiness.{ready-is-due-within-period}
 use Rattle.choice.specs.Keys.{behind, keyFor}
 
 -- For callers: at time t, a slots after the row's origin, its next quantum lacks so much.
@@ -39,7 +40,7 @@ module _ (row : Row) (can : CanBe row) (i q t a lacking : ℕ) (from : t ≡ ori
     abbrev law : (x .d ≡ originOf row + a + lacking / row .cost + 1) × (x .b ≡ 1)
     law = part-lacking (row .cost) (row .period) (originOf row) (q + 1) a lacking (can .cost) sum part
 
-    below-one : row .cost < row .period
+    pub below-one : row .cost < row .period
     below-one = go (decLt (row .cost) (row .period))
       where
         go : Dec (row .cost < row .period) → row .cost < row .period
@@ -58,3 +59,14 @@ module _ (row : Row) (can : CanBe row) (i q t a lacking : ℕ) (from : t ≡ ori
 
     pub part-key : {far : ℕ} → behind x ≡ far → keyFor x ≡ ((2 * (t + lacking / row .cost) + 2) * 65_536 + (65_535 - far)) * 64 + i
     part-key {far} is = by-parts (law .0) (law .1) is ∙ omega arith
+
+  -- It lacks no more slots than a period has, if the row is ready.
+  pub lacks-few-slots : ready row q t ≡ true → lacking / row .cost ≤ row .period
+  lacks-few-slots is = go (ℕ-discrete (lacking % row .cost) 0)
+    where
+      soon : x .d ≤ t + row .period
+      soon = ready-is-due-within-period row q t (can .cost) is
+
+      go : Dec (lacking % row .cost ≡ 0) → lacking / row .cost ≤ row .period
+      go (yes whole) = omega (arith, soon, whole-lacking (row .cost) (row .period) (originOf row) (q + 1) a lacking (can .cost) sum whole .0)
+      go (no part) = omega (arith, soon, law part .0)

@@ -34,7 +34,7 @@ module _ (marks : List Bool) where
   unfolding fromOn
   first-from {i} l h =
       drop-cons (marked marks) (howMany isMarked i) 0 (omega (arith, more-listed isMarked i (length marks) l h, as-many-listed isMarked i))
-      ∙ rw (stands-behind isMarked (length marks) i l h) (ap (λ k. i ∷ drop k (marked marks)) (sym (add-one (howMany isMarked i)) ∙ sym (counted-if-passed isMarked i h)))
+      ∙ rw (stands-behind isMarked (length marks) i 0 l h) (ap (λ k. i ∷ drop k (marked marks)) (sym (add-one (howMany isMarked i)) ∙ sym (counted-if-passed isMarked i h)))
 
   -- and one that is not marked is none of them
   not-from : (i : ℕ) → getD marks i false ≡ false → fromOn marks i ≡ fromOn marks (i + 1)

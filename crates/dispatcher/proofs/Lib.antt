@@ -1,11 +1,17 @@
+pub mod Recorded
+pub mod Giving
+pub mod Looking
+pub mod Found
 pub mod Rows
 pub mod Asked
 pub mod BrokenBy
 pub mod Ran
 pub mod Refused
 pub mod Whole
+pub mod Picking
 pub mod Placing
 pub mod Kept
+pub mod Ending
 pub mod Placed
 pub mod Places
 pub mod RunKept

@@ -10,7 +10,7 @@ use borrow.Author.Tests.{lt-ltb, le-ltb, lt-leb, le-leb, eq-eqb, ne-eqb}
 use lib.Dec.{eqb}
 use lib.ListN.{length, take, drop, length-drop, take-append-drop}
 use Rattle.facts.specs.Findings.{_says_, firstFound, FirstFound, NoneFound}
-use Rattle.facts.proofs.Findings.{none-says-otherwise, first-is-said, after-none}
+use Rattle.facts.proofs.Findings.{none-says-otherwise, first-is-said, said-is-first, after-none, first-is-such, in-range}
 use Rattle.counts.specs.Limits.{timeLimit}
 use Rattle.trace.specs.declared.Stored.{Stored}
 use Rattle.trace.specs.declared.Stored.the-variants.{Written, NoRoom}
@@ -22,11 +22,11 @@ use Rattle.dispatcher.specs.declared.State.{State}
 use Rattle.dispatcher.specs.declared.Answer.{Answer}
 use Rattle.dispatcher.specs.declared.Answer.the-variants.{Done}
 use Rattle.dispatcher.specs.declared.Outcome.{Outcome}
-use Rattle.dispatcher.specs.State.{timeOf}
+use Rattle.dispatcher.specs.State.{rowsIn, quantaIn, timeOf}
 use Rattle.dispatcher.specs.Broken.{broken}
 use Rattle.dispatcher.specs.Answer.{saidOf, doneSaid}
-use Rattle.dispatcher.specs.Slot.{picksIn, recordIn, lateIn, afterSlot, stoppedBy, lacksRoom, refusal, slotOf}
-use Rattle.dispatcher.specs.Usable.{Admitted, CauseIs, Judged}
+use Rattle.dispatcher.specs.Slot.{picksIn, recordIn, lateIn, afterSlot, stoppedBy, lacksRoom, slotTests, refusal, slotOf}
+use Rattle.dispatcher.specs.Usable.{Admitted, ReadyKeys, CauseIs, Judged}
 
 -- Whether a record of c rows has room: the two tests of 01 are one.
 pub lacks-room : (buffer : List ℕ) (place c : ℕ) → length buffer < place + 2 + c → lacksRoom buffer place c ≡ true
@@ -105,62 +105,31 @@ module _ (s : State) (free : List Bool) (buffer : List ℕ) (place : ℕ) where
           pub past-end : length buffer < place → refusal s free buffer place ≡ 34
           past-end h = by-room {lacks = true} (lacks-room buffer place (length (picksIn s (size free))) (omega arith))
 
-          module _ (inside : place ≤ length buffer) {marks : List ℕ} (same : marks ≡ picksIn s (size free)) (stored : Stored)
-              (wrote : storedNumber stored ≡ writeNumber (drop place buffer) (recordOf (size free) marks)) where
-            -- whether there is room, as the writer and as the definition tests it
-            abbrev room : Bool → Type 0
-            room has =
-                (storedNumber stored ≡ cond has 0 34) × (refusal s free buffer place ≡ cond has 0 34)
-                × (partAfter (drop place buffer) (recordOf (size free) marks) ≡ cond has (withFront (drop place buffer) (recordOf (size free) marks)) (drop place buffer))
+          -- or too little room is left behind it.
+          pub no-room : place ≤ length buffer → length buffer - place < 2 + length (picksIn s (size free)) → refusal s free buffer place ≡ 34
+          no-room inside h = by-room {lacks = true} (lacks-room buffer place (length (picksIn s (size free))) (omega arith))
 
-            decided : room true ⊎ room false
-            decided = go (decLe (2 + length marks) (length buffer - place))
-              where
-                long : length (drop place buffer) ≡ length buffer - place
-                long = length-drop place buffer
-
-                count : length (picksIn s (size free)) ≡ length marks
-                count = sym (ap length same)
-
-                go : Dec (2 + length marks ≤ length buffer - place) → room true ⊎ room false
-                go (yes l) =
-                    let fits = le-leb (length (recordOf (size free) marks)) (length (drop place buffer)) (omega (arith, long)) in
-                    let lacks = has-room-for buffer place (length (picksIn s (size free))) (omega (arith, count, inside)) in
-                    inl (wrote ∙ ap (λ has. cond has 0 34) fits, by-room {lacks = false} lacks, rw fits refl)
-                go (no l) =
-                    let short = lt-leb (length (recordOf (size free) marks)) (length (drop place buffer)) (omega (arith, long)) in
-                    let lacks = lacks-room buffer place (length (picksIn s (size free))) (omega (arith, count)) in
-                    inr (wrote ∙ ap (λ has. cond has 0 34) short, by-room {lacks = true} lacks, rw short refl)
-
-            module _ {part : List ℕ} (left : part ≡ partAfter (drop place buffer) (recordOf (size free) marks)) where
-              -- or too little room is left behind it, and then the part is as it was;
-              pub no-room : stored ≡ NoRoom → (refusal s free buffer place ≡ 34) × (take place buffer ++ part ≡ buffer)
-              no-room e = go decided
-                where
-                  go : room true ⊎ room false → (refusal s free buffer place ≡ 34) × (take place buffer ++ part ≡ buffer)
-                  go (inl has) = absurd (omega (arith, has .0, ap storedNumber e))
-                  go (inr none) = (none .1, rw (left, none .2) (take-append-drop place buffer))
-
-              -- else the slot is not refused, and the record stands at the place.
-              pub has-room : stored ≡ Written → (refusal s free buffer place ≡ 0) × (take place buffer ++ part ≡ withRecord buffer place (recordIn s (size free)))
-              unfolding withRecord
-              has-room e = go decided
-                where
-                  go : room true ⊎ room false → (refusal s free buffer place ≡ 0) × (take place buffer ++ part ≡ take place buffer ++ withFront (drop place buffer) (recordIn s (size free)))
-                  go (inl has) = (has .1, rw (left, has .2, same) refl)
-                  go (inr none) = absurd (omega (arith, none .0, ap storedNumber e))
-
--- The tests before the choice look at the buffer's length alone.
-module _ (s : State) (free : List Bool) (len place : ℕ) where
+-- The tests look at the buffer's length alone.
+module _ (s : State) (free : List Bool) (len place : ℕ) {keys : List ℕ} {found : ℕ} where
   -- One of them is met,
   pub cause-is : (a : Answer) {number : ℕ} → saidOf a ≡ bare (suc number) →
-      ((buffer : List ℕ) → length buffer ≡ len → refusal s free buffer place ≡ suc number) → CauseIs s free len place a
+      ((buffer : List ℕ) → length buffer ≡ len → refusal s free buffer place ≡ suc number) → CauseIs s free len place a keys found
   cause-is a said met =
       record {
         refuses = λ _ buffer long. said ∙ ap bare (sym (met buffer long));
         admits = λ none. absurd (omega (arith, ap (λ x. x .number) said));
+        ready = λ none. absurd (omega (arith, ap (λ x. x .number) said));
       }
 
   -- or none is.
-  pub no-cause : Admitted s free len place → CauseIs s free len place Done
-  no-cause admitted = record { refuses = λ some. absurd (some refl); admits = λ _. admitted }
+  pub no-cause : Admitted s free len place → ReadyKeys (rowsIn s) (quantaIn s) (timeOf s) keys found → CauseIs s free len place Done keys found
+  no-cause admitted ready = record { refuses = λ some. absurd (some refl); admits = λ _. admitted; ready = λ _. ready }
+
+-- A state is broken exactly if the first test refuses.
+pub broken-if-30 : (s : State) (free : List Bool) (buffer : List ℕ) (place : ℕ) → refusal s free buffer place ≡ 30 → broken s ≡ true
+unfolding refusal
+broken-if-30 s free buffer place h = go (said-is-first 0 (slotTests s free buffer place) (λ e. omega arith) h)
+  where
+    go : FirstFound (slotTests s free buffer place) 30 → broken s ≡ true
+    go (FirstFound.here h) = h
+    go (FirstFound.later whole rest) = absurd (omega (arith, first-is-such (in-range 31 35 _ refl) rest .0))

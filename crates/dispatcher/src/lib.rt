@@ -8,20 +8,21 @@ use counts::Slot;
 use table::Table;
 ghost use mathlib.Core.Path.{_≡_};
 ghost use mathlib.Core.Bool.{cond};
-ghost use Prim.Native.Nat.{_≤_, _<_};
+ghost use Prim.Native.Nat.{_≤_, _<_, min};
 ghost use lib.Dec.{ltb};
 ghost use lib.ListN.{length};
-ghost use Rattle.facts.specs.First.{Lowest};
 ghost use Rattle.trace.specs.Record.{marked};
-ghost use Rattle.trace.specs.Records.{rowsAt, pastRecord};
+ghost use Rattle.trace.specs.Records.{rowsAt, pastRecord, names};
 ghost use Rattle.trace.specs.Said.{bare, named};
 ghost use Rattle.cores.specs.Placement.{nobody};
 ghost use Rattle.cores.specs.Cores.{placedFor};
-ghost use Rattle.dispatcher.specs.State.{rowsIn, timeOf, freshOf};
-ghost use Rattle.dispatcher.specs.Broken.{ofRow, broken};
+ghost use Rattle.counts.specs.Numbers.{numbersOf, counted};
+ghost use Rattle.pd2.specs.Choice.{given};
+ghost use Rattle.dispatcher.specs.State.{freshOf};
+ghost use Rattle.dispatcher.specs.Broken.{broken};
 ghost use Rattle.dispatcher.specs.Answer.{saidOf, saidBy};
-ghost use Rattle.dispatcher.specs.Slot.{picksIn, lateAt, stepped, slotOf};
-ghost use Rattle.dispatcher.specs.Usable.{UsableState, CanRun, CauseIs, Judged};
+ghost use Rattle.dispatcher.specs.Slot.{stepped, slotOf};
+ghost use Rattle.dispatcher.specs.Usable.{CauseIs, CanStep, GivesTo, Judged};
 
 pub struct State {
     pub table: Table,
@@ -113,7 +114,8 @@ impl State {
         let mut ready = [0u64; 32];
         let nobody = [false; 32];
         let cause = self.cause(nobody, 0, 0, &mut ready);
-        match cause.answer {
+        let answer = cause.answer;
+        match answer {
             Answer::Broken => true,
             _ => false,
         }
@@ -128,13 +130,15 @@ impl State {
     {
         let mut ready = [0u64; 32];
         let cause = self.cause(free, buffer.len(), place, &mut ready);
-        let Answer::Done = cause.answer else {
-            return self.refused(cause.answer);
+        let answer = cause.answer;
+        let Answer::Done = answer else {
+            return self.refused(answer);
         };
         let found = cause.found;
         let k = cores::how_many(free);
+        let picked = picked_of(found, k);
         let first = choice::first_left(&ready, found, k);
-        picked::put_record(&mut buffer[place..], k, &ready, found, first);
+        picked::put_record(&mut buffer[place..], k, picked, &ready, found, first);
         let late = picked::lowest_late(&ready, found, first, self.time, self.table.n);
         let placed = cores_for(buffer, place, free, self.last);
         self.one_on(buffer, place, placed, late)
@@ -142,6 +146,8 @@ impl State {
 
     // The refusal that is met, for a buffer of so many bytes; Done where none is, with the keys of the rows that are ready.
     fn cause(self, free: [bool; 32], len: usize, place: usize, ready: &mut [u64; 32]) -> Cause
+        requires { ⌜ length (now ready) ≡ 32 ⌝ }
+        ensures { λ r. ⌜ CauseIs self free len place (r .answer) (now (ready .exit)) (r .found) ⌝ }
     {
         if table::fault(self.table) != 0 {
             return refusal(Answer::Broken);
@@ -172,7 +178,8 @@ impl State {
             return refusal(Answer::NoRoom);
         }
         let found = looked.found;
-        if len - place < record_length(found, cores::how_many(free)) {
+        let picked = picked_of(found, cores::how_many(free));
+        if len - place < 2 + picked as usize {
             return refusal(Answer::NoRoom);
         }
         Cause {
@@ -194,36 +201,34 @@ impl State {
         }
     }
 
-    // The slot is over: the rows that its record names have one quantum more, time is one higher, what ran where is remembered, and lateness is judged.
-    fn one_on(self, buffer: &[u8], place: usize, placed: Placement, late: u8) -> Outcome
+    // The slot is over: the rows that its record names have one quantum more, time is one higher, what ran where is remembered, and lateness is judged: answer 1 and
+    // a stopped state if a row is late, else 0.
+    fn one_on(mut self, buffer: &[u8], place: usize, placed: Placement, late: u8) -> Outcome
+        requires { ⌜ CanStep self (now buffer) place late ⌝ }
+        ensures { λ r. ⌜ Judged (stepped self (rowsAt (now (buffer .entry)) place) placed) r ⌝ }
     {
-        self.run(buffer, place, placed).judge(late)
-    }
-
-    fn run(mut self, buffer: &[u8], place: usize, placed: Placement) -> State
-    {
-        let given = self.quanta;
-        let quanta = given_to(given, buffer, place);
+        let had = self.quanta;
+        let quanta = given_to(had, buffer, place);
         self.quanta = quanta;
         let time = self.time.later(1);
         self.time = time;
         self.last = placed;
-        self
-    }
-
-    // Answer 1 and a stopped state if a row is late, else 0.
-    fn judge(mut self, late: u8) -> Outcome
-    {
         let n = self.table.n;
         self.stopped = late < n;
         let answer = done(late, n, self.time);
-        let placed = self.last;
         Outcome {
             answer,
             placed,
             state: self,
         }
     }
+}
+
+// Where a row stands in a slot: it breaks the state, it waits, or it is ready.
+enum Stand {
+    Outside,
+    Waits,
+    Ready,
 }
 
 // Whether a row breaks the state; if not, so many rows are ready.
@@ -239,19 +244,26 @@ struct Cause {
 }
 
 fn refusal(answer: Answer) -> Cause
+    ensures { λ r. ⌜ r .answer ≡ answer ⌝ }
 {
     Cause { answer, found: 0 }
 }
 
-// How many bytes the record has if so many rows are ready and so many cores free: "the first min(free cores, ready rows) are picked".
-fn record_length(ready: usize, free: u8) -> usize
+// How many rows are picked: "the first min(free cores, ready rows) are picked".
+fn picked_of(ready: usize, free: u8) -> u8
+    ensures { λ r. ⌜ r ≡ min free ready ⌝ }
 {
-    let cores = free as usize;
-    if ready < cores { 2 + ready } else { 2 + cores }
+    if ready < free as usize {
+        ready as u8
+    } else {
+        free
+    }
 }
 
 // The quanta after the slot whose record stands at the place.
 fn given_to(quanta: [Quanta; 32], buffer: &[u8], place: usize) -> [Quanta; 32]
+    requires { ⌜ (pastRecord (now buffer) place ≤ length (now buffer)) × GivesTo (rowsAt (now buffer) place) quanta ⌝ }
+    ensures { λ r. ⌜ r ≡ counted (given (names (rowsAt (now (buffer .entry)) place)) 0 (numbersOf quanta)) ⌝ }
 {
     let first = place + 2;
     let past = first + wide(buffer[place + 1]);

@@ -1,16 +1,25 @@
 // One pass over the rows of a state: whether one breaks it, and the keys of those that are ready. Quanta and times are whole numbers of slots, and no division is
 // made for a row that waits, but for an early-release row that is ahead of its share.
 use crate::Looked;
+use crate::Stand;
 use counts::Quanta;
 use counts::Slot;
 use table::Row;
-
-// Where a row stands in a slot.
-enum Stand {
-    Outside,
-    Waits,
-    Ready,
-}
+ghost use mathlib.Core.Path.{_≡_};
+ghost use mathlib.Core.Bool.{false, cond};
+ghost use Prim.Native.Nat.{_+_, _-_, _*_, _≤_, _<_};
+ghost use lib.Dec.{ltb};
+ghost use lib.ListN.{length, take};
+ghost use Rattle.facts.specs.Counting.{some};
+ghost use Rattle.facts.specs.Rounding.{ceilDiv};
+ghost use Rattle.counts.specs.Limits.{most, timeLimit};
+ghost use Rattle.counts.specs.Numbers.{numbersOf};
+ghost use Rattle.pd2.specs.Share.{CanBe};
+ghost use Rattle.pd2.specs.Ready.{ready};
+ghost use Rattle.pd2.specs.Order.{rankOf};
+ghost use Rattle.choice.specs.Keys.{keyFor, HasKey};
+ghost use Rattle.dispatcher.specs.Broken.{ofRowAt};
+ghost use Rattle.dispatcher.specs.Usable.{Testable, brokenRow, exceeding, standOf, LooksAt, CanBeReady, Ahead, aheadStand};
 
 // The keys of the ready rows come to the front of the lent array, by rising row number. In a stopped state no row is asked for its share, and none is ready.
 pub(crate) fn look(
@@ -21,6 +30,8 @@ pub(crate) fn look(
     stopped: bool,
     ready: &mut [u64; 32],
 ) -> Looked
+    requires { ⌜ Testable rows quanta n (time .0) × (length (now ready) ≡ 32) ⌝ }
+    ensures { λ r. ⌜ LooksAt (take n rows) (numbersOf quanta) (time .0) stopped (now (ready .exit)) (r .broken) (r .found) ⌝ }
 {
     if stopped {
         let broken = has_too_many(quanta, n, time);
@@ -55,6 +66,8 @@ pub(crate) fn look(
 
 // Whether a row's quanta exceed the time.
 fn has_too_many(quanta: [Quanta; 32], n: usize, time: Slot) -> bool
+    requires { ⌜ n ≤ 32 ⌝ }
+    ensures { λ r. ⌜ r ≡ some (exceeding (numbersOf quanta) (time .0)) n ⌝ }
 {
     let mut i: usize = 0;
     while i < n {
@@ -69,13 +82,19 @@ fn has_too_many(quanta: [Quanta; 32], n: usize, time: Slot) -> bool
 
 // Whether a row breaks the state, waits or is ready, by products.
 fn stands(row: Row, given: u64, time: u64) -> Stand
+    requires { ⌜ CanBe row × (time ≤ timeLimit) ⌝ }
+    ensures { λ r. ⌜ r ≡ standOf (brokenRow false time row given) (ready row given time) ⌝ }
 {
     if time < given {
         return Stand::Outside;
     }
     let phase = row.phase as u64;
     if time < phase {
-        return if given == 0 { Stand::Waits } else { Stand::Outside };
+        return if given == 0 {
+            Stand::Waits
+        } else {
+            Stand::Outside
+        };
     }
     let elapsed = time - phase;
     let cost = row.cost as u64;
@@ -94,11 +113,18 @@ fn stands(row: Row, given: u64, time: u64) -> Stand
     if had < share + cost {
         return Stand::Ready;
     }
-    if had < share + period { Stand::Waits } else { Stand::Outside }
+    if had < share + period {
+        Stand::Waits
+    } else {
+        Stand::Outside
+    }
 }
 
-// The same of an early-release row that is ahead of its share.
+// The same of an early-release row that is ahead of its share, by the cost of the jobs released. Where it has had all of that, it waits: a job that begins now would
+// leave it no longer ahead.
 fn stands_ahead(cost: u64, period: u64, given: u64, elapsed: u64) -> Stand
+    requires { ⌜ Ahead cost period elapsed ⌝ }
+    ensures { λ r. ⌜ r ≡ aheadStand cost period given elapsed ⌝ }
 {
     let jobs = (elapsed + (period - 1)) / period;
     let released = jobs * cost;
@@ -108,11 +134,13 @@ fn stands_ahead(cost: u64, period: u64, given: u64, elapsed: u64) -> Stand
     if released < given {
         return Stand::Outside;
     }
-    if elapsed < jobs * period { Stand::Waits } else { Stand::Ready }
+    Stand::Waits
 }
 
 // The key of a ready row: what its next quantum still lacks says when it is due.
 fn key(row: Row, i: usize, given: u64, time: u64) -> u64
+    requires { ⌜ CanBeReady row i given time ⌝ }
+    ensures { λ r. ⌜ (r ≡ keyFor (rankOf row i given)) × (r < most) × HasKey (rankOf row i given) ⌝ }
 {
     let cost = row.cost as u64;
     let period = row.period as u64;
@@ -126,7 +154,10 @@ fn key(row: Row, i: usize, given: u64, time: u64) -> u64
     packed(2 * whole + 2, far(cost, period, rest), i)
 }
 
+// How far the group deadline lies behind the deadline, of which so much of a slot is lacking.
 fn far(cost: u64, period: u64, rest: u64) -> u64
+    requires { ⌜ (0 < rest) × (rest < cost) × (cost < period) × (period < 65_536) ⌝ }
+    ensures { λ r. ⌜ (r ≡ cond (ltb (2 * cost) period) 0 (ceilDiv (cost - rest) (period - cost))) × (r < 65_536) ⌝ }
 {
     if 2 * cost < period {
         return 0;
@@ -135,7 +166,10 @@ fn far(cost: u64, period: u64, rest: u64) -> u64
     (cost - rest + (gap - 1)) / gap
 }
 
+// Deadline and bit in one, group deadline and row: the key.
 fn packed(class: u64, far: u64, row: usize) -> u64
+    requires { ⌜ (class < 4_000_000_000_000) × (far < 65_536) × (row < 64) ⌝ }
+    ensures { λ r. ⌜ (r ≡ (class * 65_536 + (65_535 - far)) * 64 + row) × (r < most) ⌝ }
 {
     (class * 65_536 + (65_535 - far)) * 64 + row as u64
 }

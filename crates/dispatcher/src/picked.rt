@@ -1,17 +1,39 @@
 // What is done with the rows that are picked: those whose keys lie before the first that is left out.
 use counts::Quanta;
 use counts::Slot;
+ghost use mathlib.Core.Path.{_≡_};
+ghost use mathlib.Core.Bool.{not, _&&_};
+ghost use Prim.Native.Nat.{_+_, _≤_};
+ghost use lib.Dec.{ltb};
+ghost use lib.ListN.{length};
+ghost use Rattle.counts.specs.Limits.{timeLimit};
+ghost use Rattle.counts.specs.Numbers.{numbersOf, counted};
+ghost use Rattle.pd2.specs.Choice.{given};
+ghost use Rattle.trace.specs.Record.{recordOf, withFront};
+ghost use Rattle.trace.specs.Records.{names};
+ghost use Rattle.dispatcher.specs.Usable.{rowsBefore, isDue, dueSoon, LateRow, GivesTo};
 
 // Writes the record of a slot to the front of the lent part: cores free, rows picked and their numbers.
-pub(crate) fn put_record(part: &mut [u8], k: u8, keys: &[u64; 32], found: usize, first: u64)
+pub(crate) fn put_record(
+    part: &mut [u8],
+    k: u8,
+    picked: u8,
+    keys: &[u64; 32],
+    found: usize,
+    first: u64,
+)
+    requires { ⌜ (found ≤ 32) × (picked ≡ length (rowsBefore (now keys) found first)) × (2 + picked ≤ length (now part)) ⌝ }
+    ensures { λ _. ⌜ now (part .exit) ≡ withFront (now (part .entry)) (recordOf k (rowsBefore (now (keys .entry)) found first)) ⌝ }
 {
-    let picked = put_rows(&mut part[2..], keys, found, first);
     part[0] = k;
-    part[1] = picked as u8;
+    part[1] = picked;
+    put_rows(&mut part[2..], keys, found, first);
 }
 
-// Writes the numbers of the picked rows, and says how many they are.
-fn put_rows(part: &mut [u8], keys: &[u64; 32], found: usize, first: u64) -> usize
+// Writes the numbers of the picked rows to the front of the part.
+fn put_rows(part: &mut [u8], keys: &[u64; 32], found: usize, first: u64)
+    requires { ⌜ (found ≤ 32) × (length (rowsBefore (now keys) found first) ≤ length (now part)) ⌝ }
+    ensures { λ _. ⌜ now (part .exit) ≡ withFront (now (part .entry)) (rowsBefore (now (keys .entry)) found first) ⌝ }
 {
     let mut at: usize = 0;
     let mut j: usize = 0;
@@ -23,12 +45,13 @@ fn put_rows(part: &mut [u8], keys: &[u64; 32], found: usize, first: u64) -> usiz
         }
         j += 1;
     }
-    at
 }
 
-// The lowest row that is late after the slot, or n where none is: a row that is left out and due at its end. If the first that is left out is due later, so are the
-// others.
+// The lowest row that is late after the slot, or n where none is: a row that is left out and due at the slot's end. If the first that is left out is due later, so
+// are all.
 pub(crate) fn lowest_late(keys: &[u64; 32], found: usize, first: u64, slot: Slot, n: u8) -> u8
+    requires { ⌜ (found ≤ 32) × (slot .0 ≤ timeLimit) ⌝ }
+    ensures { λ r. ⌜ LateRow (now (keys .entry)) found first (dueSoon (slot .0)) n r ⌝ }
 {
     let soon = (2 * slot.time() + 4) * 4_194_304;
     if soon <= first {
@@ -37,7 +60,7 @@ pub(crate) fn lowest_late(keys: &[u64; 32], found: usize, first: u64, slot: Slot
     let mut j: usize = 0;
     while j < found {
         let key = keys[j];
-        if is_between(first, key, soon) {
+        if is_due(first, key, soon) {
             return (key % 64) as u8;
         }
         j += 1;
@@ -45,7 +68,8 @@ pub(crate) fn lowest_late(keys: &[u64; 32], found: usize, first: u64, slot: Slot
     n
 }
 
-fn is_between(first: u64, key: u64, soon: u64) -> bool
+fn is_due(first: u64, key: u64, soon: u64) -> bool
+    ensures { λ r. ⌜ r ≡ isDue first soon key ⌝ }
 {
     if key < first {
         return false;
@@ -55,6 +79,8 @@ fn is_between(first: u64, key: u64, soon: u64) -> bool
 
 // One quantum more for each of these rows.
 pub(crate) fn give(mut quanta: [Quanta; 32], rows: &[u8]) -> [Quanta; 32]
+    requires { ⌜ GivesTo (now rows) quanta ⌝ }
+    ensures { λ r. ⌜ r ≡ counted (given (names (now (rows .entry))) 0 (numbersOf quanta)) ⌝ }
 {
     let mut j: usize = 0;
     while j < rows.len() {

@@ -44,6 +44,16 @@ module _ (row : Row) (q t : ℕ) where
   pub not-late-before-deadline : t < deadline (row .cost) (row .period) (originOf row) (q + 1) → late row q t ≡ false
   not-late-before-deadline l = late-from-deadline ∙ lt-leb _ t l
 
+  -- A row is ready only from its origin on.
+  pub ready-is-past-origin : ready row q t ≡ true → originOf row ≤ t
+  unfolding start jobStart
+  ready-is-past-origin h = go (isEarlyRelease row) (leb-true _ t (sym ready-from-start ∙ h))
+    where
+      go : (isEarly : Bool) → cond isEarly (jobStart (row .cost) (row .period) (originOf row) (q + 1)) (start (row .cost) (row .period) (originOf row) (q + 1)) ≤ t →
+          originOf row ≤ t
+      go true l = omega (arith, l)
+      go false l = omega (arith, l)
+
   -- A row that is ready is due within a period.
   pub ready-is-due-within-period : 0 < row .cost → ready row q t ≡ true → deadline (row .cost) (row .period) (originOf row) (q + 1) ≤ t + row .period
   ready-is-due-within-period he h = go (isEarlyRelease row) (leb-true _ t (sym ready-from-start ∙ h))

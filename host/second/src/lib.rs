@@ -51,7 +51,7 @@
 //! | `slots_limit_4097` | `printer::MOST_SLOTS` | 4,097 slots are taken |
 //! | `record_begins_at_0` | `trace::record` | every part is said to begin at 0 |
 //! | `kinds_above_1_early` | `table::Row::early_release` | any kind above 0 is early release |
-//! | `reach_one_less` | `questions::in_reach` | 2^46 itself is not answered |
+//! | `reach_one_less` | `questions::in_reach` | 2^40 itself is not answered |
 //! | `lowest_core_first` | `cores::place` | each row takes the lowest free core, whoever stays |
 //! | `set_as_8_bits` | `slot::slot_on` | the set cut to its low 8 bits |
 //! | `memory_kept` | `slot::slot_on` | a slot that picks nobody keeps the old memory |

@@ -13,9 +13,9 @@ use crate::slot;
 use crate::table::Row;
 use crate::windows;
 
-/// "the numbers asked with it (quanta, and origin or time) are each at or below 2^46 =
-/// 70,368,744,177,664"
-const REACH: u64 = 70_368_744_177_664;
+/// "the numbers asked with it (quanta, and origin or time) are each at or below 2^40 =
+/// 1,099,511,627,776"
+const REACH: u64 = 1_099_511_627_776;
 
 /// "the first min(k, 8) in 01's order are picked"
 const MOST_PICKED: u8 = 8;
@@ -49,7 +49,7 @@ pub struct RowAnswer {
 // ---- one row ----
 
 fn in_reach(number: u64) -> bool {
-    // slip: 2^46 itself is not answered
+    // slip: 2^40 itself is not answered
     if cfg!(slip = "reach_one_less") {
         return number < REACH;
     }
@@ -57,7 +57,7 @@ fn in_reach(number: u64) -> bool {
 }
 
 /// "A question about one row is answered if 0 < e, e is at or below p, and the numbers asked with
-/// it (quanta, and origin or time) are each at or below 2^46".
+/// it (quanta, and origin or time) are each at or below 2^40".
 fn answered(e: u16, p: u16, quanta: u64, origin_or_time: u64) -> bool {
     0 < e && e <= p && in_reach(quanta) && in_reach(origin_or_time)
 }
@@ -69,7 +69,7 @@ pub fn next_window(e: u16, p: u16, origin: u64, quanta: u64) -> Option<NextWindo
         return None;
     }
     let i = slot::next_subtask(quanta);
-    // i·p is at most about 2^62 and the origin 2^46, so that every time fits in 64 bits
+    // i·p is at most about 2^56 and the origin 2^40, so that every time fits in 64 bits
     Some(NextWindow {
         start: windows::start(e, p, origin, i) as u64,
         deadline: windows::deadline(e, p, origin, i) as u64,
@@ -163,7 +163,7 @@ pub fn write(part: &mut [u8], k: u8, marks: &[bool; 32]) -> u8 {
 mod tests {
     use super::*;
 
-    const REACHED: u64 = 1 << 46;
+    const REACHED: u64 = 1 << 40;
 
     fn row(cost: u16, period: u16, phase: u16, kind: u8) -> Row {
         Row {
@@ -211,7 +211,7 @@ mod tests {
     }
 
     #[test]
-    fn the_reach_is_2_to_the_46th() {
+    fn the_reach_is_2_to_the_40th() {
         assert_eq!(REACH, REACHED);
     }
 
@@ -257,35 +257,35 @@ mod tests {
 
     #[test]
     fn next_windows_at_the_end_of_the_reach() {
-        // 2^46 + 2^46·65,535 = 2^62
-        let far = 4_611_686_018_427_387_904;
+        // 2^40 + 2^40·65,535 = 2^56
+        let far = 72_057_594_037_927_936;
         assert_eq!(
             asked(1, 65535, REACHED, REACHED),
             (far, far + 65_535, 0, far, 0)
         );
-        // 2^46 quanta are 2^45 whole jobs of 2/3: 2^46 + 3·2^45 = 5·2^45
-        let job = 175_921_860_444_160;
+        // 2^40 quanta are 2^39 whole jobs of 2/3: 2^40 + 3·2^39 = 5·2^39
+        let job = 2_748_779_069_440;
         assert_eq!(
             asked(2, 3, REACHED, REACHED),
             (job, job + 2, 1, job, job + 3)
         );
-        // 2^46 - 2 = (2^16 - 2)·(2^30 + 2^15 + 1): so many whole jobs of 65,534, two quanta more
-        let job = 65_535 * 1_073_774_593;
+        // 2^40 - 2^10 = (2^16 - 2)·(2^24 + 2^9): so many whole jobs of 65,534, 1,024 quanta more
+        let job = 65_535 * 16_777_728;
         assert_eq!(
             asked(65534, 65535, 0, REACHED),
-            (job + 2, job + 4, 1, job, job + 65_535)
+            (job + 1_024, job + 1_026, 1, job, job + 65_535)
         );
-        // with two quanta less the whole job is walked, here from the last origin
+        // with 1,024 quanta less the whole job is walked, here from the last origin
         let job = REACHED + job;
         assert_eq!(
-            asked(65534, 65535, REACHED, REACHED - 2),
+            asked(65534, 65535, REACHED, REACHED - 1_024),
             (job, job + 2, 1, job, job + 65_535)
         );
-        // 2^46 = 65,535·j + 16,384: with e = p so many quanta into the job
+        // 2^40 = 65,535·j + 256: with e = p so many quanta into the job
         let far = 2 * REACHED;
         assert_eq!(
             asked(65535, 65535, REACHED, REACHED),
-            (far, far + 1, 0, far - 16_384, far + 1)
+            (far, far + 1, 0, far - 256, far + 1)
         );
     }
 
@@ -349,7 +349,7 @@ mod tests {
         for &(e, p) in &[(0, 0), (0, 1), (0, 65535), (1, 0), (2, 1), (65535, 65534)] {
             assert_eq!(next_window(e, p, 0, 0), None);
         }
-        for &beyond in &[REACHED + 1, 1 << 47, u64::MAX] {
+        for &beyond in &[REACHED + 1, 1 << 41, u64::MAX] {
             assert_eq!(next_window(2, 3, beyond, 0), None);
             assert_eq!(next_window(2, 3, 0, beyond), None);
             assert_eq!(next_window(3, 3, beyond, beyond), None);
@@ -524,16 +524,13 @@ mod tests {
 
     #[test]
     fn picks_at_the_end_of_the_reach() {
-        // 2^46 = 65,535·j + 16,384 (2^16 leaves 1): the job that holds the next quantum of row 0,
+        // 2^40 = 65,535·j + 256 (2^16 leaves 1): the job that holds the next quantum of row 0,
         // and of row 1 with one quantum more, has begun; but row 1 is not answered
         let rows = rows_of(&[(65535, 65535, 0, 1), (65535, 65535, 0, 1)]);
         let quanta = quanta_of(&[REACHED, REACHED + 1]);
         assert_eq!(picks(&rows, &quanta, 2, REACHED, 8), marks_of(&[0]));
-        assert_eq!(
-            picks(&rows, &quanta, 2, REACHED - 16_384, 8),
-            marks_of(&[0])
-        );
-        assert_eq!(picks(&rows, &quanta, 2, REACHED - 16_385, 8), marks_of(&[]));
+        assert_eq!(picks(&rows, &quanta, 2, REACHED - 256, 8), marks_of(&[0]));
+        assert_eq!(picks(&rows, &quanta, 2, REACHED - 257, 8), marks_of(&[]));
         assert_eq!(picks(&rows, &quanta, 2, REACHED + 1, 8), marks_of(&[]));
         let rows = [row(1, 2, 0, 0); 32];
         assert_eq!(picks(&rows, &[0; 32], 32, u64::MAX, 8), marks_of(&[]));

@@ -172,7 +172,7 @@ fn rounded_up(dividend: u128, divisor: u128) -> u128 {
 /// with the job at the latest, whose last window has b = 0; with e = p every window has b = 0, and
 /// it ends at once.
 ///
-/// It may be asked for every e, p and f, and for i up to 2^46 + 1, the next subtask after the most
+/// It may be asked for every e, p and f, and for i up to 2^40 + 1, the next subtask after the most
 /// quanta that a question is answered for; the last subtask it can meet is i + e - 1. Without a
 /// window (e = 0, e above p, i = 0) D is 0, whatever the other numbers.
 pub(crate) fn walked_group_deadline(e: u16, p: u16, f: u64, i: u64) -> u128 {
@@ -388,7 +388,7 @@ mod tests {
 
     #[test]
     fn the_group_deadline_moves_by_the_origin() {
-        for &origin in &[1, 65_536, 70_368_744_177_664, u64::MAX] {
+        for &origin in &[1, 65_536, 1_099_511_627_776, u64::MAX] {
             for &(e, p) in &[(1, 2), (2, 3), (8, 11), (65_534, 65_535), (9, 9)] {
                 for i in 1..=20 {
                     let moved = group_deadline(e, p, origin, i) - u128::from(origin);

@@ -1,11 +1,7 @@
-use native.Mathlib.Omega.{arith}
 use mathlib.Core.Path.{refl}
 use borrow.Author.Tests.{lt-ltb, le-ltb}
 use Rattle.dispatcher.proofs.done.Statement.{statement}
 use Rattle.dispatcher.proofs.done.Tie as tie
-
-cast-row : tie.Need-cast-row
-cast-row c = omega arith
 
 returns : tie.Need-returns
 returns c = rw (lt-ltb (c .before .args .late) (c .before .args .n) (c .if1 .taken)) refl
@@ -14,4 +10,4 @@ returns-2 : tie.Need-returns-2
 returns-2 c = rw (le-ltb (c .before .args .late) (c .before .args .n) (c .if1 .left)) refl
 
 pub done-spec : {M : Type 1} → statement M
-done-spec = tie.close (tie.spec cast-row returns returns-2)
+done-spec = tie.close (tie.spec returns returns-2)

@@ -1,81 +1,56 @@
-use mathlib.Core.Path.{_≡_, sym, ap, _∙_}
-use Prim.Native.Nat.{_≤_}
+use mathlib.Core.Path.{_≡_, refl, sym, ap, _∙_}
+use mathlib.Core.List.{[], _∷_}
+use mathlib.Core.Bool.{Bool, true, false}
+use native.Mathlib.Decide.{ℕ-discrete}
 use native.Mathlib.Omega.{arith}
-use lib.Dec.{ltb}
-use lib.ListN.{length-map}
-use Rattle.counts.specs.Limits.{timeLimit}
-use Rattle.table.specs.Value.{faultOf}
-use Rattle.choice.specs.Arrays.{InPlace}
-use Rattle.cores.specs.Fault.{misremembers}
-use Rattle.dispatcher.specs.State.{timeOf}
-use Rattle.dispatcher.proofs.BrokenBy.{by-fault, by-time, in-place, testable, by-rows, by-memory}
+use denote.Enum.Declared.{tagOf}
+use types.Run.{OneOf, miss}
+use Rattle.dispatcher.specs.declared.Answer.{Answer}
+use Rattle.dispatcher.specs.declared.Answer.the-variants.{Done, Late, Broken, Stopped, AtLimit, NoSuchCore, NoRoom}
+use Rattle.dispatcher.proofs.Answer.{the-type}
+use Rattle.dispatcher.specs.Answer.{saidOf}
+use Rattle.dispatcher.specs.Broken.{broken}
+use Rattle.dispatcher.proofs.Refused.{first-30, broken-if-30}
 use borrow.Author.Needs.{needs}
 use Rattle.dispatcher.proofs.State.is_broken.Statement.{statement}
 use Rattle.dispatcher.proofs.State.is_broken.Tie as tie
 
-fault-requires : tie.Need-fault-requires
-fault-requires c κs = search needs
+cause-requires : tie.Need-cause-requires
+cause-requires c κs = refl
 
--- what is known past the tests of the table and the time
-no-fault : (c : tie.Else1) → faultOf (c .before .before .args .self .table) ≡ 0
-no-fault c = sym (c .before .fault .ensures) ∙ c .if1 .left
-
-in-time : (c : tie.Else2) → timeOf (c .before .before .before .before .args .self) ≤ timeLimit
-in-time c = omega (arith, c .if2 .left, c .before .time .ensures)
+enum-told : tie.Need-enum-told
+enum-told c = search needs
 
 returns : tie.Need-returns
-returns c = by-fault _ (λ none. c .if1 .taken (c .before .fault .ensures ∙ none))
+returns c =
+    let caused = c .before .before in
+    let s = caused .before .before .args .self in
+    let number : saidOf (caused .cause .result .answer) .number ≡ 30 = ap (λ a. saidOf a .number) (c .enum-told .given .1) in
+    let said = caused .cause .ensures .refuses (λ none. omega (arith, number)) [] refl in
+    sym (broken-if-30 s _ [] 0 (ap (λ x. x .number) (sym said) ∙ number))
 
-time-requires : tie.Need-time-requires
-time-requires c κs = search needs
+-- an answer other than `Broken` has another number
+other-number : (a : Answer) → OneOf (0 ∷ 1 ∷ 3 ∷ 4 ∷ 5 ∷ 6 ∷ []) (tagOf the-type a) → saidOf a .number ≡ 30 → ⊥
+other-number Done h same = absurd (omega arith)
+other-number (Late row time) h same = absurd (omega arith)
+other-number Broken h same = miss (0 ∷ 1 ∷ 3 ∷ 4 ∷ 5 ∷ 6 ∷ []) 2 tt h
+other-number Stopped h same = absurd (omega arith)
+other-number AtLimit h same = absurd (omega arith)
+other-number NoSuchCore h same = absurd (omega arith)
+other-number NoRoom h same = absurd (omega arith)
 
 returns-2 : tie.Need-returns-2
-returns-2 c = by-time _ (no-fault (c .before .before)) (omega (arith, c .if2 .taken, c .before .time .ensures))
-
-cast-n : tie.Need-cast-n
-cast-n c = omega arith
-
--- the arrays of a state have 32 places
-arrays : (c : tie.After-quanta) → let s = c .before .before .before .before .before .before .before .args .self in InPlace (s .table .rows) (s .quanta) (s .table .n)
-arrays c =
-    let passed = c .before .before .before in
-    let a = passed .before .before .before .before in
-    in-place (a .args .self) (no-fault (passed .before .before))
-    (sym (length-map (a .args .self .table .rows) _) ∙ a .good .0 .1 .1 .0 .1 .1 .1 .1 .1 .1 .0 .1 .0 .1)
-    (sym (length-map (a .args .self .quanta) _) ∙ a .good .0 .1 .1 .1 .1 .1 .0 .1 .0 .1)
-
-has-broken-row-requires : tie.Need-has-broken-row-requires
-has-broken-row-requires c κs =
-    let passed = c .before .before .before in
-    testable (passed .before .before .before .before .args .self) (no-fault (passed .before .before)) (arrays c) (in-time passed)
-
-returns-3 : tie.Need-returns-3
-returns-3 c =
-    let passed = c .before .before .before .before .before in
-    by-rows _ (no-fault (passed .before .before)) (in-time passed) (sym (c .before .has-broken-row .ensures) ∙ c .if3 .taken)
-
-is-faulty-requires : tie.Need-is-faulty-requires
-is-faulty-requires c κs = search needs
-
-returns-4 : tie.Need-returns-4
-returns-4 c =
-    let judged = c .before .before in
-    let passed = judged .before .before .before .before in
-    let s = passed .before .before .before .before .args .self in
-    c .is-faulty .ensures
-    ∙ (ap (λ n. misremembers (s .last) (λ row. ltb row n) (s .table .cores)) (sym (arrays (judged .before) .all))
-    ∙ by-memory s (no-fault (passed .before .before)) (in-time passed) (sym (judged .has-broken-row .ensures) ∙ c .before .if3 .left))
+returns-2 c = sym (go (broken (c .before .before .before .args .self)) refl)
+  where
+    go : (b : Bool) → broken (c .before .before .before .args .self) ≡ b → broken (c .before .before .before .args .self) ≡ false
+    go false e = e
+    go true e = here (ℕ-discrete (saidOf (c .before .cause .result .answer) .number) 0)
+      where
+        here : Dec (saidOf (c .before .cause .result .answer) .number ≡ 0) → broken (c .before .before .before .args .self) ≡ false
+        here (yes none) = c .before .cause .ensures .admits none .whole
+        here (no some) =
+            let said = c .before .cause .ensures .refuses some [] refl in
+            absurd (other-number (c .before .cause .result .answer) (c .match .keys2) (ap (λ x. x .number) said ∙ first-30 _ _ [] 0 e))
 
 pub is-broken-spec : {M : Type 1} → statement M
-is-broken-spec =
-    tie.close
-    (tie.spec
-    fault-requires
-    returns
-    time-requires
-    returns-2
-    cast-n
-    has-broken-row-requires
-    returns-3
-    is-faulty-requires
-    returns-4)
+is-broken-spec = tie.close (tie.spec cause-requires enum-told returns returns-2)

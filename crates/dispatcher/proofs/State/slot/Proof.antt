@@ -1,37 +1,32 @@
 use mathlib.Core.Path.{_≡_, refl, sym, ap, ap₂, _∙_}
-use mathlib.Core.List.{List, [], _∷_, _++_}
+use mathlib.Core.List.{List, [], _∷_}
 use Prim.Native.Nat.{ℕ, _-_}
 use native.Mathlib.Omega.{arith}
 use denote.Enum.Declared.{tagOf}
 use types.Run.{OneOf, miss}
-use lib.ListN.{length, take, length-map}
+use lib.ListN.{length, length-map, length-drop}
 use borrow.Rule.Slice.PartMut.{putMid}
 use Rattle.facts.proofs.Lent.{lent-from, comes-back}
-use Rattle.table.proofs.Taken.{sizes-are-within}
-use Rattle.trace.specs.declared.Stored.the-variants as stored
+use Rattle.trace.specs.Record.{marked, withRecord}
 use Rattle.cores.specs.Sets.{size}
 use Rattle.cores.specs.Cores.{placedFor}
-use Rattle.cores.proofs.Sets.{size-within}
-use Rattle.dispatcher.specs.declared.State.{State}
 use Rattle.dispatcher.specs.declared.Answer.{Answer}
 use Rattle.dispatcher.specs.declared.Answer.the-variants.{Done, Late, Broken, Stopped, AtLimit, NoSuchCore, NoRoom}
 use Rattle.dispatcher.proofs.Answer.{the-type}
-use Rattle.trace.specs.Record.{marked, withRecord}
-use Rattle.trace.specs.Said.{bare}
 use Rattle.dispatcher.specs.Answer.{saidOf}
-use Rattle.dispatcher.specs.Slot.{picksIn, recordIn, refusal, stepped}
+use Rattle.dispatcher.specs.Slot.{recordIn, stepped}
 use Rattle.dispatcher.specs.Usable.{UsableState, Admitted}
-use Rattle.dispatcher.proofs.Ran.{marks-are-rows}
-use Rattle.dispatcher.proofs.Refused.{refused-gives, done-gives, no-room, has-room}
+use Rattle.dispatcher.proofs.Refused.{refused-gives, done-gives}
 use Rattle.dispatcher.proofs.Whole.{is-whole, is-usable}
 use Rattle.dispatcher.proofs.BrokenBy.{in-place}
-use Rattle.dispatcher.proofs.Kept.{Goes, goes, record-inside, record-names-picks}
+use Rattle.dispatcher.proofs.Kept.{record-inside, record-names-picks}
+use Rattle.dispatcher.proofs.Ending.{goes-on, not-refused, left-out, as-many-picked, has-room, record-stands, can-step}
 use borrow.Author.Needs.{needs}
 use Rattle.dispatcher.proofs.State.slot.Statement.{statement}
 use Rattle.dispatcher.proofs.State.slot.Tie as tie
 
 cause-requires : tie.Need-cause-requires
-cause-requires c κs = search needs
+cause-requires c κs = refl
 
 enum-told : tie.Need-enum-told
 enum-told c = search needs
@@ -51,20 +46,23 @@ has-number NoRoom h none = absurd (omega arith)
 
 returns : tie.Need-returns
 returns c =
-    let a = c .before .before .before .before .args in
-    let cause = c .before .before .cause in
-    let refuses = has-number (cause .result) (c .before .match .keys2) in
-    refused-gives (a .self) (a .free) (a .buffer .now) (a .place) (cause .result) refuses (cause .ensures .refuses refuses (a .buffer .now) refl) (c .refused .ensures) refl
+    let caused = c .before .before in
+    let a = caused .before .before .before .args in
+    let refuses = has-number (caused .cause .result .answer) (c .before .match .keys2) in
+    refused-gives (a .self) (a .free) (a .buffer .now) (a .place) (caused .cause .result .answer) refuses (caused .cause .ensures .refuses refuses (a .buffer .now) refl) (c .refused .ensures) refl
 
 -- what is known past the tests
-admitted : (c : tie.After-enum-told) →
-    let a = c .before .before .before .before .args in
-    Admitted (a .self) (a .free) (length (a .buffer .now)) (a .place)
-admitted c = c .before .before .cause .ensures .admits (ap (λ answer. saidOf answer .number) (c .enum-told .given .1))
+no-number : (c : tie.After-enum-told) → saidOf (c .before .before .cause .result .answer) .number ≡ 0
+no-number c = ap (λ answer. saidOf answer .number) (c .enum-told .given .1)
 
-usable : (c : tie.After-enum-told) → UsableState (c .before .before .before .before .args .self)
+admitted : (c : tie.After-enum-told) →
+    let a = c .before .before .before .before .before .args in
+    Admitted (a .self) (a .free) (length (a .buffer .now)) (a .place)
+admitted c = c .before .before .cause .ensures .admits (no-number c)
+
+usable : (c : tie.After-enum-told) → UsableState (c .before .before .before .before .before .args .self)
 usable c =
-    let a = c .before .before .before .before in
+    let a = c .before .before .before .before .before in
     let w = is-whole _ (admitted c .whole) in
     is-usable (a .args .self) w
     (in-place (a .args .self) (w .table)
@@ -74,111 +72,93 @@ usable c =
 how-many-requires : tie.Need-how-many-requires
 how-many-requires c κs = search needs
 
-picks-requires : tie.Need-picks-requires
-picks-requires c κs =
-    let a = c .before .before .before .before .before .args in
-    let passed = admitted (c .before) in
-    let within = sizes-are-within (a .self .table) (is-whole (a .self) (passed .whole) .table) in
-    (usable (c .before), omega (arith, within .1 .1, c .how-many .ensures .0, size-within (a .self .table .cores) (a .free) (passed .there)))
+picked-of-requires : tie.Need-picked-of-requires
+picked-of-requires c κs = search needs
 
--- the marks are those of the rows that PD2 picks, with k the size of the set
-picked : (c : tie.After-picks) → let a = c .before .before .before .before .before .before .args in marked (c .picks .result) ≡ picksIn (a .self) (size (a .free))
-picked c = c .picks .ensures ∙ ap (picksIn (c .before .before .before .before .before .before .args .self)) (c .before .how-many .ensures .0)
+first-left-requires : tie.Need-first-left-requires
+first-left-requires c κs = search needs
 
-sub-write : tie.Need-sub-write
-sub-write c = admitted (c .before .before) .inside
+sub-put-record : tie.Need-sub-put-record
+sub-put-record c = admitted (c .before .before .before .before) .inside
 
-part-write-start : tie.Need-part-write-start
-part-write-start c = admitted (c .before .before) .inside
+part-put-record-start : tie.Need-part-put-record-start
+part-put-record-start c = admitted (c .before .before .before .before) .inside
 
-part-write-end : tie.Need-part-write-end
-part-write-end c = search needs
+part-put-record-end : tie.Need-part-put-record-end
+part-put-record-end c = search needs
 
-write-requires : tie.Need-write-requires
-write-requires c κs = search needs
+put-record-requires : tie.Need-put-record-requires
+put-record-requires c κs =
+    let left = c .before .before in
+    let picked = left .before .before in
+    let counted = picked .before in
+    let told = counted .before in
+    let a = told .before .before .before .before .before .args in
+    let so = admitted told in
+    let ready = told .before .before .cause .ensures .ready (no-number told) in
+    let all = counted .how-many .ensures .0 in
+    let first = left-out (a .self) (a .free) (a .buffer .now) (a .place) so ready all (left .first-left .ensures) in
+    let room = has-room (a .self) (a .free) (a .buffer .now) (a .place) so ready all first (picked .picked-of .ensures) in
+    (ready .few, as-many-picked (a .self) (a .free) (a .buffer .now) (a .place) so ready all first (picked .picked-of .ensures), rw (lent-from (a .buffer .now) (a .place), length-drop (a .place) (a .buffer .now)) room)
 
-enum-told-2 : tie.Need-enum-told-2
-enum-told-2 c = search needs
+lowest-late-requires : tie.Need-lowest-late-requires
+lowest-late-requires c κs =
+    let told = c .before .before .before .before .before .before .before .before .before .before in
+    (told .before .before .cause .ensures .ready (no-number told) .few, omega (arith, admitted told .slot-left))
 
-enum-told-3 : tie.Need-enum-told-3
-enum-told-3 c = search needs
+-- the record stands in the buffer
+stands : (c : tie.After-put-record) →
+    let a = c .before .before .before .before .before .before .before .before .before .before .before .before .args in
+    putMid (a .place) (length (a .buffer .now) - a .place) (a .buffer .now) (c .put-record .last .0) ≡ withRecord (a .buffer .now) (a .place) (recordIn (a .self) (size (a .free)))
+stands c =
+    let left = c .before .before .before in
+    let picked = left .before .before in
+    let counted = picked .before in
+    let told = counted .before in
+    let a = told .before .before .before .before .before .args in
+    let so = admitted told in
+    let ready = told .before .before .cause .ensures .ready (no-number told) in
+    let all = counted .how-many .ensures .0 in
+    let first = left-out (a .self) (a .free) (a .buffer .now) (a .place) so ready all (left .first-left .ensures) in
+    comes-back (a .buffer .now) (a .place) (c .put-record .last .0)
+    ∙ record-stands (a .self) (a .free) (a .buffer .now) (a .place) so ready all first (rw (lent-from (a .buffer .now) (a .place)) at (c .put-record .ensures))
 
-refused-requires-2 : tie.Need-refused-requires-2
-refused-requires-2 c κs = search needs
+cores-for-requires : tie.Need-cores-for-requires
+cores-for-requires c κs =
+    let wrote = c .before .before .before .before .before in
+    let told = wrote .before .before .before .before .before .before .before in
+    let a = told .before .before .before .before .before .args in
+    record-inside (a .self) (a .free) (a .buffer .now) (a .place) (goes-on (a .self) (a .free) (a .buffer .now) (a .place) (admitted told)) (stands wrote)
+
+one-on-requires : tie.Need-one-on-requires
+one-on-requires c κs =
+    let late = c .before .before .before in
+    let wrote = late .before .before .before .before in
+    let left = wrote .before .before .before in
+    let picked = left .before .before in
+    let counted = picked .before in
+    let told = counted .before in
+    let a = told .before .before .before .before .before .args in
+    let so = admitted told in
+    let ready = told .before .before .cause .ensures .ready (no-number told) in
+    let all = counted .how-many .ensures .0 in
+    let first = left-out (a .self) (a .free) (a .buffer .now) (a .place) so ready all (left .first-left .ensures) in
+    can-step (a .self) (a .free) (a .buffer .now) (a .place) so ready all first (usable told) (stands wrote) (late .lowest-late .ensures)
 
 same-length : tie.Need-same-length
 same-length c = search needs
 
--- what was written, as the record in the whole buffer
-not-written : (c : tie.After-slice-known2) → c .before .before .write .result ≡ stored.NoRoom →
-    let a = c .before .before .before .before .before .before .before .before .before .before .args in
-    (refusal (a .self) (a .free) (a .buffer .now) (a .place) ≡ 34) × (take (a .place) (a .buffer .now) ++ c .before .before .write .last .0 ≡ a .buffer .now)
-not-written c e =
-    let marks = c .before .before .before .before in
-    let passed = admitted (marks .before .before) in
-    let a = marks .before .before .before .before .before .before .args in
-    let wrote = rw (lent-from (a .buffer .now) (a .place), marks .before .how-many .ensures .0) at (c .before .before .write .ensures) in
-    no-room (a .self) (a .free) (a .buffer .now) (a .place) (passed .whole) (passed .runs) (passed .slot-left) (passed .there) (passed .inside) (picked marks) (c .before .before .write .result) (wrote .0) (wrote .1) e
-
-is-written : (c : tie.After-slice-known2) → c .before .before .write .result ≡ stored.Written →
-    let a = c .before .before .before .before .before .before .before .before .before .before .args in
-    (refusal (a .self) (a .free) (a .buffer .now) (a .place) ≡ 0)
-    × (take (a .place) (a .buffer .now) ++ c .before .before .write .last .0 ≡ withRecord (a .buffer .now) (a .place) (recordIn (a .self) (size (a .free))))
-is-written c e =
-    let marks = c .before .before .before .before in
-    let passed = admitted (marks .before .before) in
-    let a = marks .before .before .before .before .before .before .args in
-    let wrote = rw (lent-from (a .buffer .now) (a .place), marks .before .how-many .ensures .0) at (c .before .before .write .ensures) in
-    has-room (a .self) (a .free) (a .buffer .now) (a .place) (passed .whole) (passed .runs) (passed .slot-left) (passed .there) (passed .inside) (picked marks) (c .before .before .write .result) (wrote .0) (wrote .1) e
-
 returns-2 : tie.Need-returns-2
 returns-2 c =
-    let known = c .before .before .before in
-    let a = known .before .before .before .before .before .before .before .before .before .before .args in
-    let law = not-written known (c .before .enum-told3 .given .1) in
-    refused-gives (a .self) (a .free) (a .buffer .now) (a .place) NoRoom (λ none. absurd (omega arith)) (sym (ap bare (law .0))) (c .refused2 .ensures) (comes-back (a .buffer .now) (a .place) (known .before .before .write .last .0) ∙ law .1)
-
--- the record stands in the buffer, and names the rows that were picked
-stands : (c : tie.After-enum-told2) →
-    let known = c .before .before in
-    let a = known .before .before .before .before .before .before .before .before .before .before .args in
-    Goes (a .self) (a .free) (a .buffer .now) (a .place)
-    × (putMid (a .place) (length (a .buffer .now) - a .place) (a .buffer .now) (known .before .before .write .last .0) ≡ withRecord (a .buffer .now) (a .place) (recordIn (a .self) (size (a .free))))
-stands c =
-    let known = c .before .before in
-    let a = known .before .before .before .before .before .before .before .before .before .before .args in
-    let law = is-written known (c .enum-told2 .given .1) in
-    (goes (a .self) (a .free) (a .buffer .now) (a .place) (law .0), comes-back (a .buffer .now) (a .place) (known .before .before .write .last .0) ∙ law .1)
-
-cores-for-requires : tie.Need-cores-for-requires
-cores-for-requires c κs =
-    let so = stands (c .before) in
-    record-inside _ _ _ _ (so .0) (so .1)
-
-one-on-requires : tie.Need-one-on-requires
-one-on-requires c κs =
-    let marks = c .before .before .before .before .before .before .before .before in
-    let a = marks .before .before .before .before .before .before .args in
-    record {
-      usable = usable (marks .before .before);
-      only-rows = marks-are-rows (a .self) (size (a .free)) (marks .picks .result) (picked marks);
-      slot-left = admitted (marks .before .before) .slot-left;
-    }
-
-same-length-2 : tie.Need-same-length-2
-same-length-2 c = search needs
-
-returns-3 : tie.Need-returns-3
-returns-3 c =
-    let told = c .before .before .before in
-    let known = told .before .before in
-    let marks = known .before .before .before .before in
-    let a = marks .before .before .before .before .before .before .args in
-    let so = stands told in
-    let law = is-written known (told .enum-told2 .given .1) in
-    let rows = picked marks in
-    let placed = c .before .cores-for .ensures ∙ ap (placedFor (a .self .last) (marked (a .free))) (record-names-picks (a .self) (a .free) (a .buffer .now) (a .place) (so .0) (so .1)) in
-    done-gives (a .self) (a .free) (a .buffer .now) (a .place) (law .0) (ap₂ (stepped (a .self)) rows placed) (c .one-on .result) (c .one-on .ensures) (so .1)
+    let placed = c .before .before in
+    let wrote = placed .before .before .before .before .before .before in
+    let told = wrote .before .before .before .before .before .before .before in
+    let a = told .before .before .before .before .before .args in
+    let so = admitted told in
+    let goes = goes-on (a .self) (a .free) (a .buffer .now) (a .place) so in
+    let rows = record-names-picks (a .self) (a .free) (a .buffer .now) (a .place) goes (stands wrote) in
+    let cores = placed .cores-for .ensures ∙ ap (placedFor (a .self .last) (marked (a .free))) rows in
+    done-gives (a .self) (a .free) (a .buffer .now) (a .place) (not-refused (a .self) (a .free) (a .buffer .now) (a .place) so) (ap₂ (stepped (a .self)) rows cores) (c .one-on .result) (c .one-on .ensures) (stands wrote)
 
 pub slot-spec : {M : Type 1} → statement M
 slot-spec =
@@ -189,17 +169,14 @@ slot-spec =
     refused-requires
     returns
     how-many-requires
-    picks-requires
-    sub-write
-    part-write-start
-    part-write-end
-    write-requires
-    enum-told-2
-    enum-told-3
-    refused-requires-2
-    same-length
-    returns-2
+    picked-of-requires
+    first-left-requires
+    sub-put-record
+    part-put-record-start
+    part-put-record-end
+    put-record-requires
+    lowest-late-requires
     cores-for-requires
     one-on-requires
-    same-length-2
-    returns-3)
+    same-length
+    returns-2)
