@@ -7,3 +7,4 @@ pub mod Half
 pub mod Fits
 pub mod Formula
 pub mod Next
+pub mod Steps
