@@ -2,7 +2,7 @@
 use Prim.Native.Nat.{ℕ, _+_, _≤_, _<_}
 use mathlib.Core.Path.{_≡_, refl, sym, ap, subst, _∙_}
 use mathlib.Core.List.{List, [], _∷_}
-use mathlib.Core.Bool.{Bool, true, false, cond, true≢false}
+use mathlib.Core.Bool.{Bool, true, false, true≢false}
 use native.Mathlib.Numerals.{add-one}
 use native.Mathlib.Omega.{arith}
 use lib.Dec.{leb}
@@ -11,23 +11,22 @@ use Rattle.facts.specs.First.{Lowest}
 use Rattle.facts.specs.Findings.{_says_, FirstFound, NoneFound}
 use Rattle.facts.proofs.First.{same-lowest}
 use Rattle.facts.proofs.Findings.{none-joined, first-in-front, first-behind}
-use Rattle.facts.proofs.Counting.{no-more-than-all}
+use Rattle.facts.proofs.Counting.{counted-one-more}
 use Rattle.facts.proofs.Some.{some-if, none-if}
 use Rattle.facts.proofs.Listing.{lowest-is-first}
-use Rattle.counts.specs.Limits.{kept}
 use Rattle.table.specs.declared.Table.{Table}
 use Rattle.table.specs.Value.{rowsOf}
-use Rattle.pd2.specs.Choice.{rowAt, quantaAt}
+use Rattle.pd2.specs.Choice.{rowAt}
 use Rattle.pd2.proofs.Readiness.{late-from-deadline}
 use Rattle.trace.specs.Said.{Said, named}
-use Rattle.trace.specs.Records.{pastRecord, names, namedIn, firstPlace, placeIn, rowsOfSlot, timesNamed}
-use Rattle.trace.proofs.Records.{ends-at-next, counted-if-named, uncounted-if-not-named}
+use Rattle.trace.specs.Records.{pastRecord, namedIn, firstPlace, placeIn, rowsOfSlot, timesNamed}
+use Rattle.trace.proofs.Records.{ends-at-next}
 use Rattle.checker.specs.declared.Answer.{Answer}
 use Rattle.checker.specs.Answer.{saidOf}
 use Rattle.checker.specs.Causes.{tooEarly, tooLate, lowest, anyRow}
 use Rattle.checker.specs.Check.{shapeAt, timeFindings, recordFindings}
-use Rattle.checker.specs.Walking.{Askable, DueAre, CanJudge, Walked, Leads, Read, CanGive, Gave, isEarly}
-use Rattle.checker.specs.Passes.{due}
+use Rattle.checker.specs.Walking.{AreKept, CanJudge, Walked, Leads, Read, CanGive, Gave, isEarly}
+use Rattle.checker.proofs.Kept.{same-kept}
 
 -- The lowest row that is so is the one that is named.
 is-lowest : (table : Table) (is : ℕ → Bool) (i : ℕ) → Lowest is (length (rowsOf table)) i → i < length (rowsOf table) → (anyRow table is ≡ true) × (lowest table is ≡ i)
@@ -38,28 +37,22 @@ none-is : (table : Table) (is : ℕ → Bool) (i : ℕ) → Lowest is (length (r
 none-is table is i low h = none-if is (length (rowsOf table)) (λ j l. low .none-before j (omega arith))
 
 -- The walk behind a record, by another name of the slot.
-pub same-walked : (table : Table) (s : List ℕ) {t t′ at : ℕ} {counts dues : List ℕ} → t ≡ t′ → Walked table s t at counts dues → Walked table s t′ at counts dues
-same-walked table s {at = at} {counts = counts} {dues = dues} e walked = subst (λ u. Walked table s u at counts dues) e walked
+pub same-walked : (table : Table) (s : List ℕ) {t t′ at : ℕ} {starts rests dues : List ℕ} → t ≡ t′ → Walked table s t at starts rests dues → Walked table s t′ at starts rests dues
+same-walked table s {at = at} {starts = starts} {rests = rests} {dues = dues} e walked = subst (λ u. Walked table s u at starts rests dues) e walked
 
 -- An answer ends the check,
-pub ends : (table : Table) (s : List ℕ) (t : ℕ) {ended : Bool} {answer : Answer} {said : Said} {at : ℕ} {counts dues : List ℕ} →
-    (ended ≡ true) × (saidOf answer ≡ said) → FirstFound (recordFindings table s t) said → Leads table s t ended answer at counts dues
+pub ends : (table : Table) (s : List ℕ) (t : ℕ) {ended : Bool} {answer : Answer} {said : Said} {at : ℕ} {starts rests dues : List ℕ} →
+    (ended ≡ true) × (saidOf answer ≡ said) → FirstFound (recordFindings table s t) said → Leads table s t ended answer at starts rests dues
 ends table s t e f =
     record {
       walked = λ h. absurd (true≢false (sym (e .0) ∙ h));
       found = λ _. subst (FirstFound (recordFindings table s t)) (sym (e .1)) f;
     }
 
-module _ (table : Table) (s : List ℕ) (t at : ℕ) (counts dues : List ℕ) (can : CanJudge table s t at counts dues) where
+module _ (table : Table) (s : List ℕ) (t at : ℕ) (starts rests dues : List ℕ) (can : CanJudge table s t at starts rests dues) where
   -- where the record's shape is not sound,
   pub shape-ends : {x : Said} → FirstFound (shapeAt (table .cores) (length (rowsOf table)) s (at)) x → FirstFound (recordFindings table s t) x
   shape-ends {x} f = first-in-front (timeFindings table s t) (subst (λ place. FirstFound (shapeAt (table .cores) (length (rowsOf table)) s place) x) (can .reached .place) f)
-
-  -- the rows can be asked
-  rows-can-be-asked : Askable table counts t
-  rows-can-be-asked =
-      let at = can .reached in
-      record { can = can .can; long = at .long; few = λ i l. omega (arith, at .quanta i l, at .few i); time = omega (arith, can .time) }
 
   module _ {first picked : ℕ} (read : Read (table .cores) (length (rowsOf table)) s at first picked) where
     sound : NoneFound (shapeAt (table .cores) (length (rowsOf table)) s (placeIn s t))
@@ -77,24 +70,21 @@ module _ (table : Table) (s : List ℕ) (t at : ℕ) (counts dues : List ℕ) (c
     rows-inside = omega (arith, read .begins, read .all, read .inside)
 
     -- and can be given quanta.
-    pub can-give : CanGive table s first picked counts t dues
+    pub can-give : CanGive table s first picked t starts rests dues
     can-give =
         record {
+          can = can .can;
           inside = rows-inside;
           rise = rw (read .begins, read .all) (read .rise);
-          ask = rows-can-be-asked;
-          due = record {
-            long = can .reached .due .long;
-            each = λ i l. can .reached .due .each i l ∙ ap (λ q. due (rowAt (rowsOf table) i) (q + 1)) (sym (can .reached .quanta i l));
-          };
+          kept = can .reached .kept;
+          time = can .time;
         }
 
     -- the lowest early row, as it was found in the arrays
-    early-is : {i : ℕ} → Lowest (isEarly table counts named-rows t) (length (rowsOf table)) i → Lowest (tooEarly table s t) (length (rowsOf table)) i
-    early-is {i} low =
-        same-lowest (isEarly table counts named-rows t) (tooEarly table s t) (length (rowsOf table)) i (λ j l. rw (rows-are, can .reached .quanta j l) refl) low
+    early-is : {i : ℕ} → Lowest (isEarly table s named-rows t) (length (rowsOf table)) i → Lowest (tooEarly table s t) (length (rowsOf table)) i
+    early-is {i} low = same-lowest (isEarly table s named-rows t) (tooEarly table s t) (length (rowsOf table)) i (λ j l. rw rows-are refl) low
 
-    module _ {lowest-early : ℕ} {after : List ℕ} {dues′ : List ℕ} (gave : Gave table named-rows counts t lowest-early after dues′) where
+    module _ {lowest-early : ℕ} {starts′ rests′ dues′ : List ℕ} (gave : Gave table s named-rows t lowest-early starts′ rests′ dues′) where
       -- An early row ends the check,
       pub early-ends : lowest-early < length (rowsOf table) → FirstFound (recordFindings table s t) (named 44 lowest-early t)
       early-ends l =
@@ -105,32 +95,15 @@ module _ (table : Table) (s : List ℕ) (t at : ℕ) (counts dues : List ℕ) (c
         no-early : anyRow table (tooEarly table s t) ≡ false
         no-early = none-is table (tooEarly table s t) lowest-early (early-is (gave .lowest)) none
 
-        -- the quanta after the slot,
-        quanta-after : (j : ℕ) → j < length (rowsOf table) → quantaAt after j ≡ timesNamed s j (t + 1)
-        quanta-after j l = gave .gave none .each j ∙ go (names (rowsOfSlot s t) j) refl
-          where
-            go : (b : Bool) → names (rowsOfSlot s t) j ≡ b →
-                cond (names named-rows j) (kept (quantaAt counts j + 1)) (quantaAt counts j) ≡ timesNamed s j (t + 1)
-            go true e =
-                rw (rows-are, e, can .reached .quanta j l)
-                (omega (arith, can .reached .few j, can .time) ∙ sym (counted-if-named s firstPlace j t e))
-            go false e = rw (rows-are, e, can .reached .quanta j l) (sym (uncounted-if-not-named s firstPlace j t e))
-
-        few-after : (j : ℕ) → timesNamed s j (t + 1) ≤ t + 1
-        few-after j = no-more-than-all (namedIn s firstPlace j) (t + 1)
-
-        -- and when the next are due
-        due-after : DueAre table (λ i. timesNamed s i (t + 1)) dues′
-        due-after =
-            record {
-              long = gave .due none .long;
-              each = λ i l. gave .due none .each i l ∙ ap (λ q. due (rowAt (rowsOf table) i) (q + 1)) (quanta-after i l);
-            }
+        -- what is kept after the slot
+        kept-after : AreKept table (length (rowsOf table)) (λ i. timesNamed s i (t + 1)) starts′ rests′ dues′
+        kept-after =
+            same-kept table (length (rowsOf table)) (λ i l. rw rows-are (sym (counted-one-more (namedIn s firstPlace i) t))) (gave .kept none)
 
         -- the lowest late row, as it was found in the array
         late-is : {time k : ℕ} → time ≡ t + 1 → Lowest (λ i. leb (getD dues′ i 0) time) (table .n) k → Lowest (tooLate table s (t + 1)) (length (rowsOf table)) k
         late-is {time} {k} e low =
-            same-lowest (λ i. leb (getD dues′ i 0) (t + 1)) (tooLate table s (t + 1)) (length (rowsOf table)) k (λ j l. rw (due-after .each j l) (sym (late-from-deadline (rowAt (rowsOf table) j) (timesNamed s j (t + 1)) (t + 1))))
+            same-lowest (λ i. leb (getD dues′ i 0) (t + 1)) (tooLate table s (t + 1)) (length (rowsOf table)) k (λ j l. rw (kept-after .each j l .dues) (sym (late-from-deadline (rowAt (rowsOf table) j) (timesNamed s j (t + 1)) (t + 1))))
             (subst (λ n. Lowest (λ i. leb (getD dues′ i 0) (t + 1)) n k) (sym (can .can .all)) (subst (λ time. Lowest (λ i. leb (getD dues′ i 0) time) (table .n) k) e low))
 
         -- a late row ends it,
@@ -143,7 +116,7 @@ module _ (table : Table) (s : List ℕ) (t at : ℕ) (counts dues : List ℕ) (c
 
         -- and else the walk goes on.
         pub goes-on : {time k : ℕ} → time ≡ t + 1 → Lowest (λ i. leb (getD dues′ i 0) time) (table .n) k → length (rowsOf table) ≤ k →
-            Walked table s t (first + picked) after dues′
+            Walked table s t (first + picked) starts′ rests′ dues′
         goes-on {k = k} e low h =
             record {
               none =
@@ -153,9 +126,6 @@ module _ (table : Table) (s : List ℕ) (t at : ℕ) (counts dues : List ℕ) (c
                   record {
                     place = rw (read .begins, read .all) (ap (pastRecord s) (can .reached .place) ∙ (ends-at-next s firstPlace t ∙ ap (placeIn s) (sym (add-one t))));
                     inside = rows-inside;
-                    long = gave .gave none .places ∙ can .reached .long;
-                    quanta = quanta-after;
-                    few = few-after;
-                    due = due-after;
+                    kept = kept-after;
                   };
             }

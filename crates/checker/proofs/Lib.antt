@@ -4,8 +4,8 @@ pub mod Rows
 pub mod Passes
 pub mod Late
 pub mod Named
-pub mod Asked
-pub mod Dues
+pub mod Kept
+pub mod Given
 pub mod Shape
 pub mod Judged
 pub mod Traced

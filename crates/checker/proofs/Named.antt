@@ -1,22 +1,20 @@
 -- The rows that a record names: whether their numbers are bad, and what is done with them if they are not. Assumes nothing.
 use Prim.Native.Nat.{ℕ, _+_, _≤_, _<_}
-use mathlib.Core.Path.{_≡_, refl, sym, ap, subst, _∙_}
+use mathlib.Core.Path.{_≡_, refl, sym, ap, _∙_}
 use mathlib.Core.List.{List, _∷_}
-use mathlib.Core.Bool.{Bool, true, false, cond, not, _&&_, _||_, false≢true, or-true, or-false}
+use mathlib.Core.Bool.{Bool, true, false, not, _&&_, _||_, false≢true, or-true, or-false}
 use native.Mathlib.Decide.{ℕ-discrete, decLt}
 use native.Mathlib.Numerals.{add-one}
 use native.Mathlib.Omega.{arith}
 use borrow.Author.Tests.{lt-ltb, le-ltb, eq-eqb, ne-eqb}
-use lib.ListN.{length, getD, take, drop, set, length-set, length-take, length-drop, take-append-drop, drop-of-length-le}
-use lib.Seq.{drop-cons, length-take-le, take-all, getD-set-same, getD-set-other, getD-take, getD-drop}
+use lib.ListN.{length, getD, take, drop, length-take, length-drop, take-append-drop, drop-of-length-le}
+use lib.Seq.{drop-cons, length-take-le, take-all, getD-take, getD-drop}
 use Rattle.facts.specs.First.{Lowest}
 use Rattle.fields.specs.Fields.{byte}
-use Rattle.counts.specs.Limits.{kept}
-use Rattle.trace.specs.Records.{names}
+use Rattle.trace.specs.Records.{names, timesNamed}
 use Rattle.trace.proofs.Names.{names-nothing, names-either, named-at, not-named, named-one-more}
-use Rattle.pd2.specs.Choice.{quantaAt}
 use Rattle.checker.specs.Causes.{badRows}
-use Rattle.checker.specs.Walking.{GaveNamed}
+use Rattle.checker.specs.Walking.{gaveTo}
 use Rattle.checker.proofs.Sound.{rising-exactly}
 
 -- the c numbers from a place on, and the j-th of them
@@ -64,11 +62,6 @@ module _ (rows : List ℕ) (n : ℕ) where
 pub record PassSoFar (rows : List ℕ) (a : ℕ → Bool) (j : ℕ) : Type 0 where
   pub within : j ≤ length rows
   pub pass : (i : ℕ) → names (take j rows) i ≡ true → a i ≡ true
-
--- For the loop that gives: the first j rows have one quantum more.
-pub record GaveSoFar (rows : List ℕ) (before after : List ℕ) (j : ℕ) : Type 0 where
-  pub within : j ≤ length rows
-  pub gave : GaveNamed (take j rows) before after
 
 module _ (rows : List ℕ) (n : ℕ) (rise : badRows n 0 rows ≡ false) where
   -- A row that is named is below n,
@@ -151,28 +144,24 @@ module _ (rows : List ℕ) (n : ℕ) (rise : badRows n 0 rows ≡ false) where
           none-before = λ i b. not-failing i _ (sym (ap (λ x. names x i) (take-all j rows h))) (so .pass i);
         }
 
-  module _ (before : List ℕ) where
+  module _ (s : List ℕ) (t : ℕ) where
     -- Giving begins with nothing given,
-    pub giving-begins : GaveSoFar rows before before 0
-    giving-begins = record { within = omega arith; gave = record { places = refl; each = λ i. rw (names-nothing i) refl } }
+    pub nothing-given : (i : ℕ) → timesNamed s i t ≡ gaveTo s (take 0 rows) t i
+    nothing-given i = rw (names-nothing i) (omega arith)
 
-    -- has not come to the row that is next,
-    pub not-given-yet : {after : List ℕ} {j row : ℕ} → GaveSoFar rows before after j → j < length rows → row ≡ getD rows j 0 → quantaAt after row ≡ quantaAt before row
-    not-given-yet {j = j} {row = row} so l same = so .gave .each row ∙ rw (same, not-named-yet j l) refl
+    module _ (j : ℕ) (l : j < length rows) where
+      -- has not come to the row that is next,
+      pub not-given-yet : {row : ℕ} → row ≡ getD rows j 0 → gaveTo s (take j rows) t row ≡ timesNamed s row t
+      not-given-yet same = rw (same, not-named-yet j l) (omega arith)
 
-    -- goes on row by row,
-    pub gives-one-more : {after : List ℕ} {j row : ℕ} → GaveSoFar rows before after j → j < length rows → row ≡ getD rows j 0 → row < length after → (v : ℕ) →
-        v ≡ kept (quantaAt after row + 1) → GaveSoFar rows before (set after row v) (j + 1)
-    gives-one-more {after} {j} {row} so l same there v e =
-        record { within = omega arith; gave = record { places = length-set after row v ∙ so .gave .places; each = λ i. at i (ℕ-discrete i row) } }
-      where
-        at : (i : ℕ) → Dec (i ≡ row) → quantaAt (set after row v) i ≡ cond (names (take (j + 1) rows) i) (kept (quantaAt before i + 1)) (quantaAt before i)
-        at i (yes i-is) =
-            rw (i-is, ap (names (take (j + 1) rows)) same ∙ own-named j l)
-            (getD-set-same after row v 0 there ∙ (e ∙ ap (λ q. kept (q + 1)) (not-given-yet so l same)))
-        at i (no other) =
-            rw (other-named j i l (λ i-is. other (i-is ∙ sym same))) (getD-set-other after row i v 0 other ∙ so .gave .each i)
+      -- gives it one more,
+      pub now-given : {row : ℕ} → row ≡ getD rows j 0 → timesNamed s row t + 1 ≡ gaveTo s (take (j + 1) rows) t row
+      now-given same = rw (same, own-named j l) refl
+
+      -- and the others nothing,
+      pub others-stay : {row : ℕ} → row ≡ getD rows j 0 → (i : ℕ) → (i ≡ row → ⊥) → gaveTo s (take j rows) t i ≡ gaveTo s (take (j + 1) rows) t i
+      others-stay same i other = rw (other-named j i l (λ e. other (e ∙ sym same))) refl
 
     -- and ends when all have been given theirs.
-    pub all-given : {after : List ℕ} {j : ℕ} → GaveSoFar rows before after j → length rows ≤ j → GaveNamed rows before after
-    all-given {after} {j} so h = subst (λ x. GaveNamed x before after) (take-all j rows h) (so .gave)
+    pub all-given : (j : ℕ) → length rows ≤ j → (i : ℕ) → gaveTo s (take j rows) t i ≡ gaveTo s rows t i
+    all-given j h i = rw (take-all j rows h) refl

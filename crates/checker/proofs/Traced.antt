@@ -4,35 +4,25 @@ use mathlib.Core.Path.{_≡_, sym, ap, _∙_}
 use mathlib.Core.List.{List, append-assoc}
 use native.Mathlib.Omega.{arith}
 use borrow.Author.Tests.{lt-ltb, le-ltb}
-use native.Mathlib.Decide.{decLt}
-use lib.ListN.{length, replicate, getD-replicate, length-replicate, List·getD-eq-default}
+use lib.ListN.{length}
 use Rattle.facts.specs.Findings.{_then_, firstFound, FirstFound, NoneFound}
 use Rattle.facts.proofs.Findings.{first-is-said, none-says-otherwise, after-none, first-in-front}
 use Rattle.facts.proofs.Counting.{none-counted}
 use Rattle.facts.proofs.Filling.{one-left-more}
 use Rattle.table.specs.declared.Table.{Table}
 use Rattle.table.specs.Value.{rowsOf}
-use Rattle.pd2.specs.Choice.{rowAt, quantaAt}
 use Rattle.trace.specs.Said.{Said, bare}
 use Rattle.trace.specs.Records.{placeOf, namedIn, firstPlace, slotsIn}
 use Rattle.trace.proofs.Records.{begins-at-first}
 use Rattle.checker.specs.Causes.{slotLimit}
 use Rattle.checker.specs.Check.{recordFindings, recordsFindings, lastFindings, traceSaid}
-use Rattle.checker.specs.Walking.{DueAre, Reached, Walked}
-use Rattle.checker.specs.Passes.{due}
-
--- nothing has been given at the start
-nothing : (i : ℕ) → quantaAt (replicate 32 0) i ≡ 0
-nothing i = go (decLt i 32)
-  where
-    go : Dec (i < 32) → quantaAt (replicate 32 0) i ≡ 0
-    go (yes l) = getD-replicate 32 i 0 0 l
-    go (no l) = List·getD-eq-default (replicate 32 0) 0 {n = i} (omega (arith, length-replicate {A = ℕ} 32 0))
+use Rattle.checker.specs.Walking.{AreKept, Reached, Walked}
+use Rattle.checker.proofs.Kept.{same-kept}
 
 module _ (table : Table) (s : List ℕ) where
   -- The check has come to slot t of the trace's slots: what is left says what the whole says.
-  pub record Come (slots t at : ℕ) (counts dues : List ℕ) : Type 0 where
-    pub reached : Reached table s t at counts dues
+  pub record Come (slots t at : ℕ) (starts rests dues : List ℕ) : Type 0 where
+    pub reached : Reached table s t at starts rests dues
     pub within : t ≤ slots
     pub slot-count : slots ≡ slotsIn s
     pub few : slots ≤ slotLimit
@@ -50,21 +40,16 @@ module _ (table : Table) (s : List ℕ) where
     is-too-long h = sym (first-is-said (bare 0) (FirstFound.later (le-ltb (length s) 4 there) (FirstFound.here (lt-ltb slotLimit (slotsIn s) h))))
 
     -- else the check begins.
-    pub check-begins : {slots : ℕ} → slots ≡ slotsIn s → slots ≤ slotLimit → {dues : List ℕ} → DueAre table (λ _. 0) dues → Come slots 0 4 (replicate 32 0) dues
+    pub check-begins : {slots : ℕ} → slots ≡ slotsIn s → slots ≤ slotLimit → {starts rests dues : List ℕ} →
+        AreKept table (length (rowsOf table)) (λ _. 0) starts rests dues → Come slots 0 4 starts rests dues
     unfolding traceSaid
-    check-begins {slots} e few dues =
+    check-begins {slots} e few kept =
         record {
           reached =
               record {
                 place = sym (begins-at-first s firstPlace);
                 inside = there;
-                long = length-replicate {A = ℕ} 32 0;
-                quanta = λ i l. nothing i ∙ sym (none-counted (namedIn s firstPlace i));
-                few = λ i. omega (arith, none-counted (namedIn s firstPlace i));
-                due = record {
-                  long = dues .long;
-                  each = λ i l. dues .each i l ∙ ap (λ q. due (rowAt (rowsOf table) i) (q + 1)) (sym (none-counted (namedIn s firstPlace i)));
-                };
+                kept = same-kept table (length (rowsOf table)) (λ i l. sym (none-counted (namedIn s firstPlace i))) kept;
               };
           within = omega arith;
           slot-count = e;
@@ -75,7 +60,7 @@ module _ (table : Table) (s : List ℕ) where
               ∙ ap (λ m. firstFound (bare 0) (recordsFindings table s 0 m then lastFindings s)) {x = slotsIn s} {y = slots - 0} (omega arith);
         }
 
-  module _ {slots t : ℕ} {at : ℕ} {counts dues : List ℕ} (so : Come slots t at counts dues) (more : t < slots) where
+  module _ {slots t : ℕ} {at : ℕ} {starts rests dues : List ℕ} (so : Come slots t at starts rests dues) (more : t < slots) where
     left : traceSaid table s ≡ firstFound (bare 0) ((recordFindings table s t then recordsFindings table s (t + 1) (slots - (t + 1))) then lastFindings s)
     unfolding recordsFindings
     left = so .rest ∙ ap (λ m. firstFound (bare 0) (recordsFindings table s t m then lastFindings s)) (one-left-more more)
@@ -85,7 +70,7 @@ module _ (table : Table) (s : List ℕ) where
     record-says f = sym (left ∙ first-is-said (bare 0) (first-in-front (lastFindings s) (first-in-front (recordsFindings table s (t + 1) (slots - (t + 1))) f)))
 
     -- and else the check goes on.
-    pub check-goes-on : {next : ℕ} {counts′ dues′ : List ℕ} → Walked table s t next counts′ dues′ → Come slots (t + 1) next counts′ dues′
+    pub check-goes-on : {next : ℕ} {starts′ rests′ dues′ : List ℕ} → Walked table s t next starts′ rests′ dues′ → Come slots (t + 1) next starts′ rests′ dues′
     check-goes-on walked =
         record {
           reached = walked .reached;
@@ -98,7 +83,7 @@ module _ (table : Table) (s : List ℕ) where
               ∙ after-none (bare 0) (recordsFindings table s (t + 1) (slots - (t + 1)) then lastFindings s) (walked .none));
         }
 
-  module _ {slots t : ℕ} {at : ℕ} {counts dues : List ℕ} (so : Come slots t at counts dues) (end : slots ≤ t) where
+  module _ {slots t : ℕ} {at : ℕ} {starts rests dues : List ℕ} (so : Come slots t at starts rests dues) (end : slots ≤ t) where
     last : traceSaid table s ≡ firstFound (bare 0) (lastFindings s)
     unfolding recordsFindings
     last = so .rest ∙ ap (λ m. firstFound (bare 0) (recordsFindings table s t m then lastFindings s)) {x = slots - t} {y = 0} (omega arith)

@@ -44,6 +44,9 @@ pub enum Answer {
 // The most slots that a trace may have.
 const SLOT_LIMIT: u32 = 1_000_000_000;
 
+// When a place that holds no row is due: past the end of every trace, so that no such place is counted among the late ones.
+const NEVER: u32 = 4_294_967_295;
+
 // What a record leads to: the place behind it, or the answer that ends the check.
 struct Step {
     ended: bool,
@@ -135,8 +138,10 @@ fn check_trace(table: Table, trace: &[u8]) -> Answer
     if SLOT_LIMIT < slots {
         return Answer::TooLong;
     }
-    let mut counts = [0u64; 32];
-    let mut dues = giving::first_dues(table);
+    let mut starts = [0u32; 32];
+    let mut rests = [0u32; 32];
+    let mut dues = [NEVER; 32];
+    giving::begin(table, &mut starts, &mut rests, &mut dues);
     let mut at: usize = 4;
     let mut slot: u32 = 0;
     while slot < slots {
@@ -144,7 +149,8 @@ fn check_trace(table: Table, trace: &[u8]) -> Answer
             table,
             trace,
             at,
-            &mut counts,
+            &mut starts,
+            &mut rests,
             &mut dues,
             Slot::at(slot as u64),
         );

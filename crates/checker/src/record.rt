@@ -25,19 +25,29 @@ pub(crate) fn judge(
     table: Table,
     trace: &[u8],
     at: usize,
-    counts: &mut [u64; 32],
-    dues: &mut [u64; 32],
+    starts: &mut [u32; 32],
+    rests: &mut [u32; 32],
+    dues: &mut [u32; 32],
     slot: Slot,
 ) -> Step
-    requires { ⌜ CanJudge table (now trace) (slot .0) at (now counts) (now dues) ⌝ }
-    ensures { λ r. ⌜ Leads table (now (trace .entry)) (slot .0) (r .ended) (r .answer) (r .next) (now (counts .exit)) (now (dues .exit)) ⌝ }
+    requires { ⌜ CanJudge table (now trace) (slot .0) at (now starts) (now rests) (now dues) ⌝ }
+    ensures { λ r. ⌜ Leads table (now (trace .entry)) (slot .0) (r .ended) (r .answer) (r .next) (now (starts .exit)) (now (rests .exit)) (now (dues .exit)) ⌝ }
 {
     let read = read_at(table.cores, table.n, trace, at);
     if read.number != 0 {
         return refused(read.number);
     }
     let n = table.n as usize;
-    let lowest_early = giving::give(trace, read.first, read.picked, table, counts, dues, slot);
+    let lowest_early = giving::give(
+        trace,
+        read.first,
+        read.picked,
+        table,
+        starts,
+        rests,
+        dues,
+        slot,
+    );
     if lowest_early < n {
         return early_in(lowest_early, slot);
     }
@@ -156,7 +166,7 @@ fn are_bad(trace: &[u8], first: usize, c: usize, n: u8) -> bool
     let mut least: u8 = 0;
     let mut j: usize = 0;
     while j < c {
-        let row = fields::byte(trace, first + j);
+        let row = trace[first + j];
         if n <= row {
             return true;
         }

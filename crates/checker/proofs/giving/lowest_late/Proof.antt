@@ -1,62 +1,39 @@
+use mathlib.Core.Path.{_≡_}
+use mathlib.Core.Bool.{false}
 use native.Mathlib.Omega.{arith}
-use Prim.Native.Nat.{_-_}
-use borrow.Author.Needs.{needs}
-use borrow.Author.Tests.{le-leb, lt-leb}
+use borrow.Author.Tests.{le-ltb}
 use lib.Dec.{leb}
 use lib.ListN.{getD}
-use Rattle.facts.proofs.Some.{NoneYet, looking-begins, looks-on, found-lowest, found-none}
+use Rattle.facts.specs.Counting.{howMany, some}
+use Rattle.facts.proofs.Some.{each-fails, found-none}
+use borrow.Author.Needs.{needs}
 use Rattle.checker.proofs.giving.lowest_late.Statement.{statement}
 use Rattle.checker.proofs.giving.lowest_late.Tie as tie
 
-abbrev Inv-loop : tie.InvT-loop
-Inv-loop dues n now i₀ i = NoneYet (λ j. leb (getD dues j 0) now) n i
-
-abbrev μ-loop : tie.MeasureT-loop
-μ-loop dues n now i₀ i = n - i
-
-time-requires : tie.Need-time-requires Inv-loop μ-loop
+time-requires : tie.Need-time-requires
 time-requires c κs = search needs
 
-loop-holds : tie.Need-loop-holds Inv-loop μ-loop
-loop-holds c = looking-begins _ _
+cast-end : tie.Need-cast-end
+cast-end c = search needs
 
-mul-due : tie.Need-mul-due Inv-loop μ-loop
-mul-due c = omega arith
+how-many-due-requires : tie.Need-how-many-due-requires
+how-many-due-requires c κs = search needs
 
-element-copy-out-due : tie.Need-element-copy-out-due Inv-loop μ-loop
-element-copy-out-due c = omega arith
-
-returns : tie.Need-returns Inv-loop μ-loop
+returns : tie.Need-returns
 returns c =
     let a = c .before .before .before in
-    rw (← a .before .time .ensures) (found-lowest _ _ (a .loop .inv) (c .before .before .loop-test .taken) (le-leb _ _ (c .if1 .taken)))
+    let end = c .before .before .time in
+    let none : some (λ i. leb (getD (a .args .dues .now) i 0) (end .result)) 32 ≡ false = le-ltb 0 (howMany (λ i. leb (getD (a .args .dues .now) i 0) (end .result)) 32) (omega (arith, c .if1 .taken, c .before .how-many-due .ensures)) in
+    rw (← end .ensures)
+    (found-none _ _ {i = a .args .n} (record { none = λ j l. each-fails _ 32 none j (omega (arith, l, a .pre .0)); within = omega arith }) (omega arith))
 
-add-i : tie.Need-add-i Inv-loop μ-loop
-add-i c = omega arith
+first-due-requires : tie.Need-first-due-requires
+first-due-requires c κs = search needs
 
-loop-less : tie.Need-loop-less Inv-loop μ-loop
-loop-less c = omega arith
-
-loop-again : tie.Need-loop-again Inv-loop μ-loop
-loop-again c = looks-on _ _ (c .before .before .before .loop .inv) (c .before .before .loop-test .taken) (lt-leb _ _ (c .if1 .left))
-
-returns-2 : tie.Need-returns-2 Inv-loop μ-loop
-returns-2 c =
-    let a = c .before in
-    rw (← a .before .time .ensures) (found-none _ _ (a .loop .inv) (c .loop-test .left))
+returns-2 : tie.Need-returns-2
+returns-2 c = rw (← c .before .before .before .time .ensures) (c .first-due .ensures)
 
 pub lowest-late-spec : {M : Type 1} → statement M
 lowest-late-spec =
     tie.close
-    (tie.spec
-    Inv-loop
-    μ-loop
-    time-requires
-    loop-holds
-    mul-due
-    element-copy-out-due
-    returns
-    add-i
-    loop-less
-    loop-again
-    returns-2)
+    (tie.spec time-requires cast-end how-many-due-requires returns first-due-requires returns-2)

@@ -23,7 +23,7 @@ returns : tie.Need-returns
 returns c =
     let a = c .before .before .before .before .before in
     let found = c .before .before .before .read-at .ensures .refused (c .before .if1 .taken) in
-    ends (a .args .table) (a .args .trace .now) (a .args .slot .0) (c .refused .ensures) (shape-ends (a .args .table) (a .args .trace .now) (a .args .slot .0) (a .args .at) _ _ (a .pre) (subst (λ n. FirstFound (shapeAt (a .args .table .cores) n (a .args .trace .now) (a .args .at)) (bare (c .before .before .before .read-at .result .number))) (sym (a .pre .can .all)) (found .2)))
+    ends (a .args .table) (a .args .trace .now) (a .args .slot .0) (c .refused .ensures) (shape-ends (a .args .table) (a .args .trace .now) (a .args .slot .0) (a .args .at) _ _ _ (a .pre) (subst (λ n. FirstFound (shapeAt (a .args .table .cores) n (a .args .trace .now) (a .args .at)) (bare (c .before .before .before .read-at .result .number))) (sym (a .pre .can .all)) (found .2)))
 
 -- a record in which nothing is found was read
 is-read : (c : tie.Else1) → let a = c .before .before .before .before in Read (a .args .table .cores) (length (rowsOf (a .args .table))) (a .args .trace .now) (a .args .at) (c .before .before .read-at .result .first) (c .before .before .read-at .result .picked)
@@ -33,53 +33,55 @@ is-read c =
     subst (λ n. Read (a .args .table .cores) n (a .args .trace .now) (a .args .at) (read .result .first) (read .result .picked)) (sym (a .pre .can .all)) (read .ensures .read (c .if1 .left))
 
 -- the slot's end
-later-is : (c : tie.After-later) → c .later .result .0 ≡ c .before .before .before .before .before .before .before .before .before .before .args .slot .0 + 1
-later-is c = omega (arith, c .later .ensures, c .before .before .before .before .before .before .before .before .before .before .pre .time)
+later-is : (c : tie.After-later) → c .later .result .0 ≡ c .before .before .before .before .before .before .before .before .before .before .before .args .slot .0 + 1
+later-is c = omega (arith, c .later .ensures, c .before .before .before .before .before .before .before .before .before .before .before .pre .time)
 
 cast-n : tie.Need-cast-n
 cast-n c = omega arith
 
 give-requires : tie.Need-give-requires
 give-requires c κs =
-    let a = c .before .before .before .before .before .before .before in
-    can-give (a .args .table) (a .args .trace .now) (a .args .slot .0) (a .args .at) _ _ (a .pre) (is-read (c .before .before .before))
+    let a = c .before .before .before .before .before .before .before .before in
+    can-give (a .args .table) (a .args .trace .now) (a .args .slot .0) (a .args .at) _ _ _ (a .pre) (is-read (c .before .before .before .before))
 
 early-in-requires : tie.Need-early-in-requires
 early-in-requires c κs = search needs
 
 returns-2 : tie.Need-returns-2
 returns-2 c =
-    let a = c .before .before .before .before .before .before .before .before .before .before in
-    ends (a .args .table) (a .args .trace .now) (a .args .slot .0) (c .early-in .ensures) (early-ends (a .args .table) (a .args .trace .now) (a .args .slot .0) (a .args .at) _ _ (a .pre) (is-read (c .before .before .before .before .before .before)) (c .before .before .give .ensures) (omega (arith, c .before .if2 .taken, a .pre .can .all)))
+    let a = c .before .before .before .before .before .before .before .before .before .before .before in
+    ends (a .args .table) (a .args .trace .now) (a .args .slot .0) (c .early-in .ensures) (early-ends (a .args .table) (a .args .trace .now) (a .args .slot .0) (a .args .at) _ _ _ (a .pre) (is-read (c .before .before .before .before .before .before .before)) (c .before .before .give .ensures) (omega (arith, c .before .if2 .taken, a .pre .can .all)))
 
 later-requires : tie.Need-later-requires
 later-requires c κs = search needs
 
 lowest-late-requires : tie.Need-lowest-late-requires
-lowest-late-requires c κs = search needs
+lowest-late-requires c κs =
+    let end = later-is (c .before) in
+    search needs
 
 late-at-requires : tie.Need-late-at-requires
 late-at-requires c κs = search needs
 
 returns-3 : tie.Need-returns-3
 returns-3 c =
-    let a = c .before .before .before .before .before .before .before .before .before .before .before .before .before .before in
+    let a = c .before .before .before .before .before .before .before .before .before .before .before .before .before .before .before in
     let end = later-is (c .before .before .before .before) in
     ends (a .args .table) (a .args .trace .now) (a .args .slot .0) (c .late-at .ensures .0, c .late-at .ensures .1 ∙ ap (named 45 (c .before .before .lowest-late .result)) end)
-    (late-ends (a .args .table) (a .args .trace .now) (a .args .slot .0) (a .args .at) _ _ (a .pre) (is-read (c .before .before .before .before .before .before .before .before .before .before)) (c .before .before .before .before .before .before .give .ensures) (omega (arith, c .before .before .before .before .before .if2 .left, a .pre .can .all)) end (c .before .before .lowest-late .ensures) (omega (arith, c .before .if3 .taken, a .pre .can .all)))
+    (late-ends (a .args .table) (a .args .trace .now) (a .args .slot .0) (a .args .at) _ _ _ (a .pre) (is-read (c .before .before .before .before .before .before .before .before .before .before .before)) (c .before .before .before .before .before .before .give .ensures) (omega (arith, c .before .before .before .before .before .if2 .left, a .pre .can .all)) end (c .before .before .lowest-late .ensures) (omega (arith, c .before .if3 .taken, a .pre .can .all)))
 
 add-next : tie.Need-add-next
 add-next c =
-    let a = c .before .before .before .before .before .before .before .before .before .before .before .before .before .before in
+    let a = c .before .before .before .before .before .before .before .before .before .before .before .before .before .before .before in
     let short : length (a .args .trace .now) < 18_446_744_073_709_551_616 = search needs in
-    omega (arith, short, rows-inside (a .args .table) (a .args .trace .now) (a .args .slot .0) (a .args .at) _ _ (a .pre) (is-read (c .before .before .before .before .before .before .before .before .before .before)))
+    omega (arith, short, rows-inside (a .args .table) (a .args .trace .now) (a .args .slot .0) (a .args .at) _ _ _ (a .pre) (is-read (c .before .before .before .before .before .before .before .before .before .before .before)))
 
 returns-4 : tie.Need-returns-4
 returns-4 c =
-    let a = c .before .before .before .before .before .before .before .before .before .before .before .before .before .before in
+    let a = c .before .before .before .before .before .before .before .before .before .before .before .before .before .before .before in
     record {
       walked = λ _.
-          goes-on (a .args .table) (a .args .trace .now) (a .args .slot .0) (a .args .at) _ _ (a .pre) (is-read (c .before .before .before .before .before .before .before .before .before .before)) (c .before .before .before .before .before .before .give .ensures) (omega (arith, c .before .before .before .before .before .if2 .left, a .pre .can .all)) (later-is (c .before .before .before .before)) (c .before .before .lowest-late .ensures) (omega (arith, c .before .if3 .left, a .pre .can .all));
+          goes-on (a .args .table) (a .args .trace .now) (a .args .slot .0) (a .args .at) _ _ _ (a .pre) (is-read (c .before .before .before .before .before .before .before .before .before .before .before)) (c .before .before .before .before .before .before .give .ensures) (omega (arith, c .before .before .before .before .before .if2 .left, a .pre .can .all)) (later-is (c .before .before .before .before)) (c .before .before .lowest-late .ensures) (omega (arith, c .before .if3 .left, a .pre .can .all));
       found = λ h. absurd (false≢true h);
     }
 
