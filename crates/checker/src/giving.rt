@@ -134,7 +134,7 @@ fn next_start(row: Row, kept: Kept) -> u32
 }
 
 // The lowest of n rows that is late at this time, its next quantum due, or n where none is. Mostly none is, and that is seen by counting
-// through all places without a way out between, which compares several at once; only then the lowest is looked for.
+// through all places with no way out between, which compares several at once; the lowest is looked for only if there is one.
 pub(crate) fn lowest_late(dues: &[u32; 32], n: usize, time: Slot) -> usize
     requires { ⌜ (n ≤ 32) × (time .0 ≤ slotLimit) ⌝ }
     ensures { λ r. ⌜ Lowest (λ i. leb (getD (now (dues .entry)) i 0) (time .0)) n r ⌝ }
