@@ -1,10 +1,10 @@
-//! What a slot costs: the proved code, plain Rust and hurried Rust, on the same work. The script host/bench builds it, runs it and prints
-//! the table.
+//! What a slot costs: the proved code, plain Rust, checked Rust and hurried Rust, on the same work. The script host/bench builds it, runs it and
+//! prints the table.
 //!
-//!     bench agree                   whether all programs do the same, with the second program as judge
-//!     bench run CASE WHO NUMBER     the work of a case, so much of it, by WHO: ours, plain or hurried; for counting instructions
-//!     bench time CASE NUMBER        the same by all of them in turn, three times: how long ours and hurried take, with plain as 1
-//!     bench files TABLE TRACE       writes the box of many slots, and a trace for it, to these files
+//!     bench agree                     whether all programs do the same, with the second program as judge
+//!     bench run CASE WHO NUMBER       the work of a case, so much of it, by WHO: ours, plain, checked or hurried; for counting instructions
+//!     bench time CASE NUMBER          the same in turn, three times: how long ours and hurried take, with plain as 1
+//!     bench files TABLE TRACE         writes the box of many slots, and a trace for it, to these files
 //!
 //! Exit status 0 if every answer is right; otherwise what is wrong is shown, and 1.
 
@@ -14,6 +14,8 @@ mod agree;
 mod boxes;
 #[path = "speed/cases.rs"]
 mod cases;
+#[path = "speed/checked.rs"]
+mod checked;
 #[path = "c/firmware.rs"]
 mod firmware;
 #[path = "speed/hurried.rs"]

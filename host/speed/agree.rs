@@ -5,7 +5,7 @@ use crate::make::sound;
 use crate::make::written::{written, Record};
 use crate::plain::cores::{first, Placement};
 use crate::random::Random;
-use crate::{boxes, hurried, ours, plain};
+use crate::{boxes, checked, hurried, ours, plain};
 use second::slot::{fresh, slot_on, State};
 
 const SLOTS: u32 = 2_000;
@@ -76,31 +76,37 @@ fn one(table: &[u8], k: u8) -> Result<u64, String> {
 }
 
 /// The records with these cores free from slot to slot, up to the first late one, and the state at the end: of the second program, and the
-/// same of plain and hurried; in each slot plain has the same rows on the same cores.
+/// same of plain, checked and hurried; in each slot plain and checked have the same rows on the same cores.
 fn by_rust(table: &[u8], mut free: impl FnMut() -> u32) -> Result<(Vec<Entry>, State), String> {
     let mut state =
         fresh(second::table::read(table).map_err(|number| format!("refused {}", number))?);
     let mut plain = plain::slot::State::fresh(plain::table::read(table).unwrap_or_default());
+    let mut checked = plain;
     let mut hurried = hurried::slots::State::fresh(table);
     let mut records = Vec::new();
     while state.time < SLOTS.into() && !state.stopped {
-        let [mut by_second, mut by_plain, mut by_hurried] = [[0; 10]; 3];
+        let [mut by_second, mut by_plain, mut by_checked, mut by_hurried] = [[0; 10]; 4];
         let free = free();
         let (_, placed) = slot_on(&mut state, free, &mut by_second, 0);
         plain.slot(free, &mut by_plain, 0);
+        checked::slot::slot(&mut checked, free, &mut by_checked, 0);
         hurried.slot(free.count_ones() as u8, &mut by_hurried);
-        if [by_plain, by_hurried] != [by_second; 2] {
-            let picks = [by_second, by_plain, by_hurried];
+        let picks = [by_plain, by_checked, by_hurried];
+        if picks != [by_second; 3] {
             return Err(format!(
-                "the records at time {} are {:?}",
-                state.time, picks
+                "the records at time {} are {:?}, not {:?}",
+                state.time, picks, by_second
             ));
         }
-        let Placement { count, rows, cores } = plain.last;
-        if (count, rows, cores) != (placed.count, placed.rows, placed.cores) {
+        let placed = Placement {
+            count: placed.count,
+            rows: placed.rows,
+            cores: placed.cores,
+        };
+        if [plain.last, checked.last] != [placed; 2] {
             return Err(format!(
-                "the cores at time {} are {:?}, not {:?}",
-                state.time, cores, placed
+                "the cores at time {} are {:?} and {:?}, not {:?}",
+                state.time, plain.last, checked.last, placed
             ));
         }
         records.push(by_second);

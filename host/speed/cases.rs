@@ -1,6 +1,6 @@
-//! The cases: what is measured, for each of the three programs.
+//! The cases: what is measured, for each of the programs.
 
-use crate::{boxes, hurried, ours, plain};
+use crate::{boxes, checked, hurried, ours, plain};
 
 /// Room for the record of 8 rows, one for each core.
 pub type Entry = [u8; 10];
@@ -12,7 +12,7 @@ pub struct Program {
     pub table_check: fn(&[u8]) -> u8,
 }
 
-pub const NAMES: [&str; 3] = ["ours", "plain", "hurried"];
+pub const NAMES: [&str; 4] = ["ours", "plain", "checked", "hurried"];
 
 pub fn program(name: &str) -> Result<Program, String> {
     match name {
@@ -25,6 +25,11 @@ pub fn program(name: &str) -> Result<Program, String> {
             slots: plain::slots,
             trace_check: plain::trace_check,
             table_check: plain::table_check,
+        }),
+        "checked" => Ok(Program {
+            slots: checked::slots,
+            trace_check: checked::trace_check,
+            table_check: checked::table_check,
         }),
         "hurried" => Ok(Program {
             slots: hurried::slots,

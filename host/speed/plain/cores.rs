@@ -3,7 +3,7 @@
 use super::table::Table;
 
 /// The rows of a slot, each with its core; 0 past the count.
-#[derive(Clone, Copy, Default)]
+#[derive(Clone, Copy, Default, PartialEq, Eq, Debug)]
 pub struct Placement {
     pub count: u8,
     pub rows: [u8; 8],

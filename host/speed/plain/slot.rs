@@ -6,7 +6,7 @@ use super::table::{self, Table};
 
 pub const TIME_LIMIT: u64 = 1_000_000_000;
 
-#[derive(Clone, Copy)]
+#[derive(Clone, Copy, PartialEq, Eq, Debug)]
 pub struct State {
     pub table: Table,
     pub time: u64,

@@ -1,6 +1,6 @@
 //! The table: its reader, and the fault of a table value.
 
-#[derive(Clone, Copy, Default)]
+#[derive(Clone, Copy, Default, PartialEq, Eq, Debug)]
 pub struct Row {
     pub tank: u16,
     pub cost: u16,
@@ -9,7 +9,7 @@ pub struct Row {
     pub kind: u8,
 }
 
-#[derive(Clone, Copy, Default)]
+#[derive(Clone, Copy, Default, PartialEq, Eq, Debug)]
 pub struct Table {
     pub cycle: u32,
     pub cores: u8,
