@@ -10,6 +10,8 @@
 
 #[path = "speed/agree.rs"]
 mod agree;
+#[path = "speed/alike.rs"]
+mod alike;
 #[path = "speed/boxes.rs"]
 mod boxes;
 #[path = "speed/cases.rs"]
@@ -23,10 +25,18 @@ mod hurried;
 #[path = "compare/make"]
 #[allow(dead_code)]
 mod make {
+    pub mod damage;
     pub mod hex;
+    pub mod memory;
     pub mod schedule;
     pub mod sound;
+    pub mod spoil;
+    pub mod states;
     pub mod written;
+    /// `states` asks for a row that no rule looks at; compare's own file of this name is made for its messages
+    pub mod rows {
+        pub use crate::wild::wild_row;
+    }
 }
 #[path = "speed/ours.rs"]
 mod ours;
@@ -35,9 +45,15 @@ mod plain;
 #[path = "compare/random.rs"]
 #[allow(dead_code)]
 mod random;
+#[path = "speed/wild.rs"]
+mod wild;
 
 use cases::Program;
 use std::time::Instant;
+
+fn agree() -> Result<String, String> {
+    Ok(format!("{}\n{}", agree::run()?, alike::run()?))
+}
 
 fn run(case: &str, who: &str, number: &str) -> Result<String, String> {
     let number = number
@@ -97,7 +113,7 @@ fn files(table: &str, trace: &str) -> Result<String, String> {
 fn main() {
     let words: Vec<String> = std::env::args().skip(1).collect();
     let outcome = match words.iter().map(String::as_str).collect::<Vec<_>>()[..] {
-        ["agree"] => agree::run(),
+        ["agree"] => agree(),
         ["run", case, who, number] => run(case, who, number),
         ["time", case, number] => time(case, number),
         ["files", table, trace] => files(table, trace),
