@@ -23,6 +23,8 @@ fn all_boxes() -> Vec<Vec<u8>> {
         boxes::short(),
         boxes::longest_walks(),
         boxes::equal(1, 4, false),
+        boxes::equal(5, 20, true),
+        boxes::equal(5, 21, false),
         boxes::equal(5, 21, true),
     ];
     for number in 0..RANDOM_BOXES {
