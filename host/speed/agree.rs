@@ -22,10 +22,10 @@ fn all_boxes() -> Vec<Vec<u8>> {
         boxes::full(),
         boxes::short(),
         boxes::longest_walks(),
-        boxes::equal(1, 4, false),
-        boxes::equal(5, 20, true),
-        boxes::equal(5, 21, false),
-        boxes::equal(5, 21, true),
+        boxes::equal(32, 1, 4, false),
+        boxes::equal(32, 5, 20, true),
+        boxes::equal(32, 5, 21, false),
+        boxes::equal(32, 5, 21, true),
     ];
     for number in 0..RANDOM_BOXES {
         let cycle = random.pick(&CYCLES);

@@ -21,6 +21,14 @@ pub fn full() -> Vec<u8> {
     bytes_of(FULL)
 }
 
+/// Its first rows alone: n stands behind 14 bytes, and each row has nine.
+pub fn full_to(n: u8) -> Vec<u8> {
+    let mut table = full();
+    table[14] = n;
+    table.truncate(15 + 9 * usize::from(n));
+    table
+}
+
 /// A plain row of phase 0.
 fn row(tank: u16, cost: u16, period: u16) -> Row {
     Row {
@@ -51,9 +59,9 @@ pub fn longest_walks() -> Vec<u8> {
     rows(65_535, weights.into_iter().flat_map(|it| [it; 8]), false)
 }
 
-/// A farm of 32 equal tanks: at first each row has the deadline and the bit of every other.
-pub fn equal(e: u16, p: u16, early: bool) -> Vec<u8> {
-    rows(p.into(), [(e, p); 32].into_iter(), early)
+/// A farm of so many equal tanks: at first each row has the deadline and the bit of every other.
+pub fn equal(n: u8, e: u16, p: u16, early: bool) -> Vec<u8> {
+    rows(p.into(), (0..n).map(|_| (e, p)), early)
 }
 
 const BOARDS: [u8; 8] = [0, 1, 2, 3, 4, 5, 6, 7];

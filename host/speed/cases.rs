@@ -66,9 +66,8 @@ pub fn case(name: &str) -> Result<Case, String> {
 fn of_a_box(name: &str) -> Option<Case> {
     let (what, which) = name.split_once('_')?;
     let (table, k) = match which {
-        "full" => (boxes::full(), 8),
         "walks" => (boxes::longest_walks(), 7),
-        weight => (equal(weight)?, 8),
+        rows => (some_rows(rows)?, 8),
     };
     match what {
         "slots" => Some(slots(table, k)),
@@ -78,11 +77,16 @@ fn of_a_box(name: &str) -> Option<Case> {
     }
 }
 
-/// 32 equal rows: `1/4`, or, of early release, `1/4e`.
-fn equal(weight: &str) -> Option<Vec<u8>> {
-    let (e, rest) = weight.split_once('/')?;
+/// 32 equal rows: `1/4`, or, of early release, `1/4e`; 9 of them, `8/9x9`; the full box, `full`; its first 9 rows, `fullx9`.
+fn some_rows(name: &str) -> Option<Vec<u8>> {
+    let (which, n) = name.split_once('x').unwrap_or((name, "32"));
+    let n = n.parse().ok()?;
+    if which == "full" {
+        return Some(boxes::full_to(n));
+    }
+    let (e, rest) = which.split_once('/')?;
     let p = rest.trim_end_matches('e');
-    Some(boxes::equal(e.parse().ok()?, p.parse().ok()?, rest != p))
+    Some(boxes::equal(n, e.parse().ok()?, p.parse().ok()?, rest != p))
 }
 
 /// So many slots.
