@@ -5,6 +5,8 @@
 //!     bench run CASE WHO NUMBER       the work of a case, so much of it, by WHO: ours, plain, checked or hurried; for counting instructions
 //!     bench time CASE NUMBER          the same in turn, three times: how long ours and hurried take, with plain as 1
 //!     bench files TABLE TRACE         writes the box of many slots, and a trace for it, to these files
+//!     bench worst COUNTER..           searches for the worst slot of ours, with a command that runs this program and counts its instructions
+//!     bench children TABLE K SLOTS    what that counts
 //!
 //! Exit status 0 if every answer is right; otherwise what is wrong is shown, and 1.
 
@@ -45,6 +47,8 @@ mod plain;
 #[path = "compare/random.rs"]
 #[allow(dead_code)]
 mod random;
+#[path = "speed/search.rs"]
+mod search;
 #[path = "speed/wild.rs"]
 mod wild;
 
@@ -117,6 +121,8 @@ fn main() {
         ["run", case, who, number] => run(case, who, number),
         ["time", case, number] => time(case, number),
         ["files", table, trace] => files(table, trace),
+        ["worst", ref counter @ ..] => search::run(counter),
+        ["children", table, k, slots] => search::children(table, k, slots),
         _ => Err("usage: see the head of speed.rs".to_string()),
     };
     match outcome {

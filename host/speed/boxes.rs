@@ -64,7 +64,7 @@ pub fn equal(n: u8, e: u16, p: u16, early: bool) -> Vec<u8> {
     rows(p.into(), (0..n).map(|_| (e, p)), early)
 }
 
-const BOARDS: [u8; 8] = [0, 1, 2, 3, 4, 5, 6, 7];
+pub const BOARDS: [u8; 8] = [0, 1, 2, 3, 4, 5, 6, 7];
 
 pub const TRACE_SLOTS: usize = 1_000_000;
 const CYCLE: usize = 420;
