@@ -26,6 +26,7 @@ fn all_boxes() -> Vec<Vec<u8>> {
         boxes::equal(32, 5, 20, true),
         boxes::equal(32, 5, 21, false),
         boxes::equal(32, 5, 21, true),
+        boxes::worst(),
     ];
     for number in 0..RANDOM_BOXES {
         let cycle = random.pick(&CYCLES);

@@ -29,6 +29,24 @@ pub fn full_to(n: u8) -> Vec<u8> {
     table
 }
 
+/// The box of the worst slot that `host/bench worst` has found, in the layout of the full box, with so many cores free, and the slot. All rows are early
+/// release, and 7 are heavy. In that slot all are ready and ahead of their shares, and 30 of them go before every row below them.
+const WORST: &str = "01 50FF0A00 08 0001020304050607 20\
+    | 0000 6500 4E75 0100 01 | 0100 6000 4E75 0000 01 | 0200 6700 4E75 0000 01 | 0300 6D00 4E75 0000 01\
+    | 0400 7000 4E75 0000 01 | 0500 7300 4E75 0000 01 | 0600 7600 4E75 0000 01 | 0700 7900 4E75 0000 01\
+    | 0800 7C00 4E75 0600 01 | 0900 7F00 4E75 0100 01 | 0A00 8200 4E75 0100 01 | 0B00 8600 4E75 0100 01\
+    | 0C00 8800 4E75 0100 01 | 0D00 8B00 4E75 0100 01 | 0E00 8E00 4E75 0100 01 | 0F00 9100 4E75 0100 01\
+    | 1000 9400 4E75 0200 01 | 1100 9700 4E75 0200 01 | 1200 9A00 4E75 0200 01 | 1300 9D00 4E75 0200 01\
+    | 1400 A000 4E75 0200 01 | 1500 A300 4E75 0200 01 | 1600 A600 4E75 0200 01 | 1700 7D06 4E75 0200 01\
+    | 1800 BE01 4E75 0300 01 | 1900 E93E 4E75 0300 01 | 1A00 E040 4E75 0300 01 | 1B00 CC42 4E75 0300 01\
+    | 1C00 8E45 4E75 0300 01 | 1D00 B446 4E75 0300 01 | 1E00 A848 4E75 0300 01 | 1F00 944A 4E75 0300 01";
+pub const WORST_K: u8 = 8;
+pub const WORST_SLOT: u32 = 25;
+
+pub fn worst() -> Vec<u8> {
+    bytes_of(WORST)
+}
+
 /// A plain row of phase 0.
 fn row(tank: u16, cost: u16, period: u16) -> Row {
     Row {

@@ -1,6 +1,7 @@
 //! The cases: what is measured, for each of the programs.
 
-use crate::{boxes, checked, hurried, ours, plain};
+use crate::boxes::{self, WORST_K, WORST_SLOT};
+use crate::{checked, hurried, ours, plain};
 
 /// Room for the record of 8 rows, one for each core.
 pub type Entry = [u8; 10];
@@ -44,7 +45,8 @@ pub fn program(name: &str) -> Result<Program, String> {
 pub type Case = Box<dyn Fn(&Program, u32) -> bool>;
 
 /// `trace`, `table`, or what is done with a box, and which box: `slots_BOX`, `first_BOX`, `fresh_BOX`. The number is that of checks, of tables read, of
-/// slots, of fresh states with their first slot, or of fresh states without, to be taken off.
+/// slots, of fresh states with their first slot, or of fresh states without, to be taken off. `through_worst` and `before_worst` are fresh states with
+/// their slots through the worst one, and without it.
 pub fn case(name: &str) -> Result<Case, String> {
     match name {
         "trace" => {
@@ -59,6 +61,8 @@ pub fn case(name: &str) -> Result<Case, String> {
                 (0..number).all(|_| (program.table_check)(&full) == 0)
             }))
         }
+        "through_worst" => Ok(first_slots(boxes::worst(), WORST_K, WORST_SLOT + 1)),
+        "before_worst" => Ok(first_slots(boxes::worst(), WORST_K, WORST_SLOT)),
         _ => of_a_box(name).ok_or(format!("no case is called {}", name)),
     }
 }
@@ -96,7 +100,7 @@ fn slots(table: Vec<u8>, k: u8) -> Case {
     })
 }
 
-/// So many times a fresh state, and its first slot or none.
+/// So many times a fresh state, and so many slots of it.
 fn first_slots(table: Vec<u8>, k: u8, slots: u32) -> Case {
     Box::new(move |program, number| {
         (0..number).all(|_| (program.slots)(&table, k, slots, &mut [0; 10]) == slots.into())
