@@ -11,7 +11,9 @@ use Rattle.pd2.proofs.Rows.{give-is-determined, lowest-late-is-determined}
 use Rattle.trace.proofs.Determined.{write-is-determined, record-is-determined-but-for-its-name}
 use Rattle.counts.specs.Numbers.{numbersOf}
 use Rattle.choice.specs.Choice.{chosen}
+use Rattle.choice.specs.Keys.{keyIn}
 use Rattle.choice.proofs.Chosen.{picks-are-determined}
+use Rattle.choice.proofs.Left.{first-left-is-determined}
 use Rattle.dispatcher.proofs.Determined as dispatcher
 use Rattle.checker.proofs.Determined.{check-is-determined}
 use Rattle.printer.proofs.Buffer.{print-is-determined}
@@ -55,6 +57,7 @@ every-promise-determines =
       trace-record-but-for-its-name = λ trace at slot name. record-is-determined-but-for-its-name (record { ptr = at; name = 0; now = trace }) (slot .0) name;
       trace-begins = λ trace slot. by-value;
       choice-picks = λ rows quanta n time k. picks-are-determined (chosen (take n rows) (numbersOf quanta) (time .0) (min k 8));
+      choice-first-left = λ keys n k. first-left-is-determined (keyIn keys) (min n 32) (min k 8);
       cores-Placement-nobody = by-value;
       cores-Placement-is-faulty = λ self cores n. by-value;
       cores-how-many = λ free a b p q. p .0 ∙ sym (q .0);

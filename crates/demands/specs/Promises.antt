@@ -34,6 +34,7 @@ use Rattle.trace.specs.declared.Stored.{Stored}
 use Rattle.trace.specs.Record.{recordOf, marked, storedNumber, writeNumber, partAfter}
 use Rattle.trace.specs.Found.{partFound, partBegins}
 use Rattle.choice.specs.Choice.{chosen}
+use Rattle.choice.specs.Keys.{keyIn, FirstLeft}
 use Rattle.cores.specs.declared.Placement.{Placement}
 use Rattle.cores.specs.Sets.{size, namesPast, firstCores}
 use Rattle.cores.specs.Placement.{nobody}
@@ -199,6 +200,10 @@ trace·begins trace slot r = r ≡ partBegins trace (slot .0)
 -- choice::picks
 abbrev pub choice·picks : List Row → List Quanta → ℕ → Slot → ℕ → List Bool → Type 0
 choice·picks rows quanta n time k r = (length r ≡ 32) × (marked r ≡ chosen (take n rows) (numbersOf quanta) (time .0) (min k 8))
+
+-- choice::first_left
+abbrev pub choice·first-left : List ℕ → ℕ → ℕ → ℕ → Type 0
+choice·first-left keys n k r = FirstLeft (keyIn keys) (min n 32) (min k 8) r
 
 -- cores::Placement::nobody
 abbrev pub cores·Placement·nobody : Placement → Type 0

@@ -50,7 +50,7 @@ impl Kind for Case {
 }
 
 fn wild_quanta(random: &mut Random) -> u64 {
-    let low = random.pick(&[0, 255, 65_535, u64::from(u32::MAX), (1 << 46) - 1]);
+    let low = random.pick(&[0, 255, 65_535, u64::from(u32::MAX), (1 << 40) - 1]);
     let high = random.pick(&[u64::MAX, u64::MAX - 1]);
     match random.below(4) {
         0 => low,

@@ -16,9 +16,9 @@ impl Kind for Case {
         "lowest late row (1 in 50): none | 0 | 1 to 30 | 31",
         rows_seen::COUNTS,
         "some late, n (1 in 200): 33 to 256 | 2^32 | above 2^32 | 2^64 - 1",
-        "some late at (1 in 200): time 2^46",
+        "some late at (1 in 200): time 2^40",
         "none late, told by (1 in 100): 0 | 1 to 31 | 32",
-        "late but for the reach, at (1 in 300): time 2^46 + 1",
+        "late but for the reach, at (1 in 300): time 2^40 + 1",
         rows_seen::ROWS,
     ];
 

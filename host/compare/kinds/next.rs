@@ -88,7 +88,7 @@ fn whole(random: &mut Random) -> (u16, u16) {
 }
 
 fn origin(random: &mut Random) -> u64 {
-    let any = random.below(1 << 46) as u64;
+    let any = random.below(1 << 40) as u64;
     match random.below(8) {
         0 => limit(random),
         1 => any,
@@ -103,7 +103,7 @@ fn quanta(random: &mut Random, e: u16) -> u64 {
     let jobs = random.below(4) as u64 * u64::from(e);
     match random.below(10) {
         0 => limit(random),
-        1 => random.below(1 << 46) as u64,
+        1 => random.below(1 << 40) as u64,
         2 => u64::from(u32::MAX) + random.below(3) as u64,
         3 => jobs,
         _ => jobs + random.below(usize::from(e).max(1)) as u64,

@@ -23,8 +23,8 @@ impl Kind for Case {
         "inside its share (1 in 20): 0..2",
         "answered with (1 in 600): kind 0 | kind 1 | a kind above 1 | \
          a kind above 1, where early release has another answer | e = p | a phase above 0 | \
-         a time before the phase | p of 65,535, 2^46 quanta, time 0 | \
-         p of 65,535, no quanta, time 2^46",
+         a time before the phase | p of 65,535, 2^40 quanta, time 0 | \
+         p of 65,535, no quanta, time 2^40",
         CAUSES,
         LIMITS,
     ];
@@ -39,7 +39,7 @@ impl Kind for Case {
         let (quanta, time) = match random.below(8) {
             0 => (limit(random), REACH - random.below(2) as u64),
             1 => at_time(random, &row, limit),
-            2 => at_time(random, &row, |random| random.below(1 << 46) as u64),
+            2 => at_time(random, &row, |random| random.below(1 << 40) as u64),
             _ => at_time(random, &row, |random| random.below(200) as u64),
         };
         Case { row, quanta, time }

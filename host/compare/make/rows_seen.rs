@@ -10,7 +10,7 @@ pub const COUNTS: Group = "n (1 in 200): 0 | 1 to 31 | 32 | 33 to 256 | 2^32 | a
 
 /// The first five of rows whose question is answered, the others of rows whose question is not.
 pub const ROWS: Group = "a row (1 in 200): of kind 0 | of kind 1 | of a kind above 1 | of e = p | \
-    answered at time 2^46 | of e = 0 | of e above p | of too many quanta";
+    answered at time 2^40 | of e = 0 | of e above p | of too many quanta";
 
 pub fn count(rows: &Rows, tally: &mut Tally) {
     tally.saw("n", count_name(rows.n));
