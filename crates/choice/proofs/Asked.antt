@@ -1,9 +1,8 @@
 -- What the lower crates answer about a row, and what the functions here make of it. Assumes nothing.
 use Prim.Native.Nat.{ℕ, _+_, _-_, _*_, _<_}
-use mathlib.Core.Path.{_≡_, refl, sym, ap, _∙_}
-use mathlib.Core.Bool.{true, false, cond, false≢true}
+use mathlib.Core.Path.{_≡_, refl, sym, _∙_}
+use mathlib.Core.Bool.{true, false, false≢true}
 use mathlib.Core.Logic.{_⊎_, inl, inr}
-use lib.Dec.{eqb}
 use native.Mathlib.Omega.{arith}
 use Rattle.counts.specs.Limits.{most}
 use Rattle.windows.proofs.Windows.{bit-is-0-or-1}

@@ -1,9 +1,9 @@
 -- One key more among the smallest, by moving the larger ones on. Assumes nothing.
 use Prim.Native.Nat.{ℕ, zero, suc, _+_, _-_, _≤_, _<_, min}
-use mathlib.Core.Path.{_≡_, refl, ap, subst, _∙_}
+use mathlib.Core.Path.{_≡_, refl, ap, _∙_}
 use mathlib.Core.List.{List}
 use mathlib.Core.Bool.{cond}
-use mathlib.Core.Logic.{_⊎_, inl, inr}
+use mathlib.Core.Logic.{inl, inr}
 use native.Mathlib.Decide.{decLt, ℕ-discrete}
 use native.Mathlib.Omega.{arith}
 use lib.Dec.{ltb}
@@ -14,7 +14,7 @@ use Rattle.facts.specs.Counting.{howMany}
 use Rattle.facts.proofs.Counting.{same-count, counted-one-more, no-more-than-all, all-counted}
 use Rattle.facts.proofs.Growing.{never-falls}
 use Rattle.counts.specs.Limits.{most}
-use Rattle.choice.specs.Keys.{keyIn, Rises, Spare, WithKey, OneKeyMore}
+use Rattle.choice.specs.Keys.{keyIn, Spare, OneKeyMore}
 
 -- how many of the first k keys lie below v
 abbrev pub lower : List ℕ → ℕ → ℕ → ℕ

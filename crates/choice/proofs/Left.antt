@@ -1,5 +1,5 @@
 -- The k smallest keys, and the first that is left out. Assumes nothing.
-use Prim.Native.Nat.{ℕ, _+_, _-_, _≤_, _<_, min}
+use Prim.Native.Nat.{ℕ, _+_, _≤_, _<_, min}
 use mathlib.Core.Path.{_≡_, refl, sym, ap, _∙_}
 use mathlib.Core.List.{List}
 use mathlib.Core.Bool.{Bool, true, false, _&&_}
@@ -16,7 +16,7 @@ use Rattle.counts.specs.Limits.{most}
 use Rattle.pd2.specs.Picks.{ahead, picked}
 use Rattle.pd2.proofs.Picks.{picked-if-few-ahead, unready-is-not-picked}
 use Rattle.choice.specs.Keys.{keyIn, FirstLeft, Smallest, Spare, OneKeyMore}
-use Rattle.choice.proofs.Inserted.{lower, all-lower}
+use Rattle.choice.proofs.Inserted.{all-lower}
 
 module _ (key : ℕ → ℕ) where
   -- Of no keys, the smallest are the largest number throughout,

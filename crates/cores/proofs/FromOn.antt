@@ -1,14 +1,13 @@
 -- For the code: the numbers of a set from one on. Assumes nothing.
-use Prim.Native.Nat.{ℕ, zero, suc, _+_, _≤_, _<_}
+use Prim.Native.Nat.{ℕ, _+_, _≤_, _<_}
 use mathlib.Core.Path.{_≡_, sym, ap, _∙_}
-use mathlib.Core.List.{List, [], _∷_, _++_}
-use mathlib.Core.Bool.{Bool, true, false, cond}
-use native.Mathlib.Decide.{decLt}
+use mathlib.Core.List.{List, [], _∷_}
+use mathlib.Core.Bool.{Bool, true, false}
 use native.Mathlib.Numerals.{add-one}
 use native.Mathlib.Omega.{arith}
-use lib.ListN.{length, getD, drop, drop-of-length-le, List·getD-append}
-use lib.Seq.{drop-cons, getD-append-add}
-use Rattle.facts.specs.Counting.{howMany, those}
+use lib.ListN.{length, getD, drop, drop-of-length-le}
+use lib.Seq.{drop-cons}
+use Rattle.facts.specs.Counting.{howMany}
 use Rattle.facts.proofs.Counting.{counted-if-passed, uncounted-if-failed, none-counted, counts-grow}
 use Rattle.facts.proofs.Listing.{as-many-listed, more-listed, stands-behind}
 use Rattle.trace.specs.Record.{marked}

@@ -23,12 +23,12 @@ use Rattle.pd2.specs.Order.{rankOf}
 use Rattle.pd2.specs.Share.{within}
 use Rattle.pd2.specs.Choice.{rowAt, quantaAt, readyIn}
 use Rattle.pd2.proofs.Choice.{row-there}
-use Rattle.choice.specs.Arrays.{InPlace}
 use Rattle.choice.specs.Keys.{keyFor, HasKey, keyIn}
 use Rattle.dispatcher.specs.declared.Stand.{Stand}
 use Rattle.dispatcher.specs.declared.Stand.the-variants.{Outside, Waits, Ready}
 use Rattle.dispatcher.specs.Broken.{ofRowAt}
-use Rattle.dispatcher.specs.Usable.{brokenRow, exceeding, standOf, Testable, CanBeReady, readyRows, keyAt, ReadyKeys, LooksAt}
+use Rattle.dispatcher.specs.Usable.{brokenRow, exceeding, standOf, Testable, CanBeReady, keyAt, ReadyKeys, LooksAt}
+use Rattle.dispatcher.proofs.Asked.{can-be-there, as-read}
 
 -- What is said of a row, by its stand.
 pub record Told (s : Stand) (breaks isReady : Bool) : Type 0 where
@@ -153,7 +153,7 @@ module _ {rows : List Row} {quanta : List Quanta} {n t : ℕ} (can : Testable ro
     can-be-ready whole next =
         let sound = neither-holds (ltb t (getD quanta i q .0)) (not (within (getD rows i r) (getD quanta i q .0) t)) whole in
         record {
-          can = rw (row-there rows n i r l) (can .each i l);
+          can = can-be-there can l r;
           number = omega (arith, l, can .place .few, can .place .all);
           quanta = ltb-false t (getD quanta i q .0) (sound .0);
           time = can .time;
@@ -162,10 +162,10 @@ module _ {rows : List Row} {quanta : List Quanta} {n t : ℕ} (can : Testable ro
         }
 
     pub broken-as-read : (stopped : Bool) → brokenRow stopped t (getD rows i r) (getD quanta i q .0) ≡ ofRowAt (take n rows) (numbersOf quanta) (brokenRow stopped t) i
-    broken-as-read stopped = rw (row-there rows n i r l, number-there quanta i q there) refl
+    broken-as-read stopped = as-read (can .place) l r q (brokenRow stopped t)
 
     pub ready-as-read : ready (getD rows i r) (getD quanta i q .0) t ≡ readyIn (take n rows) (numbersOf quanta) t i
-    ready-as-read = rw (row-there rows n i r l, number-there quanta i q there) refl
+    ready-as-read = as-read (can .place) l r q (λ row given. ready row given t)
 
     pub key-as-read : {key : ℕ} → (key ≡ keyFor (rankOf (getD rows i r) i (getD quanta i q .0))) × (key < most) × HasKey (rankOf (getD rows i r) i (getD quanta i q .0)) →
         (key ≡ keyAt (take n rows) (numbersOf quanta) i) × (key < most) × HasKey (rankOf (rowAt (take n rows) i) i (quantaAt (numbersOf quanta) i))

@@ -1,9 +1,9 @@
-pub mod Recorded
-pub mod Giving
-pub mod Looking
-pub mod Found
 pub mod Rows
 pub mod Asked
+pub mod Looking
+pub mod Found
+pub mod Recorded
+pub mod Giving
 pub mod BrokenBy
 pub mod Ran
 pub mod Refused

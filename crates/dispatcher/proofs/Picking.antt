@@ -6,7 +6,7 @@ use mathlib.Core.Bool.{Bool, true, false, cond, not, _&&_, true≢false}
 use native.Mathlib.Decide.{decLt}
 use native.Mathlib.Omega.{arith}
 use borrow.Author.Tests.{lt-ltb, le-ltb}
-use lib.Dec.{ltb, leb}
+use lib.Dec.{ltb}
 use lib.ListN.{length, getD}
 use Rattle.facts.specs.Counting.{howMany, those}
 use Rattle.facts.specs.First.{Lowest}
@@ -17,11 +17,10 @@ use Rattle.facts.proofs.Listing.{same-list, as-many-listed, listed-pass}
 use Rattle.facts.proofs.Sublists.{counted-by-place, listed-by-place, lowest-by-place}
 use Rattle.facts.proofs.Tests.{both}
 use Rattle.counts.specs.Limits.{most}
-use Rattle.counts.proofs.Numbers.{as-many-numbers}
 use Rattle.table.specs.declared.Row.{Row}
 use Rattle.pd2.specs.Ready.{late}
 use Rattle.pd2.specs.Order.{rankOf, before}
-use Rattle.pd2.specs.Share.{lower, upper, within, CanBe}
+use Rattle.pd2.specs.Share.{lower, upper, CanBe}
 use Rattle.pd2.specs.Picks.{picked}
 use Rattle.pd2.specs.Choice.{rowAt, quantaAt, readyIn, goesBeforeBy, given}
 use Rattle.pd2.proofs.Share.{late-means-below, row-can-be}
@@ -30,14 +29,13 @@ use Rattle.pd2.proofs.Picks.{picks-are-best}
 use Rattle.pd2.proofs.Choice.{pd2-is-strict, given-at}
 use Rattle.trace.specs.Records.{names}
 use Rattle.trace.proofs.Names.{listed-are-named}
-use Rattle.choice.specs.Keys.{keyFor, keyIn, FirstLeft}
+use Rattle.choice.specs.Keys.{keyIn, FirstLeft}
 use Rattle.choice.proofs.KeyOrder.{key-ends-with-row, key-begins-with-deadline}
 use Rattle.choice.proofs.Picked.{KeyedBy, picked-before}
 use Rattle.dispatcher.specs.declared.State.{State}
 use Rattle.dispatcher.specs.State.{rowsIn, quantaIn, timeOf}
-use Rattle.dispatcher.specs.Broken.{ofRow}
 use Rattle.dispatcher.specs.Slot.{picksIn}
-use Rattle.dispatcher.specs.Usable.{readyRows, keyAt, ReadyKeys, rowsBefore, dueSoon, isDue, LateRow, UsableState}
+use Rattle.dispatcher.specs.Usable.{keyAt, ReadyKeys, rowsBefore, dueSoon, isDue, LateRow}
 use Rattle.dispatcher.proofs.Whole.{Whole}
 
 module _ (s : State) (k : ℕ) {keys : List ℕ} {found : ℕ} (so : ReadyKeys (rowsIn s) (quantaIn s) (timeOf s) keys found) where

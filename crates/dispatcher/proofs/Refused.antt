@@ -1,20 +1,17 @@
 -- A slot's tests, one after the other: what each refusal gives back, and what a slot that is done gives. Assumes nothing.
 use Prim.Native.Nat.{ℕ, zero, suc, _+_, _-_, _≤_, _<_}
 use mathlib.Core.Path.{_≡_, refl, sym, ap, _∙_}
-use mathlib.Core.List.{List, [], _∷_, _++_}
+use mathlib.Core.List.{List, [], _∷_}
 use mathlib.Core.Bool.{Bool, true, false, cond}
-use mathlib.Core.Logic.{_⊎_, inl, inr}
-use native.Mathlib.Decide.{decLe, decLt}
+use native.Mathlib.Decide.{decLt}
 use native.Mathlib.Omega.{arith}
-use borrow.Author.Tests.{lt-ltb, le-ltb, lt-leb, le-leb, eq-eqb, ne-eqb}
+use borrow.Author.Tests.{lt-ltb, le-ltb, eq-eqb, ne-eqb}
 use lib.Dec.{eqb}
-use lib.ListN.{length, take, drop, length-drop, take-append-drop}
+use lib.ListN.{length}
 use Rattle.facts.specs.Findings.{_says_, firstFound, FirstFound, NoneFound}
 use Rattle.facts.proofs.Findings.{none-says-otherwise, first-is-said, said-is-first, after-none, first-is-such, in-range}
 use Rattle.counts.specs.Limits.{timeLimit}
-use Rattle.trace.specs.declared.Stored.{Stored}
-use Rattle.trace.specs.declared.Stored.the-variants.{Written, NoRoom}
-use Rattle.trace.specs.Record.{recordOf, withFront, withRecord, storedNumber, writeNumber, partAfter}
+use Rattle.trace.specs.Record.{withRecord}
 use Rattle.trace.specs.Said.{bare}
 use Rattle.cores.specs.Sets.{size, namesPast}
 use Rattle.cores.specs.Placement.{nobody}

@@ -1,7 +1,7 @@
 use mathlib.Core.Path.{_≡_, sym, ap, _∙_}
 use mathlib.Core.Bool.{true, true≢false}
 use mathlib.Core.Logic.{⊎-elim}
-use Prim.Native.Nat.{_+_, _≤_, _<_}
+use Prim.Native.Nat.{_+_, _<_}
 use borrow.Author.Tests.{not-true, not-false}
 use Rattle.windows.proofs.Windows.{bit-is-0-or-1}
 use Rattle.windows.proofs.Next.{dueTime, dueBit, isDue}

@@ -1,6 +1,5 @@
 use Prim.Native.Nat.{_-_, _<_}
 use native.Mathlib.Omega.{arith}
-use borrow.Author.Needs.{needs}
 use lib.ListN.{length, take}
 use Rattle.counts.specs.Numbers.{numbersOf}
 use Rattle.choice.proofs.Filled.{Keyed, no-keys-yet, one-more-keyed, all-keyed}

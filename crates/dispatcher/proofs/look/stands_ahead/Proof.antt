@@ -1,11 +1,7 @@
-use mathlib.Core.Path.{_≡_, refl, sym, _∙_}
-use Prim.Native.Nat.{ℕ, _+_, _-_, _*_, _/_, _≤_, _<_}
+use Prim.Native.Nat.{_+_, _-_, _/_}
 use native.Mathlib.Nat.{div-le-self}
 use native.Mathlib.Omega.{arith}
-use borrow.Author.Tests.{lt-ltb, le-ltb}
-use Rattle.facts.specs.Rounding.{ceilDiv}
 use Rattle.facts.proofs.Rounding.{ceil-by-quotient}
-use Rattle.dispatcher.specs.Usable.{aheadStand}
 use Rattle.dispatcher.proofs.Looking.{product-is-small, ahead-ready, ahead-outside, ahead-waits-on}
 use borrow.Author.Needs.{needs}
 use Rattle.dispatcher.proofs.look.stands_ahead.Statement.{statement}
