@@ -117,7 +117,7 @@ uint8_t zb_trace_check(const uint8_t *table, size_t table_length, const uint8_t 
  * The bytes of stack that a call of zb_trace_check uses, measured as ZB_TABLE_CHECK_STACK is: for a full table of 8 cores and 32 rows
  * with a trace that passes and with refused ones, and for a refused table. The length of the trace does not matter.
  */
-#define ZB_TRACE_CHECK_STACK 3584
+#define ZB_TRACE_CHECK_STACK 3072
 
 #ifdef __cplusplus
 }
