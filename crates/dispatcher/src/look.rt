@@ -1,5 +1,5 @@
-// One pass over the rows of a state: whether one breaks it, and the keys of those that are ready. Quanta and times are whole numbers of slots, and no division is
-// made for a row that waits, but for an early-release row that is ahead of its share.
+// One pass over the rows of a state: whether one breaks it, and the keys of those that are ready. A row's share, whether it is ready and when it is due all come from the
+// same two products, so that a row is looked at once.
 use crate::Looked;
 use crate::Stand;
 use counts::Quanta;
@@ -18,7 +18,6 @@ ghost use Rattle.pd2.specs.Share.{CanBe};
 ghost use Rattle.pd2.specs.Ready.{ready};
 ghost use Rattle.pd2.specs.Order.{rankOf};
 ghost use Rattle.choice.specs.Keys.{keyFor, HasKey};
-ghost use Rattle.dispatcher.specs.Broken.{ofRowAt};
 ghost use Rattle.dispatcher.specs.Usable.{Testable, brokenRow, exceeding, standOf, LooksAt, CanBeReady, Ahead, aheadStand};
 
 // The keys of the ready rows come to the front of the lent array, by rising row number. In a stopped state no row is asked for its share, and none is ready.
@@ -80,7 +79,8 @@ fn has_too_many(quanta: [Quanta; 32], n: usize, time: Slot) -> bool
     false
 }
 
-// Whether a row breaks the state, waits or is ready, by products.
+// Where a row stands, by its share and by what it has had, both times the period: so nothing is divided. All sums and products lie far below 64 bits, with times a
+// thousand times as long, too.
 fn stands(row: Row, given: u64, time: u64) -> Stand
     requires { ⌜ CanBe row × (time ≤ timeLimit) ⌝ }
     ensures { λ r. ⌜ r ≡ standOf (brokenRow false time row given) (ready row given time) ⌝ }
@@ -101,15 +101,18 @@ fn stands(row: Row, given: u64, time: u64) -> Stand
     let period = row.period as u64;
     let share = elapsed * cost;
     let had = given * period;
+    // a whole quantum is owed
     if had + period <= share {
         return Stand::Outside;
     }
+    // a row that is not ahead of its share is ready, whatever its kind
     if had <= share {
         return Stand::Ready;
     }
     if row.kind == 1 {
         return stands_ahead(cost, period, given, elapsed);
     }
+    // with one quantum more it would be within its share at the slot's end
     if had < share + cost {
         return Stand::Ready;
     }
@@ -137,7 +140,8 @@ fn stands_ahead(cost: u64, period: u64, given: u64, elapsed: u64) -> Stand
     Stand::Waits
 }
 
-// The key of a ready row: what its next quantum still lacks says when it is due.
+// The key of a ready row. What its next quantum lacks of its share, divided by what a slot brings, says when it is due, and what is left over gives the bit and the
+// group deadline.
 fn key(row: Row, i: usize, given: u64, time: u64) -> u64
     requires { ⌜ CanBeReady row i given time ⌝ }
     ensures { λ r. ⌜ (r ≡ keyFor (rankOf row i given)) × (r < most) × HasKey (rankOf row i given) ⌝ }
@@ -146,6 +150,7 @@ fn key(row: Row, i: usize, given: u64, time: u64) -> u64
     let period = row.period as u64;
     let share = (time - row.phase as u64) * cost;
     let lacking = given * period + period - share;
+    // the next start: d - b
     let whole = time + lacking / cost;
     let rest = lacking % cost;
     if rest == 0 {
@@ -154,7 +159,8 @@ fn key(row: Row, i: usize, given: u64, time: u64) -> u64
     packed(2 * whole + 2, far(cost, period, rest), i)
 }
 
-// How far the group deadline lies behind the deadline, of which so much of a slot is lacking.
+// How far the group deadline lies behind the deadline: the last slot before the deadline is used by `rest` alone, and what is over of it is spread over the slots in which the row
+// does not run.
 fn far(cost: u64, period: u64, rest: u64) -> u64
     requires { ⌜ (0 < rest) × (rest < cost) × (cost < period) × (period < 65_536) ⌝ }
     ensures { λ r. ⌜ (r ≡ cond (ltb (2 * cost) period) 0 (ceilDiv (cost - rest) (period - cost))) × (r < 65_536) ⌝ }

@@ -2,9 +2,7 @@
 use counts::Quanta;
 use counts::Slot;
 ghost use mathlib.Core.Path.{_≡_};
-ghost use mathlib.Core.Bool.{not, _&&_};
 ghost use Prim.Native.Nat.{_+_, _≤_};
-ghost use lib.Dec.{ltb};
 ghost use lib.ListN.{length};
 ghost use Rattle.counts.specs.Limits.{timeLimit};
 ghost use Rattle.counts.specs.Numbers.{numbersOf, counted};
