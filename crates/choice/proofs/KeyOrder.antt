@@ -40,7 +40,7 @@ abbrev key : ℕ → ℕ → ℕ → ℕ → ℕ
 key d b far row = ((2 * d + (1 - b)) * 65_536 + (65_535 - far)) * 64 + row
 
 -- of which the front ones count first: where they differ, the others do not matter.
-module _ (d b far row d′ b′ far′ row′ : ℕ) (hb : b ≤ 1) (hb′ : b′ ≤ 1) (hr : row < 64) (hr′ : row′ < 64) where
+module _ (d b far row d′ b′ far′ row′ : ℕ) (hb : b ≤ 1) (hb′ : b′ ≤ 1) (hr : row < 32) (hr′ : row′ < 32) where
   by-deadline : d < d′ → key d b far row < key d′ b′ far′ row′
   by-deadline l = omega arith
 
@@ -140,7 +140,7 @@ unfolding keyFor
 keys-order-as-pd2 x y hx hy = by-keys x y hx hy
 
 -- The rank of a row that has a next window has a key.
-pub rank-has-key : (row : Row) (i q : ℕ) → HasWindow row q → row .cost < 65_536 → i < 64 → HasKey (rankOf row i q)
+pub rank-has-key : (row : Row) (i q : ℕ) → HasWindow row q → row .cost < 65_536 → i < 32 → HasKey (rankOf row i q)
 rank-has-key row i q has cost few =
     record {
       bit = bit-is-0-or-1 (row .cost) (row .period) (q + 1);
@@ -156,12 +156,12 @@ rank-has-key row i q has cost few =
     near (inr some) = inr (some .0, omega (arith, some .1))
 
 -- For callers: a key ends with its row's number,
-pub key-ends-with-row : (x : Rank) → x .row < 64 → keyFor x % 64 ≡ x .row
+pub key-ends-with-row : (x : Rank) → x .row < 32 → keyFor x % 32 ≡ x .row
 unfolding keyFor
 key-ends-with-row x few =
     let front = (2 * x .d + (1 - x .b)) * 65_536 + (65_535 - behind x) in
-    let rest = mod-lt (front * 64 + x .row) {m = 64} (omega arith) in
-    omega (arith, div-add-mod' (front * 64 + x .row) 64)
+    let rest = mod-lt (front * 64 + x .row) {m = 32} (omega arith) in
+    omega (arith, div-add-mod' (front * 64 + x .row) 32)
 
 -- and begins with its deadline: those of the deadlines up to t + 1 lie before this number.
 pub key-begins-with-deadline : (x : Rank) → HasKey x → (t : ℕ) → ltb (keyFor x) ((2 * t + 4) * 4_194_304) ≡ leb (x .d) (t + 1)

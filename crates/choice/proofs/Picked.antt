@@ -19,7 +19,7 @@ use Rattle.choice.proofs.KeyOrder.{keys-order-as-pd2}
 use Rattle.choice.proofs.Left.{picked-by-key}
 
 -- No two rows have the same key: it ends with the row's number.
-keys-are-apart : (x y : Rank) → x .row < 64 → y .row < 64 → (x .row ≡ y .row → ⊥) → keyFor x ≡ keyFor y → ⊥
+keys-are-apart : (x y : Rank) → x .row < 32 → y .row < 32 → (x .row ≡ y .row → ⊥) → keyFor x ≡ keyFor y → ⊥
 unfolding keyFor
 keys-are-apart x y few fewer other same = other (omega arith)
 

@@ -1,5 +1,5 @@
--- Between functions: how the choice goes about it. All that PD2's order looks at stands in one number, the key. No part of what 01 says; that keys order as PD2
--- does is a law (`KeysOrderAsPd2`).
+-- How the choice goes about it: all that PD2's order looks at stands in one number, the key. No part of what 01 says; that keys order as PD2 does is a law
+-- (`KeysOrderAsPd2`). `FirstLeft` is what `first_left` promises, of any keys; the rest is between functions.
 use Prim.Native.Nat.{ℕ, _+_, _-_, _*_, _≤_, _<_, min}
 use mathlib.Core.Path.{_≡_}
 use mathlib.Core.List.{List}
@@ -18,15 +18,15 @@ use Rattle.choice.specs.Choice.{saysReady, saysReadyIn}
 abbrev pub behind : Rank → ℕ
 behind x = cond (eqb (x .b) 1) (x .D - x .d) 0
 
--- The key of a rank: d, b, D and the row, in the order in which the rules look at them. D has 16 bits, the row 6, of which its number takes 5.
+-- The key of a rank: d, b, how far D lies behind d, and the row, in the order in which the rules look at them. D has 16 bits and the row 5, and one between them is left free.
 unfoldable pub keyFor : Rank → ℕ
 keyFor x = ((2 * x .d + (1 - x .b)) * 65_536 + (65_535 - behind x)) * 64 + x .row
 
--- A rank that a key can hold. Every row that has a next window has such a rank.
+-- A rank whose parts stand apart in its key. Every row that has a next window has such a rank; that the key of a ready row is below 64 bits is said apart (`low`).
 pub record HasKey (x : Rank) : Type 0 where
   pub bit : (x .b ≡ 0) ⊎ (x .b ≡ 1)
   pub group : x .b ≡ 1 → (x .D ≡ 0) ⊎ ((x .d < x .D) × (x .D < x .d + 65_536))
-  pub row : x .row < 64
+  pub row : x .row < 32
 
 -- The order of the keys is PD2's order.
 abbrev pub KeysOrderAsPd2 : Type 0

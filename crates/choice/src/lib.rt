@@ -23,7 +23,7 @@ ghost use Rattle.choice.specs.Choice.{saysReady, chosen};
 ghost use Rattle.choice.specs.Keys.{behind, HasKey, keyOf, keyIn, KeysAre, FirstLeft};
 
 // The key of a row that is not ready: it lies past all others.
-pub const NOT_READY: u64 = 18_446_744_073_709_551_615;
+const NOT_READY: u64 = 18_446_744_073_709_551_615;
 
 // The rows that are picked of the first n, with k cores free, as marks. Rows and numbers may be wild: no more than 32 rows are looked at and no
 // more than 8 are picked, and a row that cannot be asked is not ready.
@@ -39,7 +39,7 @@ pub fn first_left(keys: &[u64; 32], n: usize, k: u8) -> u64
     ensures { λ r. ⌜ FirstLeft (keyIn (now (keys .entry))) (min n 32) (min k 8) r ⌝ }
 {
     let many = at_most_32(n);
-    // Not by `at_most_8`: with a bound in sight the compiler makes the search slower.
+    // Two calls and not one with the lesser number: with a bound in sight the compiler unrolls the search, and a slot takes 90 instructions more.
     if 8 < k {
         return left_out(keys, many, 8);
     }
@@ -63,7 +63,7 @@ fn at_most_32(n: usize) -> usize
     if n < 32 { n } else { 32 }
 }
 
-// The same of n rows that stand in their array.
+// As `picks`, of n rows that stand in their array.
 fn choose(rows: [Row; 32], quanta: [Quanta; 32], n: usize, time: Slot, k: u8) -> [bool; 32]
     requires { ⌜ InPlace rows quanta n ⌝ }
     ensures { λ r. ⌜ (length r ≡ 32) × (marked r ≡ chosen (take n rows) (numbersOf quanta) (time .0) (min k 8)) ⌝ }
@@ -120,9 +120,10 @@ fn how_far_behind(row: Row, given: Quanta, deadline: Slot, bit: u8) -> u64
     }
 }
 
-// Deadline, bit, group deadline and row, in this order: b = 1 goes before b = 0, and the larger group deadline first.
+// Deadline, bit, group deadline and row, in this order: b = 1 goes before b = 0, and the larger group deadline first. (The dispatcher packs the keys of its own pass: a function
+// for both would have to test these numbers, which are known there.)
 fn packed(deadline: u64, bit: u8, far: u64, row: usize) -> u64
-    requires { ⌜ (deadline < 2_000_000_000_000) × (bit ≤ 1) × (far < 65_536) × (row < 64) ⌝ }
+    requires { ⌜ (deadline < 2_000_000_000_000) × (bit ≤ 1) × (far < 65_536) × (row < 32) ⌝ }
     ensures { λ r. ⌜ (r ≡ ((2 * deadline + (1 - bit)) * 65_536 + (65_535 - far)) * 64 + row) × (r < most) ⌝ }
 {
     let class = 2 * deadline + (1 - bit) as u64;

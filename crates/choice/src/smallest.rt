@@ -13,14 +13,14 @@ pub(crate) fn smallest(keys: &[u64; 32], n: usize, k: usize) -> [u64; 9]
     let mut i: usize = 0;
     while i < n {
         let key = keys[i];
-        with_key(&mut best, least(i, k), key);
+        with_key(&mut best, last_place(i, k), key);
         i += 1;
     }
     best
 }
 
 // The last place that counts: while there are fewer keys than places, the first that none has taken.
-fn least(i: usize, k: usize) -> usize
+fn last_place(i: usize, k: usize) -> usize
     ensures { λ r. ⌜ r ≡ min i k ⌝ }
 {
     if i < k { i } else { k }

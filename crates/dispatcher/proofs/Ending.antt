@@ -22,7 +22,9 @@ use Rattle.choice.specs.Keys.{keyIn, FirstLeft}
 use Rattle.dispatcher.specs.declared.State.{State}
 use Rattle.dispatcher.specs.State.{rowsIn, quantaIn, timeOf}
 use Rattle.dispatcher.specs.Slot.{picksIn, recordIn, refusal}
-use Rattle.dispatcher.specs.Usable.{Admitted, ReadyKeys, rowsBefore, dueSoon, LateRow, UsableState, CanStep}
+use Rattle.dispatcher.specs.Usable.{UsableState}
+use Rattle.dispatcher.specs.Looking.{ReadyKeys, rowsBefore, laterKeys, LateRow}
+use Rattle.dispatcher.specs.Tests.{Admitted, CanStep}
 use Rattle.dispatcher.proofs.Whole.{is-whole}
 use Rattle.dispatcher.proofs.Picking.{picks-are-counted, before-are-picks, late-row}
 use Rattle.dispatcher.proofs.Kept.{Goes, goes-back, record-inside, record-names-picks}
@@ -82,7 +84,7 @@ module _ (s : State) (free : List Bool) (buffer : List ℕ) (place : ℕ) (so : 
             same-list isPicked (names (picksIn s (size free))) (length (rowsIn s))
             (λ i l. sym (listed-are-named isPicked (length (rowsIn s)) i ∙ ap (λ b. b && isPicked i) (lt-ltb i (length (rowsIn s)) l)))
 
-        pub can-step : {lowest : ℕ} → LateRow keys found first (dueSoon (timeOf s)) (s .table .n) lowest → CanStep s bytes place lowest
+        pub can-step : {lowest : ℕ} → LateRow keys found first (laterKeys (timeOf s)) (s .table .n) lowest → CanStep s bytes place lowest
         can-step late =
             record {
               usable = usable;

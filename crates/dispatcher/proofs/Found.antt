@@ -25,9 +25,10 @@ use Rattle.pd2.specs.Choice.{rowAt, quantaAt, readyIn}
 use Rattle.pd2.proofs.Choice.{row-there}
 use Rattle.choice.specs.Keys.{keyFor, HasKey, keyIn}
 use Rattle.dispatcher.specs.declared.Stand.{Stand}
-use Rattle.dispatcher.specs.declared.Stand.the-variants.{Outside, Waits, Ready}
+use Rattle.dispatcher.specs.declared.Stand.the-variants.{Breaks, Waits, Ready}
 use Rattle.dispatcher.specs.Broken.{ofRowAt}
-use Rattle.dispatcher.specs.Usable.{brokenRow, exceeding, standOf, Testable, CanBeReady, keyAt, ReadyKeys, LooksAt}
+use Rattle.dispatcher.specs.Usable.{brokenRow, Testable}
+use Rattle.dispatcher.specs.Looking.{exceeding, standOf, CanBeReady, keyAt, ReadyKeys, LooksAt}
 use Rattle.dispatcher.proofs.Asked.{can-be-there, as-read}
 
 -- What is said of a row, by its stand.
@@ -35,10 +36,10 @@ pub record Told (s : Stand) (breaks isReady : Bool) : Type 0 where
   pub is : s ≡ standOf breaks isReady
 
 module _ {breaks isReady : Bool} {s : Stand} (said : Told s breaks isReady) where
-  pub said-outside : s ≡ Outside → breaks ≡ true
+  pub said-outside : s ≡ Breaks → breaks ≡ true
   said-outside e = go breaks isReady (sym e ∙ said .is)
     where
-      go : (x y : Bool) → Outside ≡ standOf x y → x ≡ true
+      go : (x y : Bool) → Breaks ≡ standOf x y → x ≡ true
       go true y h = refl
       go false true h = let z : _≡_ {A = ℕ} 0 1 = cc in absurd (omega arith)
       go false false h = let z : _≡_ {A = ℕ} 0 1 = cc in absurd (omega arith)

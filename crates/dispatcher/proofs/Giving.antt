@@ -18,7 +18,7 @@ use Rattle.pd2.specs.Choice.{quantaAt, given}
 use Rattle.pd2.proofs.Choice.{how-many-given, given-at}
 use Rattle.trace.specs.Records.{names}
 use Rattle.trace.proofs.Names.{names-nothing, named-at, not-named, named-one-more}
-use Rattle.dispatcher.specs.Usable.{GivesTo}
+use Rattle.dispatcher.specs.Looking.{GivesTo}
 
 -- The first j rows have one quantum more, and no others.
 pub record Gave (rows : List ℕ) (before after : List Quanta) (j : ℕ) : Type 0 where

@@ -22,8 +22,9 @@ use Rattle.choice.specs.Keys.{keyFor, HasKey}
 use Rattle.choice.proofs.KeyOrder.{rank-has-key}
 use Rattle.choice.proofs.Lacking.{whole-key, below-one, how-far, part-key, lacks-few-slots}
 use Rattle.dispatcher.specs.declared.Stand.{Stand}
-use Rattle.dispatcher.specs.declared.Stand.the-variants.{Outside, Waits, Ready}
-use Rattle.dispatcher.specs.Usable.{brokenRow, standOf, aheadStand, CanBeReady}
+use Rattle.dispatcher.specs.declared.Stand.the-variants.{Breaks, Waits, Ready}
+use Rattle.dispatcher.specs.Usable.{brokenRow}
+use Rattle.dispatcher.specs.Looking.{standOf, aheadStand, CanBeReady}
 
 -- Products of a number of slots, quanta or jobs and a number of the table are far from 64 bits.
 pub product-is-small : {n f : ℕ} → n ≤ 2_000_000_000 → f < 65_536 → n * f < 200_000_000_000_000
@@ -35,12 +36,12 @@ module _ (row : Row) (q t : ℕ) where
   said = standOf (brokenRow false t row q) (ready row q t)
 
   -- Its quanta exceed the time,
-  pub past-time : t < q → Outside ≡ said
+  pub past-time : t < q → Breaks ≡ said
   past-time more = rw (lt-ltb t q more) refl
 
   module _ (few : q ≤ t) where
     -- or it is outside its share,
-    outside : within row q t ≡ false → Outside ≡ said
+    outside : within row q t ≡ false → Breaks ≡ said
     outside not-inside = rw (le-ltb t q few, not-inside) refl
 
     -- or neither.
@@ -52,7 +53,7 @@ module _ (row : Row) (q t : ℕ) where
       pub before-phase : t < originOf row → q ≡ 0 → Waits ≡ said
       before-phase early none = stands (waits-for-phase row can q t early none)
 
-      pub given-before-phase : t < originOf row → (q ≡ 0 → ⊥) → Outside ≡ said
+      pub given-before-phase : t < originOf row → (q ≡ 0 → ⊥) → Breaks ≡ said
       given-before-phase early some = outside (had-before-phase row can q t early some)
 
       -- and from then on.
@@ -63,7 +64,7 @@ module _ (row : Row) (q t : ℕ) where
         then : elapsed row (t + 1) ≡ a + 1
         then = omega arith
 
-        pub owed : had + row .period ≤ share → Outside ≡ said
+        pub owed : had + row .period ≤ share → Breaks ≡ said
         owed whole = outside (owed-is-outside row can q t now then s h whole)
 
         module _ (low : share < had + row .period) where
@@ -77,7 +78,7 @@ module _ (row : Row) (q t : ℕ) where
             pub ahead-and-waits : share + row .cost ≤ had → had < share + row .period → Waits ≡ said
             ahead-and-waits more less = stands (ahead-waits row can q t now then s h low plain (omega (arith, s)) less)
 
-            pub ahead-and-outside : share + row .period ≤ had → Outside ≡ said
+            pub ahead-and-outside : share + row .period ≤ had → Breaks ≡ said
             ahead-and-outside more = outside (ahead-is-outside row can q t now then s h low plain more)
 
           -- An early-release row that is ahead, by the jobs released.
@@ -123,7 +124,7 @@ module _ (cost period q a : ℕ) {jobs : ℕ} (same : jobs ≡ ceilDiv a period)
   unfolding aheadStand
   ahead-ready l = rw (← same, le-ltb (jobs * cost) q (omega arith), lt-ltb q (jobs * cost) l) refl
 
-  pub ahead-outside : jobs * cost < q → Outside ≡ aheadStand cost period q a
+  pub ahead-outside : jobs * cost < q → Breaks ≡ aheadStand cost period q a
   unfolding aheadStand
   ahead-outside l = rw (← same, lt-ltb (jobs * cost) q l) refl
 

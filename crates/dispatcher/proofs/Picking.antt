@@ -35,7 +35,7 @@ use Rattle.choice.proofs.Picked.{KeyedBy, picked-before}
 use Rattle.dispatcher.specs.declared.State.{State}
 use Rattle.dispatcher.specs.State.{rowsIn, quantaIn, timeOf}
 use Rattle.dispatcher.specs.Slot.{picksIn}
-use Rattle.dispatcher.specs.Usable.{keyAt, ReadyKeys, rowsBefore, dueSoon, isDue, LateRow}
+use Rattle.dispatcher.specs.Looking.{keyAt, ReadyKeys, rowsBefore, laterKeys, isDue, LateRow}
 use Rattle.dispatcher.proofs.Whole.{Whole}
 
 module _ (s : State) (k : ℕ) {keys : List ℕ} {found : ℕ} (so : ReadyKeys (rowsIn s) (quantaIn s) (timeOf s) keys found) where
@@ -103,18 +103,18 @@ module _ (s : State) (k : ℕ) {keys : List ℕ} {found : ℕ} (so : ReadyKeys (
         at false e = rw e (sym (le-ltb most first (left .range)))
 
     -- a key ends with its row
-    ends : (i : ℕ) → i < n → isReady i ≡ true → key i % 64 ≡ i
+    ends : (i : ℕ) → i < n → isReady i ≡ true → key i % 32 ≡ i
     ends i l h = key-ends-with-row (rankOf (rowAt (rowsIn s) i) i (quantaAt (quantaIn s) i)) (so .has i l h .row)
 
-    row-of : (j : ℕ) → j < found → keyIn keys j % 64 ≡ row j
+    row-of : (j : ℕ) → j < found → keyIn keys j % 32 ≡ row j
     row-of j l =
         let is = listed-pass isReady n j 0 (omega (arith, so .count)) in
-        ap (λ x. x % 64) (so .each j l) ∙ ends (row j) (is .0) (is .1)
+        ap (λ x. x % 32) (so .each j l) ∙ ends (row j) (is .0) (is .1)
 
     -- The rows before the first that is left out are those that are picked.
     pub before-are-picks : rowsBefore keys found first ≡ picksIn s k
     before-are-picks =
-        same-of-all (λ j. keyIn keys j % 64) row 0 (those (λ j. ltb (keyIn keys j) first) found)
+        same-of-all (λ j. keyIn keys j % 32) row 0 (those (λ j. ltb (keyIn keys j) first) found)
         (λ j l. row-of (getD (those (λ j. ltb (keyIn keys j) first) found) j 0) (listed-pass (λ j. ltb (keyIn keys j) first) found j 0 l .0))
         ∙ (ap (map row) (same-list (λ j. ltb (keyIn keys j) first) (λ j. ltb (key (row j)) first) found (λ j l. ap (λ x. ltb x first) (so .each j l)))
         ∙ (ap (λ m. map row (those (λ j. ltb (key (row j)) first) m)) (so .count)
@@ -150,7 +150,7 @@ module _ (s : State) (k : ℕ) {keys : List ℕ} {found : ℕ} (so : ReadyKeys (
         abbrev isLate : ℕ → Bool
         isLate given = late it given (timeOf s + 1)
 
-        due : (b : Bool) → isPicked i ≡ b → (x : Bool) → isReady i ≡ x → isReady i && isDue first (dueSoon (timeOf s)) (key i) ≡ isLate (q + cond b 1 0)
+        due : (b : Bool) → isPicked i ≡ b → (x : Bool) → isReady i ≡ x → isReady i && isDue first (laterKeys (timeOf s)) (key i) ≡ isLate (q + cond b 1 0)
         due true p x e =
             let is = both (isReady i) (ltb (key i) first) (is-picked i l ∙ p) in
             rw (is .0, is .1) (sym (given-is-not-late it q (timeOf s) (can .cost) (can .weight) on-time))
@@ -165,16 +165,16 @@ module _ (s : State) (k : ℕ) {keys : List ℕ} {found : ℕ} (so : ReadyKeys (
             go true h = absurd (true≢false (sym (late-was-ready it q (timeOf s) (can .cost) (can .weight) h) ∙ e))
             go false h = h
 
-      pub late-row : {m lowest : ℕ} → m ≡ n → LateRow keys found first (dueSoon (timeOf s)) m lowest → Lowest lateThen n lowest
+      pub late-row : {m lowest : ℕ} → m ≡ n → LateRow keys found first (laterKeys (timeOf s)) m lowest → Lowest lateThen n lowest
       late-row {m} {lowest} all is =
           subst (Lowest lateThen n) (sym (is .same ∙ named (decLt (is .place) found)))
-          (same-lowest (λ i. isReady i && isDue first (dueSoon (timeOf s)) (key i)) lateThen n _
+          (same-lowest (λ i. isReady i && isDue first (laterKeys (timeOf s)) (key i)) lateThen n _
           (λ i l. due i l (isPicked i) refl (isReady i) refl ∙ ap (isLate i l) (sym (has-then i l)))
-          (lowest-by-place isReady (λ i. isDue first (dueSoon (timeOf s)) (key i)) 0 n (is .place)
-          (subst (λ x. Lowest (λ j. isDue first (dueSoon (timeOf s)) (key (row j))) x (is .place)) (so .count)
-          (same-lowest (λ j. isDue first (dueSoon (timeOf s)) (keyIn keys j)) (λ j. isDue first (dueSoon (timeOf s)) (key (row j))) found (is .place)
-          (λ j l. ap (isDue first (dueSoon (timeOf s))) (so .each j l)) (is .lowest)))))
+          (lowest-by-place isReady (λ i. isDue first (laterKeys (timeOf s)) (key i)) 0 n (is .place)
+          (subst (λ x. Lowest (λ j. isDue first (laterKeys (timeOf s)) (key (row j))) x (is .place)) (so .count)
+          (same-lowest (λ j. isDue first (laterKeys (timeOf s)) (keyIn keys j)) (λ j. isDue first (laterKeys (timeOf s)) (key (row j))) found (is .place)
+          (λ j l. ap (isDue first (laterKeys (timeOf s))) (so .each j l)) (is .lowest)))))
         where
-          named : Dec (is .place < found) → cond (ltb (is .place) found) (keyIn keys (is .place) % 64) m ≡ cond (ltb (is .place) (length (those isReady n))) (row (is .place)) n
+          named : Dec (is .place < found) → cond (ltb (is .place) found) (keyIn keys (is .place) % 32) m ≡ cond (ltb (is .place) (length (those isReady n))) (row (is .place)) n
           named (yes l) = rw (lt-ltb (is .place) found l, lt-ltb (is .place) (length (those isReady n)) (omega (arith, so .count))) (row-of (is .place) l)
           named (no l) = rw (le-ltb (is .place) found (omega arith), le-ltb (is .place) (length (those isReady n)) (omega (arith, so .count))) all

@@ -27,7 +27,8 @@ use Rattle.dispatcher.specs.Broken.{ofRow}
 use Rattle.trace.specs.Said.{bare, named}
 use Rattle.dispatcher.specs.Answer.{doneSaid}
 use Rattle.dispatcher.specs.Slot.{lateAt, lateIn, stepped}
-use Rattle.dispatcher.specs.Usable.{GivesTo, CanStep}
+use Rattle.dispatcher.specs.Looking.{GivesTo}
+use Rattle.dispatcher.specs.Tests.{CanStep}
 use Rattle.dispatcher.proofs.Rows.{late-rows}
 
 -- Giving keeps the places of a state.

@@ -14,7 +14,7 @@ use Rattle.facts.proofs.Filling.{overwritten-one-more}
 use Rattle.trace.specs.Record.{withFront}
 use Rattle.trace.proofs.Writing.{front-fits}
 use Rattle.choice.specs.Keys.{keyIn}
-use Rattle.dispatcher.specs.Usable.{rowsBefore}
+use Rattle.dispatcher.specs.Looking.{rowsBefore}
 
 -- j keys have been gone through, and the numbers of the rows that are picked stand at the front of the part.
 pub record PutBefore (part₀ keys : List ℕ) (found first : ℕ) (part : List ℕ) (at j : ℕ) : Type 0 where
@@ -28,7 +28,7 @@ module _ (part₀ keys : List ℕ) (found first : ℕ) where
   isBefore j = ltb (keyIn keys j) first
 
   abbrev number : ℕ → ℕ
-  number j = keyIn keys j % 64
+  number j = keyIn keys j % 32
 
   -- as many rows are picked as keys lie before
   as-many-rows : (j : ℕ) → length (rowsBefore keys j first) ≡ length (those isBefore j)
@@ -47,7 +47,7 @@ module _ (part₀ keys : List ℕ) (found first : ℕ) where
   module _ {part : List ℕ} {at j : ℕ} (so : PutBefore part₀ keys found first part at j) (l : j < found) where
     -- writes the number of a row that is picked,
     pub puts-picked : keyIn keys j < first → length (rowsBefore keys j first) < length part₀ →
-        PutBefore part₀ keys found first (set part at (keyIn keys j % 64)) (at + 1) (j + 1)
+        PutBefore part₀ keys found first (set part at (keyIn keys j % 32)) (at + 1) (j + 1)
     unfolding withFront
     puts-picked h room =
         let one : rowsBefore keys (j + 1) first ≡ rowsBefore keys j first ++ (number j ∷ []) = ap (map number) (listed-if-passed isBefore j (lt-ltb (keyIn keys j) first h)) ∙ map-append number (those isBefore j) (j ∷ []) in

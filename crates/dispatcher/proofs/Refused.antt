@@ -23,7 +23,8 @@ use Rattle.dispatcher.specs.State.{rowsIn, quantaIn, timeOf}
 use Rattle.dispatcher.specs.Broken.{broken}
 use Rattle.dispatcher.specs.Answer.{saidOf, doneSaid}
 use Rattle.dispatcher.specs.Slot.{picksIn, recordIn, lateIn, afterSlot, stoppedBy, lacksRoom, slotTests, refusal, slotOf}
-use Rattle.dispatcher.specs.Usable.{Admitted, ReadyKeys, CauseIs, Judged}
+use Rattle.dispatcher.specs.Looking.{ReadyKeys}
+use Rattle.dispatcher.specs.Tests.{Admitted, CauseIs, Judged}
 
 -- Whether a record of c rows has room: the two tests of 01 are one.
 pub lacks-room : (buffer : List ℕ) (place c : ℕ) → length buffer < place + 2 + c → lacksRoom buffer place c ≡ true

@@ -7,3 +7,5 @@ pub mod Places
 pub mod Run
 pub mod RunKept
 pub mod Usable
+pub mod Looking
+pub mod Tests

@@ -22,7 +22,8 @@ ghost use Rattle.dispatcher.specs.State.{freshOf};
 ghost use Rattle.dispatcher.specs.Broken.{broken};
 ghost use Rattle.dispatcher.specs.Answer.{saidOf, saidBy};
 ghost use Rattle.dispatcher.specs.Slot.{stepped, slotOf};
-ghost use Rattle.dispatcher.specs.Usable.{CauseIs, CanStep, GivesTo, Judged};
+ghost use Rattle.dispatcher.specs.Looking.{GivesTo};
+ghost use Rattle.dispatcher.specs.Tests.{CauseIs, CanStep, Judged};
 
 pub struct State {
     pub table: Table,
@@ -201,8 +202,8 @@ impl State {
         }
     }
 
-    // The slot is over: the rows that its record names have one quantum more, time is one higher, what ran where is remembered, and lateness is judged: answer 1 and
-    // a stopped state if a row is late, else 0.
+    // The slot is over: the rows that its record names have one quantum more, time is one higher, and what ran where is remembered. With a late row the
+    // answer is 1 and the state is stopped, else it is 0.
     fn one_on(mut self, buffer: &[u8], place: usize, placed: Placement, late: u8) -> Outcome
         requires { ⌜ CanStep self (now buffer) place late ⌝ }
         ensures { λ r. ⌜ Judged (stepped self (rowsAt (now (buffer .entry)) place) placed) r ⌝ }
@@ -226,12 +227,12 @@ impl State {
 
 // Where a row stands in a slot: it breaks the state, it waits, or it is ready.
 enum Stand {
-    Outside,
+    Breaks,
     Waits,
     Ready,
 }
 
-// Whether a row breaks the state; if not, so many rows are ready.
+// Whether a row breaks the state; if not, and the state runs on, so many rows are ready.
 struct Looked {
     broken: bool,
     found: usize,
@@ -270,7 +271,7 @@ fn given_to(quanta: [Quanta; 32], buffer: &[u8], place: usize) -> [Quanta; 32]
     picked::give(quanta, &buffer[first..past])
 }
 
-// The cores of the rows that were picked: those that the record at the place names, so that they need not be looked for among the marks again.
+// The cores of the rows that were picked: those that the record at the place names, where they stand rising and can be lent.
 fn cores_for(buffer: &[u8], place: usize, free: [bool; 32], last: Placement) -> Placement
     requires { ⌜ pastRecord (now buffer) place ≤ length (now buffer) ⌝ }
     ensures { λ r. ⌜ r ≡ placedFor last (marked free) (rowsAt (now (buffer .entry)) place) ⌝ }

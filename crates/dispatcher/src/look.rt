@@ -18,9 +18,10 @@ ghost use Rattle.pd2.specs.Share.{CanBe};
 ghost use Rattle.pd2.specs.Ready.{ready};
 ghost use Rattle.pd2.specs.Order.{rankOf};
 ghost use Rattle.choice.specs.Keys.{keyFor, HasKey};
-ghost use Rattle.dispatcher.specs.Usable.{Testable, brokenRow, exceeding, standOf, LooksAt, CanBeReady, Ahead, aheadStand};
+ghost use Rattle.dispatcher.specs.Usable.{Testable, brokenRow};
+ghost use Rattle.dispatcher.specs.Looking.{exceeding, standOf, LooksAt, CanBeReady, InLimits, aheadStand};
 
-// The keys of the ready rows come to the front of the lent array, by rising row number. In a stopped state no row is asked for its share, and none is ready.
+// The keys of the ready rows come to the front of the lent array, by rising row number. In a stopped state no row is asked for its share, and no key is looked for.
 pub(crate) fn look(
     rows: [Row; 32],
     quanta: [Quanta; 32],
@@ -43,7 +44,7 @@ pub(crate) fn look(
         let given = quanta[i];
         let stand = stands(row, given.count(), time.time());
         match stand {
-            Stand::Outside => {
+            Stand::Breaks => {
                 return Looked {
                     broken: true,
                     found: 0,
@@ -86,14 +87,14 @@ fn stands(row: Row, given: u64, time: u64) -> Stand
     ensures { λ r. ⌜ r ≡ standOf (brokenRow false time row given) (ready row given time) ⌝ }
 {
     if time < given {
-        return Stand::Outside;
+        return Stand::Breaks;
     }
     let phase = row.phase as u64;
     if time < phase {
         return if given == 0 {
             Stand::Waits
         } else {
-            Stand::Outside
+            Stand::Breaks
         };
     }
     let elapsed = time - phase;
@@ -103,7 +104,7 @@ fn stands(row: Row, given: u64, time: u64) -> Stand
     let had = given * period;
     // a whole quantum is owed
     if had + period <= share {
-        return Stand::Outside;
+        return Stand::Breaks;
     }
     // a row that is not ahead of its share is ready, whatever its kind
     if had <= share {
@@ -112,21 +113,21 @@ fn stands(row: Row, given: u64, time: u64) -> Stand
     if row.kind == 1 {
         return stands_ahead(cost, period, given, elapsed);
     }
-    // with one quantum more it would be within its share at the slot's end
+    // with one quantum more it would be within its upper limit at the slot's end
     if had < share + cost {
         return Stand::Ready;
     }
     if had < share + period {
         Stand::Waits
     } else {
-        Stand::Outside
+        Stand::Breaks
     }
 }
 
 // The same of an early-release row that is ahead of its share, by the cost of the jobs released. Where it has had all of that, it waits: a job that begins now would
 // leave it no longer ahead.
 fn stands_ahead(cost: u64, period: u64, given: u64, elapsed: u64) -> Stand
-    requires { ⌜ Ahead cost period elapsed ⌝ }
+    requires { ⌜ InLimits cost period elapsed ⌝ }
     ensures { λ r. ⌜ r ≡ aheadStand cost period given elapsed ⌝ }
 {
     let jobs = (elapsed + (period - 1)) / period;
@@ -135,7 +136,7 @@ fn stands_ahead(cost: u64, period: u64, given: u64, elapsed: u64) -> Stand
         return Stand::Ready;
     }
     if released < given {
-        return Stand::Outside;
+        return Stand::Breaks;
     }
     Stand::Waits
 }
@@ -174,7 +175,7 @@ fn far(cost: u64, period: u64, rest: u64) -> u64
 
 // Deadline and bit in one, group deadline and row: the key.
 fn packed(class: u64, far: u64, row: usize) -> u64
-    requires { ⌜ (class < 4_000_000_000_000) × (far < 65_536) × (row < 64) ⌝ }
+    requires { ⌜ (class < 4_000_000_000_000) × (far < 65_536) × (row < 32) ⌝ }
     ensures { λ r. ⌜ (r ≡ (class * 65_536 + (65_535 - far)) * 64 + row) × (r < most) ⌝ }
 {
     (class * 65_536 + (65_535 - far)) * 64 + row as u64

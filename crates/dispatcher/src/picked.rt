@@ -1,4 +1,5 @@
-// What is done with the rows that are picked: those whose keys lie before the first that is left out.
+// What the keys of the ready rows lead to. The rows whose keys lie before the first that is left out are picked: they are recorded and given their quanta. One of the others may be late
+// then.
 use counts::Quanta;
 use counts::Slot;
 ghost use mathlib.Core.Path.{_≡_};
@@ -9,7 +10,7 @@ ghost use Rattle.counts.specs.Numbers.{numbersOf, counted};
 ghost use Rattle.pd2.specs.Choice.{given};
 ghost use Rattle.trace.specs.Record.{recordOf, withFront};
 ghost use Rattle.trace.specs.Records.{names};
-ghost use Rattle.dispatcher.specs.Usable.{rowsBefore, isDue, dueSoon, LateRow, GivesTo};
+ghost use Rattle.dispatcher.specs.Looking.{rowsBefore, isDue, laterKeys, LateRow, GivesTo};
 
 // Writes the record of a slot to the front of the lent part: cores free, rows picked and their numbers.
 pub(crate) fn put_record(
@@ -38,7 +39,7 @@ fn put_rows(part: &mut [u8], keys: &[u64; 32], found: usize, first: u64)
     while j < found {
         let key = keys[j];
         if key < first {
-            part[at] = (key % 64) as u8;
+            part[at] = (key % 32) as u8;
             at += 1;
         }
         j += 1;
@@ -49,7 +50,7 @@ fn put_rows(part: &mut [u8], keys: &[u64; 32], found: usize, first: u64)
 // are all.
 pub(crate) fn lowest_late(keys: &[u64; 32], found: usize, first: u64, slot: Slot, n: u8) -> u8
     requires { ⌜ (found ≤ 32) × (slot .0 ≤ timeLimit) ⌝ }
-    ensures { λ r. ⌜ LateRow (now (keys .entry)) found first (dueSoon (slot .0)) n r ⌝ }
+    ensures { λ r. ⌜ LateRow (now (keys .entry)) found first (laterKeys (slot .0)) n r ⌝ }
 {
     let soon = (2 * slot.time() + 4) * 4_194_304;
     if soon <= first {
@@ -59,7 +60,7 @@ pub(crate) fn lowest_late(keys: &[u64; 32], found: usize, first: u64, slot: Slot
     while j < found {
         let key = keys[j];
         if is_due(first, key, soon) {
-            return (key % 64) as u8;
+            return (key % 32) as u8;
         }
         j += 1;
     }

@@ -5,7 +5,7 @@ use lib.ListN.{take, drop}
 use Rattle.counts.specs.Numbers.{numbersOf, counted}
 use Rattle.pd2.specs.Choice.{given}
 use Rattle.trace.specs.Records.{names, pickedAt}
-use Rattle.dispatcher.specs.Usable.{GivesTo}
+use Rattle.dispatcher.specs.Looking.{GivesTo}
 use borrow.Author.Needs.{needs}
 use Rattle.dispatcher.proofs.given_to.Statement.{statement}
 use Rattle.dispatcher.proofs.given_to.Tie as tie

@@ -22,11 +22,11 @@ mul-key c = omega arith
 element-copy-out-key : tie.Need-element-copy-out-key Inv-loop μ-loop
 element-copy-out-key c = omega arith
 
-least-requires : tie.Need-least-requires Inv-loop μ-loop
-least-requires c κs = search needs
+last-place-requires : tie.Need-last-place-requires Inv-loop μ-loop
+last-place-requires c κs = search needs
 
 with-key-requires : tie.Need-with-key-requires Inv-loop μ-loop
-with-key-requires c κs = omega (arith, c .least .ensures, c .before .before .before .before .before .pre .1)
+with-key-requires c κs = omega (arith, c .last-place .ensures, c .before .before .before .before .before .pre .1)
 
 add-i : tie.Need-add-i Inv-loop μ-loop
 add-i c = omega arith
@@ -37,7 +37,7 @@ loop-less c = omega arith
 loop-again : tie.Need-loop-again Inv-loop μ-loop
 loop-again c =
     let a = c .before .before .before .before .before in
-    (smallest-of-more _ _ (a .loop .inv .0) (c .before .least .ensures) (c .with-key .ensures), omega (arith, c .before .before .before .before .loop-test .taken))
+    (smallest-of-more _ _ (a .loop .inv .0) (c .before .last-place .ensures) (c .with-key .ensures), omega (arith, c .before .before .before .before .loop-test .taken))
 
 returns : tie.Need-returns Inv-loop μ-loop
 returns c =
@@ -54,7 +54,7 @@ smallest-spec =
     loop-holds
     mul-key
     element-copy-out-key
-    least-requires
+    last-place-requires
     with-key-requires
     add-i
     loop-less

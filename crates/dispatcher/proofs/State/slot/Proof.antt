@@ -15,7 +15,8 @@ use Rattle.dispatcher.specs.declared.Answer.the-variants.{Done, Late, Br
 use Rattle.dispatcher.proofs.Answer.{the-type}
 use Rattle.dispatcher.specs.Answer.{saidOf}
 use Rattle.dispatcher.specs.Slot.{recordIn, stepped}
-use Rattle.dispatcher.specs.Usable.{UsableState, Admitted}
+use Rattle.dispatcher.specs.Usable.{UsableState}
+use Rattle.dispatcher.specs.Tests.{Admitted}
 use Rattle.dispatcher.proofs.Refused.{refused-gives, done-gives}
 use Rattle.dispatcher.proofs.Whole.{is-whole, is-usable}
 use Rattle.dispatcher.proofs.BrokenBy.{in-place}

@@ -7,7 +7,7 @@ use Rattle.facts.proofs.Some.{NoneYet, looking-begins, looks-on, some-if, none-
 use Rattle.counts.specs.Numbers.{numbersOf}
 use Rattle.counts.proofs.Numbers.{number-there}
 use Rattle.pd2.specs.Choice.{quantaAt}
-use Rattle.dispatcher.specs.Usable.{exceeding}
+use Rattle.dispatcher.specs.Looking.{exceeding}
 use borrow.Author.Needs.{needs}
 use Rattle.dispatcher.proofs.look.has_too_many.Statement.{statement}
 use Rattle.dispatcher.proofs.look.has_too_many.Tie as tie

@@ -8,7 +8,8 @@ use Rattle.facts.proofs.Some.{NoneYet, looking-begins, looks-on, some-if, none-
 use Rattle.counts.specs.Numbers.{numbersOf}
 use Rattle.pd2.specs.Choice.{readyIn}
 use Rattle.dispatcher.specs.Broken.{ofRowAt}
-use Rattle.dispatcher.specs.Usable.{brokenRow, standOf}
+use Rattle.dispatcher.specs.Usable.{brokenRow}
+use Rattle.dispatcher.specs.Looking.{standOf}
 use Rattle.dispatcher.proofs.Asked.{can-be-there}
 use Rattle.dispatcher.proofs.Found.{Told, said-outside, said-waits, said-ready, Found, finding-begins, finds-fewer, waits-on, one-more-found, all-found, can-be-ready, broken-as-read, ready-as-read, key-as-read, looks-at-quanta}
 use borrow.Author.Needs.{needs}

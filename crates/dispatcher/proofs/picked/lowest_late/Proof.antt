@@ -9,7 +9,7 @@ use borrow.Author.Tests.{lt-ltb, le-ltb}
 use Rattle.facts.specs.First.{Lowest}
 use Rattle.facts.proofs.Some.{NoneYet, looking-begins, looks-on, found-lowest, found-none}
 use Rattle.choice.specs.Keys.{keyIn}
-use Rattle.dispatcher.specs.Usable.{dueSoon, isDue, LateRow}
+use Rattle.dispatcher.specs.Looking.{laterKeys, isDue, LateRow}
 use Rattle.dispatcher.proofs.picked.lowest_late.Statement.{statement}
 use Rattle.dispatcher.proofs.picked.lowest_late.Tie as tie
 
@@ -33,7 +33,7 @@ never-due first soon key h = go (decLt key first)
 module _ (keys : List ℕ) (found first soon n : ℕ) where
   -- where none is late, n is answered,
   none-late : Lowest (λ j. isDue first soon (keyIn keys j)) found found → LateRow keys found first soon n n
-  none-late low = record { place = found; lowest = low; same = sym (ap (λ b. cond b (keyIn keys found % 64) n) (le-ltb found found (omega arith))) }
+  none-late low = record { place = found; lowest = low; same = sym (ap (λ b. cond b (keyIn keys found % 32) n) (le-ltb found found (omega arith))) }
 
   -- so it is if the first that is left out is due later,
   all-later : soon ≤ first → LateRow keys found first soon n n
@@ -42,9 +42,9 @@ module _ (keys : List ℕ) (found first soon n : ℕ) where
       (record { within = omega arith; passes = λ m. absurd (omega arith); none-before = λ j l. never-due first soon (keyIn keys j) h })
 
   -- and else the lowest
-  one-late : {j : ℕ} → NoneYet (λ k. isDue first soon (keyIn keys k)) found j → j < found → isDue first soon (keyIn keys j) ≡ true → LateRow keys found first soon n (keyIn keys j % 64)
+  one-late : {j : ℕ} → NoneYet (λ k. isDue first soon (keyIn keys k)) found j → j < found → isDue first soon (keyIn keys j) ≡ true → LateRow keys found first soon n (keyIn keys j % 32)
   one-late {j} so l h =
-      record { place = j; lowest = found-lowest _ _ so l h; same = sym (ap (λ b. cond b (keyIn keys j % 64) n) (lt-ltb j found l)) }
+      record { place = j; lowest = found-lowest _ _ so l h; same = sym (ap (λ b. cond b (keyIn keys j % 32) n) (lt-ltb j found l)) }
 
 time-requires : tie.Need-time-requires Inv-loop μ-loop
 time-requires c κs = search needs
@@ -61,7 +61,7 @@ mul-soon-2 c = omega (arith, c .time .ensures, c .before .pre .1)
 returns : tie.Need-returns Inv-loop μ-loop
 returns c =
     let a = c .before .before .args in
-    subst (λ t. LateRow (a .keys .now) (a .found) (a .first) (dueSoon t) (a .n) (a .n)) (c .before .time .ensures) (all-later _ _ _ _ _ (c .if1 .taken))
+    subst (λ t. LateRow (a .keys .now) (a .found) (a .first) (laterKeys t) (a .n) (a .n)) (c .before .time .ensures) (all-later _ _ _ _ _ (c .if1 .taken))
 
 loop-holds : tie.Need-loop-holds Inv-loop μ-loop
 loop-holds c = looking-begins _ _
@@ -82,7 +82,7 @@ returns-2 : tie.Need-returns-2 Inv-loop μ-loop
 returns-2 c =
     let loop = c .before .before .before .before in
     let a = loop .before .before .before .args in
-    subst (λ t. LateRow (a .keys .now) (a .found) (a .first) (dueSoon t) (a .n) (keyIn (a .keys .now) (loop .loop .j) % 64)) (loop .before .before .time .ensures)
+    subst (λ t. LateRow (a .keys .now) (a .found) (a .first) (laterKeys t) (a .n) (keyIn (a .keys .now) (loop .loop .j) % 32)) (loop .before .before .time .ensures)
     (one-late _ _ _ _ _ (loop .loop .inv) (c .before .before .before .loop-test .taken) (sym (c .before .is-due .ensures) ∙ c .if2 .taken))
 
 add-j : tie.Need-add-j Inv-loop μ-loop
@@ -98,7 +98,7 @@ loop-again c =
 returns-3 : tie.Need-returns-3 Inv-loop μ-loop
 returns-3 c =
     let a = c .before .before .before .before .args in
-    subst (λ t. LateRow (a .keys .now) (a .found) (a .first) (dueSoon t) (a .n) (a .n)) (c .before .before .before .time .ensures)
+    subst (λ t. LateRow (a .keys .now) (a .found) (a .first) (laterKeys t) (a .n) (a .n)) (c .before .before .before .time .ensures)
     (none-late _ _ _ _ _ (found-none _ _ (c .before .loop .inv) (c .loop-test .left)))
 
 pub lowest-late-spec : {M : Type 1} → statement M

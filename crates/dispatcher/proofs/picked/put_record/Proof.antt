@@ -8,7 +8,7 @@ use lib.ListN.{length, take, set, length-set, length-drop}
 use Rattle.facts.proofs.Lent.{lent-from, comes-back}
 use Rattle.trace.specs.Record.{recordOf, withFront}
 use Rattle.trace.proofs.Writing.{bytes-are-record, front-fits}
-use Rattle.dispatcher.specs.Usable.{rowsBefore}
+use Rattle.dispatcher.specs.Looking.{rowsBefore}
 use Rattle.dispatcher.proofs.picked.put_record.Statement.{statement}
 use Rattle.dispatcher.proofs.picked.put_record.Tie as tie
 

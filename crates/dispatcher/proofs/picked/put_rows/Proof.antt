@@ -5,7 +5,7 @@ use native.Mathlib.Omega.{arith}
 use borrow.Author.Needs.{needs}
 use lib.ListN.{length}
 use Rattle.trace.specs.Record.{withFront}
-use Rattle.dispatcher.specs.Usable.{rowsBefore}
+use Rattle.dispatcher.specs.Looking.{rowsBefore}
 use Rattle.dispatcher.proofs.Recorded.{PutBefore, putting-begins, puts-picked, puts-no-other, picked-has-place, stays-as-long}
 use Rattle.dispatcher.proofs.picked.put_rows.Statement.{statement}
 use Rattle.dispatcher.proofs.picked.put_rows.Tie as tie
