@@ -21,7 +21,7 @@ use Rattle.trace.specs.Records.{names}
 use Rattle.choice.specs.Keys.{keyFor, HasKey, keyIn}
 use Rattle.dispatcher.specs.declared.Stand.{Stand}
 use Rattle.dispatcher.specs.declared.Stand.the-variants.{Breaks, Waits, Ready}
-use Rattle.dispatcher.specs.Broken.{ofRowAt, broken}
+use Rattle.dispatcher.specs.Broken.{ofRowAt}
 use Rattle.dispatcher.specs.Usable.{brokenRow}
 
 -- A row whose quanta exceed the time, by its place.
