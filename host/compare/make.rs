@@ -7,6 +7,7 @@ pub mod lent;
 pub mod marks;
 pub mod memory;
 pub mod reach;
+pub mod room;
 pub mod rows;
 pub mod rows_seen;
 pub mod schedule;

@@ -22,6 +22,7 @@ MEMORY_AT = TIME_AT + 8 + 1 + ROWS * 8
 PLACEMENT = 1 + CORES + CORES
 STATE = MEMORY_AT + PLACEMENT
 RECORD = 2 + CORES  # the longest record of a slot: each slot is lent a buffer of this length, with place 0
+LONGEST_TABLE = 1 + 4 + 1 + CORES + 1 + ROWS * ROW  # bytes: each table that is written is lent a buffer of this length
 REQUEST_LIMIT = 1 << 20  # the most bytes that the probe reads
 
 STATE_PARTS = struct.Struct(f"<{TABLE_VALUE}sQB{ROWS}Q{PLACEMENT}s")  # table value, time, stopped, quanta, memory
@@ -34,6 +35,8 @@ WHY_ANSWER = struct.Struct("<BBQBB")  # number, reason, first slot, row, rule
 CHECK_REQUEST = struct.Struct("<cI")  # C, length; the table's bytes follow, and behind them
 CHECK_TRACE = struct.Struct("<I")  # length; the trace's bytes follow
 CHECK_ANSWER = struct.Struct("<BBQ")  # number, row, time
+WRITE_REQUEST = struct.Struct(f"<c{TABLE_VALUE}sI{LONGEST_TABLE}s")  # P, table value, length, buffer
+WRITE_ANSWER = struct.Struct(f"<BQ{LONGEST_TABLE}s")  # number, bytes written, buffer
 
 LATE = 1  # the answer of a slot after which a row is late; 0 is done, and any number above is a refusal
 
@@ -140,6 +143,14 @@ class Check:
     time: int
 
 
+@dataclass(frozen=True)
+class Written:
+    """What the probe answered about a table value that it was to write: 0 and the table's bytes, or why it is refused and none."""
+
+    number: int
+    table: bytes
+
+
 def first_cores(k: int) -> int:
     """A number k of free cores as a set: the first k. A set has 32 bits; one that names a core which the table has not is the probe's to refuse."""
     return (1 << min(k, 32)) - 1
@@ -174,8 +185,14 @@ class Probe:
             return None
         return Check(*CHECK_ANSWER.unpack(self.ask(request, CHECK_ANSWER.size)))
 
+    def write_tables(self, values: Sequence[bytes]) -> list[Written]:
+        """The bytes of each of some table values, asked for in one run."""
+        request = b"".join(WRITE_REQUEST.pack(b"P", value, LONGEST_TABLE, bytes(LONGEST_TABLE)) for value in values)
+        answers = WRITE_ANSWER.iter_unpack(self.ask(request, WRITE_ANSWER.size * len(values)))
+        return [Written(number, buffer[:length]) for number, length, buffer in answers]
+
     def ask(self, request: bytes, length: int) -> bytes:
-        """The answer to one request, which has `length` bytes.
+        """The answer to one request, or to several one behind the other, which has `length` bytes.
 
         The probe reads all its requests before it answers, and a slot needs the state that the one before gave back: so a run of slots is one
         process for each slot. It is started without a shell in between.

@@ -15,6 +15,7 @@ use Rattle.demands.proofs.Cores.{cores}
 use Rattle.demands.proofs.Why.{why}
 use Rattle.demands.proofs.HalfIsHeavy.{half-is-heavy}
 use Rattle.demands.proofs.LongWalk.{long-walk}
+use Rattle.demands.proofs.WritingTables.{writing-tables}
 
 pub all : All
 all =
@@ -34,4 +35,5 @@ all =
       why = why;
       half-is-heavy = half-is-heavy;
       long-walk = long-walk;
+      writing-tables = writing-tables;
     }

@@ -26,9 +26,9 @@ use Rattle.dispatcher.specs.Slot.{refusal, slotOf}
 use Rattle.dispatcher.specs.Run.{run}
 use Rattle.checker.specs.Causes.{badRows}
 use Rattle.checker.specs.Check.{recordsFindings, traceSaid, checkOf}
-use Rattle.demands.specs.RunPasses.{wordBytes}
+use Rattle.fields.specs.Fields.{bytesOf}
 use Rattle.demands.specs.Bench.{same, allHold, BenchHolds}
 
 pub bench-holds : BenchHolds
-unfolding ceilDiv atFirst howMany those firstFound rising places padded start deadline bit windowLength jobStart heavy stops stopTime groupDeadline windowReply load faultOf tableNumber ready late lower upper before picked given withFront withRecord placeOf names misremembers wanted leftOver inTurn coresFor broken refusal slotOf run badRows recordsFindings traceSaid checkOf wordBytes same allHold
+unfolding ceilDiv atFirst howMany those firstFound rising places padded start deadline bit windowLength jobStart heavy stops stopTime groupDeadline windowReply load faultOf tableNumber ready late lower upper before picked given withFront withRecord placeOf names misremembers wanted leftOver inTurn coresFor broken refusal slotOf run badRows recordsFindings traceSaid checkOf bytesOf same allHold
 bench-holds = refl

@@ -8,6 +8,7 @@ use Rattle.windows.proofs.Question.{window-is-determined}
 use Rattle.windows.proofs.Next.{next-due-is-determined}
 use Rattle.pd2.specs.Ready.{originOf}
 use Rattle.pd2.proofs.Rows.{give-is-determined, lowest-late-is-determined}
+use Rattle.table.proofs.Written.{writing-is-determined}
 use Rattle.trace.proofs.Determined.{write-is-determined, record-is-determined-but-for-its-name}
 use Rattle.counts.specs.Numbers.{numbersOf}
 use Rattle.choice.specs.Choice.{chosen}
@@ -38,6 +39,7 @@ every-promise-determines =
       fields-byte = λ s at. by-value;
       fields-half = λ s at. by-value;
       fields-word = λ s at. by-value;
+      fields-put = λ s at width number. by-value;
       windows-window = λ e p f i. window-is-determined e p f (i .0);
       windows-window-by-walk = λ e p f i. window-is-determined e p f (i .0);
       windows-next-due = λ e p origin given. next-due-is-determined e p (origin .0) (given .0);
@@ -46,6 +48,7 @@ every-promise-determines =
       windows-next-group-deadline = λ e p origin given. by-value;
       table-read = λ bytes. by-value;
       table-fault = λ table. by-value;
+      table-write = λ table buffer. writing-is-determined table buffer;
       pd2-Verdict-is-yes = λ self. by-value;
       pd2-origin = λ row. slot-is-determined (originOf row);
       pd2-ready = λ row given slot. by-value;

@@ -1,6 +1,6 @@
 -- Our own table, computed from the definitions. Assumes nothing.
 use mathlib.Core.Path.{_≡_, refl}
-use mathlib.Core.List.{List, [], _∷_, _++_}
+use mathlib.Core.List.{List, [], _∷_, _++_, flatMap}
 use mathlib.Core.Bool.{true}
 use Rattle.facts.specs.Rounding.{ceilDiv}
 use Rattle.facts.specs.First.{atFirst}
@@ -34,13 +34,15 @@ use Rattle.checker.specs.Check.{recordsFindings, traceSaid, checkOf}
 use Rattle.printer.specs.Input.{freeIn, unfit}
 use Rattle.printer.specs.Lines.{digitsBy, decimal, spaced}
 use Rattle.printer.specs.Text.{slotsText, textOf}
-use Rattle.demands.specs.RunPasses.{wordBytes}
+use Rattle.fields.specs.Fields.{bytesOf}
+use Rattle.table.specs.Writing.{bytesOfRow, bytesOfTable, writeNumber, writing, bufferAfter}
 use Rattle.demands.specs.Bench.{same}
 use Rattle.facts.proofs.Tests.{both, hold-both}
 use Rattle.demands.specs.Law.{Law, lawHolds, allLawsHold}
 use Rattle.demands.specs.LawInputs.{alikeRows, risingRows}
 use Rattle.demands.specs.TableLaws.{tableLaws}
 use Rattle.demands.specs.ReadingLaws.{readingOrder, valueLaws}
+use Rattle.demands.specs.WriteLaws.{writeLaws}
 use Rattle.demands.specs.SlotLaws.{slotLaws}
 use Rattle.demands.specs.CoreLaws.{coreLaws}
 use Rattle.demands.specs.WhyLaws.{whyLaws}
@@ -56,27 +58,31 @@ both-hold (law ∷ a) b p q = let x = both (lawHolds law) (allLawsHold a) p in h
 
 -- Each part is computed.
 window-laws : allLawsHold windowLaws ≡ true
-unfolding ceilDiv atFirst howMany those firstFound rising places padded start deadline bit windowLength jobStart heavy stops stopTime groupDeadline windowReply load faultOf tableNumber reading ready late lower upper before picked given withFront withRecord placeOf names isFound misremembers wanted leftOver inTurn coresFor broken refusal slotOf badRows recordsFindings traceSaid checkOf freeIn unfit digitsBy decimal spaced slotsText textOf wordBytes same allLawsHold alikeRows risingRows idleSlots
+unfolding ceilDiv atFirst howMany those firstFound rising places padded start deadline bit windowLength jobStart heavy stops stopTime groupDeadline windowReply load faultOf tableNumber reading ready late lower upper before picked given withFront withRecord placeOf names isFound misremembers wanted leftOver inTurn coresFor broken refusal slotOf badRows recordsFindings traceSaid checkOf freeIn unfit digitsBy decimal spaced slotsText textOf bytesOf bytesOfRow same allLawsHold alikeRows risingRows idleSlots
 window-laws = refl
 
 table-laws : allLawsHold tableLaws ≡ true
-unfolding ceilDiv atFirst howMany those firstFound rising places padded start deadline bit windowLength jobStart heavy stops stopTime groupDeadline windowReply load faultOf tableNumber reading ready late lower upper before picked given withFront withRecord placeOf names isFound misremembers wanted leftOver inTurn coresFor broken refusal slotOf badRows recordsFindings traceSaid checkOf freeIn unfit digitsBy decimal spaced slotsText textOf wordBytes same allLawsHold alikeRows risingRows idleSlots
+unfolding ceilDiv atFirst howMany those firstFound rising places padded start deadline bit windowLength jobStart heavy stops stopTime groupDeadline windowReply load faultOf tableNumber reading ready late lower upper before picked given withFront withRecord placeOf names isFound misremembers wanted leftOver inTurn coresFor broken refusal slotOf badRows recordsFindings traceSaid checkOf freeIn unfit digitsBy decimal spaced slotsText textOf bytesOf bytesOfRow same allLawsHold alikeRows risingRows idleSlots
 table-laws = refl
 
 reading-laws : allLawsHold readingOrder ≡ true
-unfolding ceilDiv atFirst howMany those firstFound rising places padded start deadline bit windowLength jobStart heavy stops stopTime groupDeadline windowReply load faultOf tableNumber reading ready late lower upper before picked given withFront withRecord placeOf names isFound misremembers wanted leftOver inTurn coresFor broken refusal slotOf badRows recordsFindings traceSaid checkOf freeIn unfit digitsBy decimal spaced slotsText textOf wordBytes same allLawsHold alikeRows risingRows idleSlots
+unfolding ceilDiv atFirst howMany those firstFound rising places padded start deadline bit windowLength jobStart heavy stops stopTime groupDeadline windowReply load faultOf tableNumber reading ready late lower upper before picked given withFront withRecord placeOf names isFound misremembers wanted leftOver inTurn coresFor broken refusal slotOf badRows recordsFindings traceSaid checkOf freeIn unfit digitsBy decimal spaced slotsText textOf bytesOf bytesOfRow same allLawsHold alikeRows risingRows idleSlots
 reading-laws = refl
 
 value-laws : allLawsHold valueLaws ≡ true
-unfolding ceilDiv atFirst howMany those firstFound rising places padded start deadline bit windowLength jobStart heavy stops stopTime groupDeadline windowReply load faultOf tableNumber reading ready late lower upper before picked given withFront withRecord placeOf names isFound misremembers wanted leftOver inTurn coresFor broken refusal slotOf badRows recordsFindings traceSaid checkOf freeIn unfit digitsBy decimal spaced slotsText textOf wordBytes same allLawsHold alikeRows risingRows idleSlots
+unfolding ceilDiv atFirst howMany those firstFound rising places padded start deadline bit windowLength jobStart heavy stops stopTime groupDeadline windowReply load faultOf tableNumber reading ready late lower upper before picked given withFront withRecord placeOf names isFound misremembers wanted leftOver inTurn coresFor broken refusal slotOf badRows recordsFindings traceSaid checkOf freeIn unfit digitsBy decimal spaced slotsText textOf bytesOf bytesOfRow same allLawsHold alikeRows risingRows idleSlots
 value-laws = refl
 
+write-laws : allLawsHold writeLaws ≡ true
+unfolding flatMap firstFound rising load bytesOf bytesOfRow bytesOfTable writeNumber writing bufferAfter same allLawsHold
+write-laws = refl
+
 slot-laws : allLawsHold slotLaws ≡ true
-unfolding ceilDiv atFirst howMany those firstFound rising places padded start deadline bit windowLength jobStart heavy stops stopTime groupDeadline windowReply load faultOf tableNumber reading ready late lower upper before picked given withFront withRecord placeOf names isFound misremembers wanted leftOver inTurn coresFor broken refusal slotOf badRows recordsFindings traceSaid checkOf freeIn unfit digitsBy decimal spaced slotsText textOf wordBytes same allLawsHold alikeRows risingRows idleSlots
+unfolding ceilDiv atFirst howMany those firstFound rising places padded start deadline bit windowLength jobStart heavy stops stopTime groupDeadline windowReply load faultOf tableNumber reading ready late lower upper before picked given withFront withRecord placeOf names isFound misremembers wanted leftOver inTurn coresFor broken refusal slotOf badRows recordsFindings traceSaid checkOf freeIn unfit digitsBy decimal spaced slotsText textOf bytesOf bytesOfRow same allLawsHold alikeRows risingRows idleSlots
 slot-laws = refl
 
 core-laws : allLawsHold coreLaws ≡ true
-unfolding ceilDiv atFirst howMany those firstFound rising places padded start deadline bit windowLength jobStart heavy stops stopTime groupDeadline windowReply load faultOf tableNumber reading ready late lower upper before picked given withFront withRecord placeOf names isFound misremembers wanted leftOver inTurn coresFor broken refusal slotOf badRows recordsFindings traceSaid checkOf freeIn unfit digitsBy decimal spaced slotsText textOf wordBytes same allLawsHold alikeRows risingRows idleSlots
+unfolding ceilDiv atFirst howMany those firstFound rising places padded start deadline bit windowLength jobStart heavy stops stopTime groupDeadline windowReply load faultOf tableNumber reading ready late lower upper before picked given withFront withRecord placeOf names isFound misremembers wanted leftOver inTurn coresFor broken refusal slotOf badRows recordsFindings traceSaid checkOf freeIn unfit digitsBy decimal spaced slotsText textOf bytesOf bytesOfRow same allLawsHold alikeRows risingRows idleSlots
 core-laws = refl
 
 why-laws : allLawsHold whyLaws ≡ true
@@ -84,15 +90,15 @@ unfolding ceilDiv atFirst howMany those firstFound rising start deadline bit win
 why-laws = refl
 
 part-laws : allLawsHold partLaws ≡ true
-unfolding ceilDiv atFirst howMany those firstFound rising places padded start deadline bit windowLength jobStart heavy stops stopTime groupDeadline windowReply load faultOf tableNumber reading ready late lower upper before picked given withFront withRecord placeOf names isFound misremembers wanted leftOver inTurn coresFor broken refusal slotOf badRows recordsFindings traceSaid checkOf freeIn unfit digitsBy decimal spaced slotsText textOf wordBytes same allLawsHold alikeRows risingRows idleSlots
+unfolding ceilDiv atFirst howMany those firstFound rising places padded start deadline bit windowLength jobStart heavy stops stopTime groupDeadline windowReply load faultOf tableNumber reading ready late lower upper before picked given withFront withRecord placeOf names isFound misremembers wanted leftOver inTurn coresFor broken refusal slotOf badRows recordsFindings traceSaid checkOf freeIn unfit digitsBy decimal spaced slotsText textOf bytesOf bytesOfRow same allLawsHold alikeRows risingRows idleSlots
 part-laws = refl
 
 trace-laws : allLawsHold traceLaws ≡ true
-unfolding ceilDiv atFirst howMany those firstFound rising places padded start deadline bit windowLength jobStart heavy stops stopTime groupDeadline windowReply load faultOf tableNumber reading ready late lower upper before picked given withFront withRecord placeOf names isFound misremembers wanted leftOver inTurn coresFor broken refusal slotOf badRows recordsFindings traceSaid checkOf freeIn unfit digitsBy decimal spaced slotsText textOf wordBytes same allLawsHold alikeRows risingRows idleSlots
+unfolding ceilDiv atFirst howMany those firstFound rising places padded start deadline bit windowLength jobStart heavy stops stopTime groupDeadline windowReply load faultOf tableNumber reading ready late lower upper before picked given withFront withRecord placeOf names isFound misremembers wanted leftOver inTurn coresFor broken refusal slotOf badRows recordsFindings traceSaid checkOf freeIn unfit digitsBy decimal spaced slotsText textOf bytesOf bytesOfRow same allLawsHold alikeRows risingRows idleSlots
 trace-laws = refl
 
 printer-laws : allLawsHold printerLaws ≡ true
-unfolding ceilDiv atFirst howMany those firstFound rising places padded start deadline bit windowLength jobStart heavy stops stopTime groupDeadline windowReply load faultOf tableNumber reading ready late lower upper before picked given withFront withRecord placeOf names isFound misremembers wanted leftOver inTurn coresFor broken refusal slotOf badRows recordsFindings traceSaid checkOf freeIn unfit digitsBy decimal spaced slotsText textOf wordBytes same allLawsHold alikeRows risingRows idleSlots
+unfolding ceilDiv atFirst howMany those firstFound rising places padded start deadline bit windowLength jobStart heavy stops stopTime groupDeadline windowReply load faultOf tableNumber reading ready late lower upper before picked given withFront withRecord placeOf names isFound misremembers wanted leftOver inTurn coresFor broken refusal slotOf badRows recordsFindings traceSaid checkOf freeIn unfit digitsBy decimal spaced slotsText textOf bytesOf bytesOfRow same allLawsHold alikeRows risingRows idleSlots
 printer-laws = refl
 
 pub laws-hold : LawsHold
@@ -100,4 +106,4 @@ laws-hold =
     both-hold windowLaws _ window-laws
     (both-hold tableLaws _ table-laws
     (both-hold readingOrder _ reading-laws
-    (both-hold valueLaws _ value-laws (both-hold slotLaws _ slot-laws (both-hold coreLaws _ core-laws (both-hold whyLaws _ why-laws (both-hold partLaws _ part-laws (both-hold traceLaws _ trace-laws printer-laws))))))))
+    (both-hold valueLaws _ value-laws (both-hold writeLaws _ write-laws (both-hold slotLaws _ slot-laws (both-hold coreLaws _ core-laws (both-hold whyLaws _ why-laws (both-hold partLaws _ part-laws (both-hold traceLaws _ trace-laws printer-laws)))))))))

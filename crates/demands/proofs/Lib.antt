@@ -17,4 +17,5 @@ pub mod Cores
 pub mod Why
 pub mod HalfIsHeavy
 pub mod LongWalk
+pub mod WritingTables
 pub mod All

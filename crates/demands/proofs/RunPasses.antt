@@ -8,6 +8,7 @@ use native.Mathlib.Decide.{ℕ-discrete, decLe, decLt}
 use native.Mathlib.Numerals.{add-one}
 use native.Mathlib.Omega.{arith}
 use lib.ListN.{length, take, drop}
+use Rattle.fields.specs.Fields.{bytesOf}
 use Rattle.facts.specs.First.{Lowest}
 use Rattle.facts.proofs.First.{same-lowest}
 use Rattle.table.specs.declared.Table.{Table}
@@ -33,7 +34,7 @@ use Rattle.checker.proofs.Sound.{InTime, passes-exactly}
 use Rattle.checker.proofs.Rows.{within-was-ready, within-not-late}
 use Rattle.checker.proofs.Passes.{passes-in-shares, checked-as-table}
 use Rattle.checker.proofs.Late.{late-is-said}
-use Rattle.demands.specs.RunPasses.{wordBytes, withSlotCount, traceOf, SaysTheSame, IsTrace, RunPasses}
+use Rattle.demands.specs.RunPasses.{withSlotCount, traceOf, SaysTheSame, IsTrace, RunPasses}
 use Rattle.demands.proofs.WithCount.{slots-are, count-is, is-well-formed}
 
 -- What is known of a run is known of its trace, if it is of its records with the count in front.
@@ -175,7 +176,7 @@ module _ (table : Table) where
   nothing-behind (suc n) (x ∷ b) = nothing-behind n b
 
   no-slots : (b : List ℕ) → withSlotCount 0 b firstPlace ≡ no-records
-  unfolding wordBytes
+  unfolding bytesOf
   no-slots b = ap (λ rest. 0 ∷ 0 ∷ 0 ∷ 0 ∷ rest) (nothing-behind firstPlace b)
 
   empty-is-well-formed : WellFormed table no-records

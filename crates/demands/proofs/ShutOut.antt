@@ -1,7 +1,7 @@
 -- What is shut out: each by 01's example, computed. Assumes nothing.
 use Prim.Native.Nat.{ℕ, _+_, _-_, _*_, _/_}
 use mathlib.Core.Path.{_≡_, refl, sym, ap, _∙_}
-use mathlib.Core.List.{List, [], _∷_}
+use mathlib.Core.List.{List, [], _∷_, flatMap}
 use mathlib.Core.Bool.{Bool, true, false, _&&_, true≢false}
 use native.Mathlib.Omega.{arith}
 use lib.ListN.{length, getD, take, replicate}
@@ -11,6 +11,8 @@ use Rattle.facts.specs.Counting.{some, howMany, those}
 use Rattle.facts.specs.Findings.{firstFound}
 use Rattle.facts.specs.Rising.{rising}
 use Rattle.facts.specs.Places.{places, padded}
+use Rattle.facts.specs.Below.{allBelow}
+use Rattle.fields.specs.Fields.{bytesOf}
 use Rattle.counts.specs.declared.Subtask.{Subtask}
 use Rattle.windows.specs.Windows.{start, deadline, bit, windowLength, jobStart}
 use Rattle.windows.specs.Group.{heavy, stops, stopTime, groupDeadline}
@@ -20,6 +22,8 @@ use Rattle.table.specs.Causes.{load}
 use Rattle.table.specs.Value.{faultOf}
 use Rattle.table.specs.Bytes.{tableNumber, tableIn, reading}
 use Rattle.table.specs.Example.{example}
+use Rattle.table.specs.Fits.{rowsFit}
+use Rattle.table.specs.Writing.{bytesOfRow, bytesOfTable, writeNumber, writing, bufferAfter}
 use Rattle.pd2.specs.Ready.{ready, late}
 use Rattle.pd2.specs.Share.{lower, upper}
 use Rattle.pd2.specs.Order.{before}
@@ -48,8 +52,8 @@ use Rattle.checker.specs.Causes.{badRows}
 use Rattle.checker.specs.Check.{recordsFindings, traceSaid, checkOf}
 use Rattle.demands.specs.Bench.{exampleTrace, threeCores}
 use Rattle.demands.specs.LawInputs.{stateOf}
-use Rattle.demands.specs.Inputs.{allBelow, Bytes, CanAskWindow, rowsFit, Possible, CanAsk}
-use Rattle.demands.specs.ShutOut.{Dispatcher, IsDispatcher, numberOf, rowsWritten, GivesAsRecorded, ShutOutOf, Explainer, IsExplainer, ShutOutOfWhy, Answerer, IsAnswerer, ShutOutOfWindow, ShutOut}
+use Rattle.demands.specs.Inputs.{Bytes, CanAskWindow, Possible, CanAsk, CanWrite}
+use Rattle.demands.specs.ShutOut.{Dispatcher, IsDispatcher, numberOf, rowsWritten, GivesAsRecorded, ShutOutOf, Explainer, IsExplainer, ShutOutOfWhy, Answerer, IsAnswerer, ShutOutOfWindow, ShutOut, Writer, IsWriter, ShutOutOfWriting}
 use Rattle.demands.proofs.Two.{picks-are-pd2s}
 
 -- 01's example: slot 0 and slot 1 of a fresh state with both cores free, each into ten bytes
@@ -288,6 +292,54 @@ shut-out-of-window window is =
           omega (arith, ap (λ reply. reply .D) own, ap (λ reply. reply .d) own, wrong);
     }
 
+-- 01's example is written into 40 bytes and into 36, and not into 35.
+abbrev lent : ℕ → List ℕ
+lent bytes = replicate bytes 238
+
+record Wrote : Type 0 where
+  can-40 : CanWrite (tableIn example) (lent 40)
+  said-40 : writing (tableIn example) (lent 40) .number ≡ 0
+  first-40 : getD (bufferAfter (tableIn example) (lent 40)) 0 0 ≡ 1
+  last-40 : getD (bufferAfter (tableIn example) (lent 40)) 36 1 ≡ 238
+  can-36 : CanWrite (tableIn example) (lent 36)
+  said-36 : writing (tableIn example) (lent 36) .number ≡ 0
+  can-35 : CanWrite (tableIn example) (lent 35)
+  said-35 : writing (tableIn example) (lent 35) .length ≡ 0
+
+wrote : Wrote
+unfolding allBelow rowsFit flatMap firstFound rising places padded load bytesOf bytesOfRow bytesOfTable writeNumber writing bufferAfter
+wrote =
+    record {
+      can-40 = record { table = record { numbers = refl; boards = refl; rows = refl }; bytes = refl };
+      said-40 = refl;
+      first-40 = refl;
+      last-40 = refl;
+      can-36 = record { table = record { numbers = refl; boards = refl; rows = refl }; bytes = refl };
+      said-36 = refl;
+      can-35 = record { table = record { numbers = refl; boards = refl; rows = refl }; bytes = refl };
+      said-35 = refl;
+    }
+
+shut-out-of-writing : (write : Writer) → IsWriter write → ShutOutOfWriting write
+unfolding padded places
+shut-out-of-writing write is =
+    let t = tableIn example in
+    let is-40 = is t (lent 40) (wrote .can-40) in
+    let done = ap (λ x. x .number) (is-40 .0) ∙ wrote .said-40 in
+    record {
+      writes-no-table = λ h. h t (lent 40) (wrote .can-40) done;
+      writes-nothing = λ h.
+          let z : _≡_ {A = ℕ} 1 238 = sym (ap (λ l. getD l 0 0) (is-40 .1) ∙ wrote .first-40) ∙ ap (λ l. getD l 0 0) (h t (lent 40) (wrote .can-40) done) in
+          omega arith;
+      pads-the-rest = λ h.
+          let z : _≡_ {A = ℕ} 238 0 = sym (ap (λ l. getD l 36 1) (is-40 .1) ∙ wrote .last-40) ∙ h t (lent 40) (wrote .can-40) done 36 (omega arith) (omega arith) in
+          omega arith;
+      asks-for-more = λ h. h t (lent 36) (wrote .can-36) refl (ap (λ x. x .number) (is t (lent 36) (wrote .can-36) .0) ∙ wrote .said-36);
+      says-what-it-would = λ h.
+          let z : _≡_ {A = ℕ} 0 36 = sym (ap (λ x. x .length) (is t (lent 35) (wrote .can-35) .0) ∙ wrote .said-35) ∙ h t (lent 35) (wrote .can-35) in
+          omega arith;
+    }
+
 -- What the definitions say of the example and of the two traces, said of a number that is equal.
 module _ {number : ℕ} where
   takes : number ≡ tableNumber example → number ≡ 0
@@ -309,6 +361,7 @@ shut-out =
       dispatcher = shut-out-of;
       why = shut-out-of-why;
       window = shut-out-of-window;
+      writing = shut-out-of-writing;
       always-passes = λ check is always. is-late (ap (λ x. x .number) (is example lateTrace b l)) (always example lateTrace b l (computed .taken));
       never-passes = λ check is never. never example exampleTrace b t (passes (ap (λ x. x .number) (is example exampleTrace b t)));
       board-takes-none = λ check is none. none example b (takes (is example b));

@@ -1,12 +1,13 @@
 -- Records with their count in front are a well-formed trace: they are those of the buffer, only moved. Assumes nothing.
-use Prim.Native.Nat.{ℕ, _+_, _-_, _*_, _/_, _^_, _≤_, _<_}
+use Prim.Native.Nat.{ℕ, _+_, _-_, _*_, _≤_, _<_}
 use mathlib.Core.Path.{_≡_, sym, ap, _∙_}
-use mathlib.Core.List.{List}
-use native.Mathlib.Nat.{div-add-mod', div-div-eq-div-mul, mod-eq-of-lt}
+use mathlib.Core.List.{List, [], _++_}
 use native.Mathlib.Omega.{arith}
 use borrow.Author.Tests.{le-ltb}
 use lib.ListN.{length, getD, take, drop, length-append, length-drop}
 use lib.Seq.{length-take-le, getD-take, getD-drop, getD-append-add}
+use Rattle.fields.specs.Fields.{bytesOf}
+use Rattle.fields.proofs.Numbers.{written-is-read, widths-two-and-four}
 use Rattle.table.specs.declared.Table.{Table}
 use Rattle.table.specs.Value.{rowsOf}
 use Rattle.trace.specs.Records.{freeAt, pickedAt, pastRecord, placeOf, firstPlace, slotsIn, placeIn, timesNamed, timesNamedFrom}
@@ -16,27 +17,11 @@ use Rattle.dispatcher.proofs.Written.{sound-there, Written}
 use Rattle.checker.specs.Causes.{slotLimit, badRows}
 use Rattle.checker.specs.WellFormed.{SoundRecord, WellFormed}
 use Rattle.checker.proofs.Sound.{listed-not-bad}
-use Rattle.demands.specs.RunPasses.{wordBytes, WordBytesAreRead, withSlotCount}
-
--- four bytes put together, the last of them all that is left
-put-together : (n a b c w x y z : ℕ) → a * 256 + w ≡ n → b * 256 + x ≡ a → c * 256 + y ≡ b → z ≡ c → w + 256 * x + 65_536 * (y + 256 * z) ≡ n
-put-together n a b c w x y z p q r e = omega arith
-
--- what is left above three bytes is one byte
-one-left : (n a b c w x y : ℕ) → a * 256 + w ≡ n → b * 256 + x ≡ a → c * 256 + y ≡ b → n < 2 ^ 32 → c < 256
-one-left n a b c w x y p q r h = omega arith
+use Rattle.demands.specs.RunPasses.{WordBytesAreRead, withSlotCount}
 
 -- A number in four bytes is read as that number.
 pub word-bytes-are-read : WordBytesAreRead
-unfolding wordBytes
-word-bytes-are-read n rest h =
-    let a = div-add-mod' n 256 in
-    let b = div-add-mod' (n / 256) 256 in
-    let c = div-add-mod' (n / 256 / 256) 256 in
-    let two : n / 65_536 ≡ n / 256 / 256 = sym (div-div-eq-div-mul n 256 256) in
-    let three : n / 16_777_216 ≡ n / 256 / 256 / 256 = sym (div-div-eq-div-mul n 65_536 256) ∙ ap (λ x. x / 256) two in
-    let least = one-left n (n / 256) (n / 256 / 256) (n / 256 / 256 / 256) _ _ _ a b c h in
-    rw (two, three) (put-together n (n / 256) (n / 256 / 256) (n / 256 / 256 / 256) _ _ _ _ a b c (mod-eq-of-lt least))
+word-bytes-are-read n rest h = widths-two-and-four .four (bytesOf 4 n ++ rest) 0 ∙ written-is-read 4 n h [] rest
 
 -- The count n is written in front of the n sound records of a buffer.
 module _ (table : Table) (n : ℕ) (b : List ℕ) (next : ℕ) (so : Written table firstPlace n b next) (few : n ≤ slotLimit) where
@@ -53,21 +38,21 @@ module _ (table : Table) (n : ℕ) (b : List ℕ) (next : ℕ) (so : Written tab
 
   -- the trace is as long as the buffer up to the next place,
   how-long : length trace ≡ next
-  unfolding wordBytes
+  unfolding bytesOf
   how-long =
-      length-append (wordBytes n) (drop firstPlace (take next b))
+      length-append (bytesOf 4 n) (drop firstPlace (take next b))
       ∙ omega (arith, length-drop firstPlace (take next b), length-take-le next b (so .inside), behind-count)
 
   -- and from place 4 on agrees with it,
   trace-agrees : Agree firstPlace next trace b
-  unfolding wordBytes
+  unfolding bytesOf
   trace-agrees = record { same = same; reaches = omega (arith, how-long); reaches-too = so .inside }
     where
       same : (i : ℕ) → firstPlace ≤ i → i < next → getD trace i 0 ≡ getD b i 0
       same i l h =
           let e : i ≡ firstPlace + (i - firstPlace) = omega arith in
           ap (λ j. getD trace j 0) e
-          ∙ (getD-append-add (wordBytes n) (drop firstPlace (take next b)) (i - firstPlace) 0
+          ∙ (getD-append-add (bytesOf 4 n) (drop firstPlace (take next b)) (i - firstPlace) 0
           ∙ (getD-drop firstPlace (take next b) (i - firstPlace) 0
           ∙ (ap (λ j. getD (take next b) j 0) (sym e) ∙ getD-take next b i 0 h)))
 

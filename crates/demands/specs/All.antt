@@ -15,6 +15,7 @@ use Rattle.demands.specs.Cores.{Cores}
 use Rattle.demands.specs.Why.{Why}
 use Rattle.demands.specs.HalfIsHeavy.{HalfIsHeavy}
 use Rattle.demands.specs.LongWalk.{LongWalk}
+use Rattle.demands.specs.WritingTables.{WritingTables}
 
 pub record All : Type 0 where
   -- "any two results allowed are equal", of every public function
@@ -44,3 +45,5 @@ pub record All : Type 0 where
   pub half-is-heavy : HalfIsHeavy
   -- "D is f + ceil(g·p/(p-e)) where g = ceil(d·(p-e)/p). What the answer promises stays"
   pub long-walk : LongWalk
+  -- "write the table bytes into a lent buffer"
+  pub writing-tables : WritingTables

@@ -9,6 +9,7 @@ use Rattle.counts.specs.declared.Quanta.{Quanta}
 use Rattle.counts.specs.declared.Subtask.{Subtask}
 use Rattle.table.specs.declared.Row.{Row}
 use Rattle.table.specs.declared.Table.{Table}
+use Rattle.table.specs.declared.Writing.{Writing}
 use Rattle.pd2.specs.declared.Verdict.{Verdict}
 use Rattle.trace.specs.declared.Stored.{Stored}
 use Rattle.cores.specs.declared.Placement.{Placement}
@@ -18,7 +19,7 @@ use Rattle.dispatcher.specs.declared.Outcome.{Outcome}
 use Rattle.why.specs.declared.Answer.{Answer as WhyAnswer}
 use Rattle.checker.specs.declared.Answer.{Answer as Checked}
 use Rattle.printer.specs.declared.Printed.{Printed}
-use Rattle.demands.specs.Promises.{counts·Slot·at, counts·Slot·time, counts·Slot·later, counts·Slot·before, counts·Slot·since, counts·Quanta·of, counts·Quanta·count, counts·Quanta·one-more, counts·Quanta·next-subtask, counts·Subtask·numbered, counts·Subtask·number, counts·Subtask·next, counts·Subtask·quanta-before, fields·byte, fields·half, fields·word, windows·window, windows·window-by-walk, windows·next-due, windows·next-start, windows·next-job-start, windows·next-group-deadline, table·read, table·fault, pd2·Verdict·is-yes, pd2·origin, pd2·ready, pd2·late, pd2·within, pd2·give, pd2·lowest-late, trace·write, trace·record, trace·begins, choice·picks, choice·first-left, cores·Placement·nobody, cores·Placement·is-faulty, cores·how-many, cores·names-past, cores·first, cores·place, dispatcher·Answer·told, dispatcher·State·fresh, dispatcher·State·is-broken, dispatcher·State·slot, why·Answer·told, why·of-row, checker·check, checker·number, firmware·zb-table-check, firmware·zb-trace-check, printer·Printed·length, printer·print, slots-run·zb-slots}
+use Rattle.demands.specs.Promises.{counts·Slot·at, counts·Slot·time, counts·Slot·later, counts·Slot·before, counts·Slot·since, counts·Quanta·of, counts·Quanta·count, counts·Quanta·one-more, counts·Quanta·next-subtask, counts·Subtask·numbered, counts·Subtask·number, counts·Subtask·next, counts·Subtask·quanta-before, fields·byte, fields·half, fields·word, fields·put, windows·window, windows·window-by-walk, windows·next-due, windows·next-start, windows·next-job-start, windows·next-group-deadline, table·read, table·fault, table·write, pd2·Verdict·is-yes, pd2·origin, pd2·ready, pd2·late, pd2·within, pd2·give, pd2·lowest-late, trace·write, trace·record, trace·begins, choice·picks, choice·first-left, cores·Placement·nobody, cores·Placement·is-faulty, cores·how-many, cores·names-past, cores·first, cores·place, dispatcher·Answer·told, dispatcher·State·fresh, dispatcher·State·is-broken, dispatcher·State·slot, why·Answer·told, why·of-row, checker·check, checker·number, firmware·zb-table-check, firmware·zb-trace-check, printer·Printed·length, printer·print, slots-run·zb-slots}
 
 pub record EveryPromiseDetermines : Type 0 where
   pub counts-Slot-at : (time : ℕ) → Determined (counts·Slot·at time)
@@ -37,6 +38,7 @@ pub record EveryPromiseDetermines : Type 0 where
   pub fields-byte : (s : List ℕ) (at : ℕ) → Determined (fields·byte s at)
   pub fields-half : (s : List ℕ) (at : ℕ) → Determined (fields·half s at)
   pub fields-word : (s : List ℕ) (at : ℕ) → Determined (fields·word s at)
+  pub fields-put : (s : List ℕ) (at width number : ℕ) → Determined (fields·put s at width number)
   pub windows-window : (e p f : ℕ) (i : Subtask) → Determined (windows·window e p f i)
   pub windows-window-by-walk : (e p f : ℕ) (i : Subtask) → Determined (windows·window-by-walk e p f i)
   pub windows-next-due : (e p : ℕ) (origin : Slot) (given : Quanta) → Determined (windows·next-due e p origin given)
@@ -45,6 +47,7 @@ pub record EveryPromiseDetermines : Type 0 where
   pub windows-next-group-deadline : (e p : ℕ) (origin : Slot) (given : Quanta) → Determined (windows·next-group-deadline e p origin given)
   pub table-read : (bytes : List ℕ) → Determined (table·read bytes)
   pub table-fault : (table : Table) → Determined (table·fault table)
+  pub table-write : (table : Table) (buffer : List ℕ) → Determined {R = Writing × List ℕ} (λ r. table·write table buffer (r .0) (r .1))
   pub pd2-Verdict-is-yes : (self : Verdict) → Determined (pd2·Verdict·is-yes self)
   pub pd2-origin : (row : Row) → Determined (pd2·origin row)
   pub pd2-ready : (row : Row) (given : Quanta) (slot : Slot) → Determined (pd2·ready row given slot)

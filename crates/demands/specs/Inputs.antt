@@ -6,16 +6,13 @@ use mathlib.Core.List.{List, [], _∷_, _++_}
 use mathlib.Core.Bool.{Bool, true, _&&_}
 use lib.Dec.{ltb}
 use lib.ListN.{length}
+use Rattle.facts.specs.Below.{allBelow}
 use Rattle.counts.specs.declared.Subtask.{Subtask}
-use Rattle.table.specs.declared.Row.{Row}
 use Rattle.table.specs.declared.Table.{Table}
+use Rattle.table.specs.Fits.{tableFits, CanHold}
 use Rattle.cores.specs.Sets.{firstCores}
 use Rattle.dispatcher.specs.declared.State.{State}
 use Rattle.dispatcher.specs.State.{quantaIn, timeOf}
-
-unfoldable pub allBelow : ℕ → List ℕ → Bool
-allBelow top [] = true
-allBelow top (x ∷ xs) = ltb x top && allBelow top xs
 
 -- bytes of a slice
 abbrev pub Bytes : List ℕ → Type 0
@@ -24,18 +21,6 @@ Bytes s = allBelow 256 s && ltb (length s) (2 ^ 63) ≡ true
 -- A window can be asked for so: e, p and f of two bytes each, and a number i of 64 bits.
 abbrev pub CanAskWindow : ℕ → ℕ → ℕ → Subtask → Type 0
 CanAskWindow e p f i = allBelow 65_536 (e ∷ p ∷ f ∷ []) && ltb (i .0) (2 ^ 64) ≡ true
-
--- rows: a tank, e, p and f of two bytes each, and a kind of one
-abbrev pub rowFits : Row → Bool
-rowFits row = allBelow 65_536 (row .tank ∷ row .cost ∷ row .period ∷ row .phase ∷ []) && ltb (row .kind) 256
-
-unfoldable pub rowsFit : List Row → Bool
-rowsFit [] = true
-rowsFit (row ∷ rows) = rowFits row && rowsFit rows
-
--- a table value: L of four bytes, M, n and the board numbers of one each
-abbrev pub tableFits : Table → Bool
-tableFits t = ltb (t .cycle) (2 ^ 32) && allBelow 256 (t .cores ∷ t .n ∷ t .boards) && rowsFit (t .rows)
 
 -- A slot can be asked so: the state holds 8 board numbers, 32 rows, 32 quanta, and a memory of 8 places in bytes; time, quanta and place are numbers of 64
 -- bits, and a set has 32 marks.
@@ -55,3 +40,8 @@ pub record Possible (s : State) (free : List Bool) (buffer : List ℕ) (place : 
 pub record CanAsk (s : State) (k row : ℕ) : Type 0 where
   pub state : Possible s (firstCores k) [] 0
   pub numbers : allBelow 256 (k ∷ row ∷ []) ≡ true
+
+-- A table can be written so: a value as its types allow it, into a slice of bytes.
+pub record CanWrite (t : Table) (buffer : List ℕ) : Type 0 where
+  pub table : CanHold t
+  pub bytes : Bytes buffer

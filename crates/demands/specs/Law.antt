@@ -9,6 +9,7 @@ use Rattle.table.specs.declared.Row.{Row}
 use Rattle.table.specs.declared.Table.{Table}
 use Rattle.table.specs.Value.{faultOf}
 use Rattle.table.specs.Bytes.{reading}
+use Rattle.table.specs.Writing.{writing, bufferAfter}
 use Rattle.trace.specs.Found.{partFound, partBegins}
 use Rattle.trace.specs.Said.{Said, bare}
 use Rattle.cores.specs.declared.Placement.{Placement}
@@ -35,6 +36,8 @@ pub data Law : Type 0 where
   has-board : (bytes : List ℕ) (j board : ℕ) → Law
   -- the fault of a table value
   faulty : (table : Table) (number : ℕ) → Law
+  -- writing a table value into a buffer of so many bytes, all 99: the number, how many bytes are written, and the buffer
+  writes : (table : Table) (bytes number length : ℕ) (buffer : List ℕ) → Law
   -- a slot of a state with the first k cores free, in a buffer of so many bytes, all 99, from a place on: the answer,
   slot : (s : State) (k bytes place : ℕ) (said : Said) → Law
   -- and what it leaves: the buffer, the time, the stopped mark, and the first quanta
@@ -85,6 +88,9 @@ lawHolds (has-sizes bytes cycle cores n) =
 lawHolds (has-row bytes i row) = sameRow (getD (reading bytes .table .rows) i noSuchRow) row
 lawHolds (has-board bytes j board) = eqb (getD (reading bytes .table .boards) j 256) board
 lawHolds (faulty table number) = eqb (faultOf table) number
+lawHolds (writes table bytes number length buffer) =
+    let said = writing table (replicate bytes 99) in
+    eqb (said .number) number && eqb (said .length) length && same (bufferAfter table (replicate bytes 99)) buffer
 lawHolds (slot s k bytes place said) = sameSaid (slotOf s (firstCores k) (replicate bytes 99) place .said) said
 lawHolds (leaves s k bytes place buffer time stopped quanta) =
     let after = slotOf s (firstCores k) (replicate bytes 99) place in

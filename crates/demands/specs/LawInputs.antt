@@ -1,32 +1,29 @@
 -- Tables, states and bytes that our own table of laws asks about (specs/Laws.antt).
-use Prim.Native.Nat.{ℕ, zero, suc, _+_, _-_, _/_, _%_}
+use Prim.Native.Nat.{ℕ, zero, suc, _+_, _-_}
 use mathlib.Core.List.{List, [], _∷_, _++_, map}
 use mathlib.Core.Bool.{Bool}
 use lib.ListN.{length, replicate}
 use Rattle.facts.specs.Places.{places}
 use Rattle.counts.specs.Numbers.{counted}
+use Rattle.fields.specs.Fields.{bytesOf}
 use Rattle.table.specs.declared.Row.{Row}
 use Rattle.table.specs.declared.Table.{Table}
 use Rattle.table.specs.Limits.{rowLimit}
+use Rattle.table.specs.Writing.{bytesOfRow}
 use Rattle.trace.specs.Records.{names}
 use Rattle.cores.specs.declared.Placement.{Placement}
 use Rattle.cores.specs.Sets.{setLimit}
 use Rattle.cores.specs.Placement.{nobody}
 use Rattle.dispatcher.specs.declared.State.{State}
-use Rattle.demands.specs.RunPasses.{wordBytes}
 use Rattle.demands.specs.Bench.{plainRow, box}
-
--- "Little-endian throughout": a number in two bytes
-abbrev pub halfBytes : ℕ → List ℕ
-halfBytes n = n % 256 ∷ n / 256 ∷ []
 
 -- the front of a table: format, cycle, the core count and as many board numbers
 abbrev pub front : ℕ → List ℕ → List ℕ
-front cycle boards = 1 ∷ wordBytes cycle ++ (length boards ∷ boards)
+front cycle boards = 1 ∷ bytesOf 4 cycle ++ (length boards ∷ boards)
 
 -- a row in its nine bytes: tank, e, p, f, kind
 abbrev pub rowBytes : ℕ → ℕ → ℕ → ℕ → ℕ → List ℕ
-rowBytes tank e p f kind = halfBytes tank ++ (halfBytes e ++ (halfBytes p ++ (halfBytes f ++ (kind ∷ []))))
+rowBytes tank e p f kind = bytesOfRow (record { tank = tank; cost = e; period = p; phase = f; kind = kind })
 
 -- n rows 1/p, with tanks rising one by one from the given tank on
 unfoldable pub alikeRows : ℕ → ℕ → ℕ → List ℕ

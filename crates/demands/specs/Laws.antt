@@ -6,6 +6,7 @@ use mathlib.Core.Bool.{true}
 use Rattle.demands.specs.Law.{Law, window, allLawsHold}
 use Rattle.demands.specs.TableLaws.{tableLaws}
 use Rattle.demands.specs.ReadingLaws.{readingOrder, valueLaws}
+use Rattle.demands.specs.WriteLaws.{writeLaws}
 use Rattle.demands.specs.SlotLaws.{slotLaws}
 use Rattle.demands.specs.CoreLaws.{coreLaws}
 use Rattle.demands.specs.WhyLaws.{whyLaws}
@@ -40,7 +41,7 @@ windowLaws =
     ∷ []
 
 abbrev pub laws : List Law
-laws = windowLaws ++ (tableLaws ++ (readingOrder ++ (valueLaws ++ (slotLaws ++ (coreLaws ++ (whyLaws ++ (partLaws ++ (traceLaws ++ printerLaws))))))))
+laws = windowLaws ++ (tableLaws ++ (readingOrder ++ (valueLaws ++ (writeLaws ++ (slotLaws ++ (coreLaws ++ (whyLaws ++ (partLaws ++ (traceLaws ++ printerLaws)))))))))
 
 -- Every law follows from the definitions.
 abbrev pub LawsHold : Type 0

@@ -12,6 +12,7 @@ pub mod Law
 pub mod LawInputs
 pub mod TableLaws
 pub mod ReadingLaws
+pub mod WriteLaws
 pub mod SlotLaws
 pub mod CoreLaws
 pub mod WhyLaws
@@ -26,4 +27,5 @@ pub mod Cores
 pub mod Why
 pub mod HalfIsHeavy
 pub mod LongWalk
+pub mod WritingTables
 pub mod All

@@ -4,10 +4,11 @@ use mathlib.Core.List.{List, [], _∷_, _++_, map}
 use mathlib.Core.Bool.{cond}
 use lib.Dec.{eqb}
 use lib.ListN.{length, take, replicate}
+use Rattle.fields.specs.Fields.{bytesOf}
 use Rattle.table.specs.Example.{example}
 use Rattle.printer.specs.Example.{exampleInput, exampleText}
 use Rattle.demands.specs.Law.{Law, prints}
-use Rattle.demands.specs.LawInputs.{halfBytes, front, rowBytes, halfAndThirdBytes}
+use Rattle.demands.specs.LawInputs.{front, rowBytes, halfAndThirdBytes}
 
 -- A line of digits and spaces: each digit stands for itself, and `sp`, which is no digit, for a space. A newline, the byte 10, ends the line.
 abbrev pub sp : ℕ
@@ -37,7 +38,7 @@ headerText = 115 ∷ 108 ∷ 111 ∷ 116 ∷ 32 ∷ 102 ∷ 114 ∷ 101 ∷ 101 
 
 -- an input: "table length (2), table, slots to run (2, at most 4,096), count of k values (2, at most the slots), those k bytes"
 abbrev pub inputOf : List ℕ → ℕ → List ℕ → List ℕ
-inputOf table slots free = halfBytes (length table) ++ (table ++ (halfBytes slots ++ (halfBytes (length free) ++ free)))
+inputOf table slots free = bytesOf 2 (length table) ++ (table ++ (bytesOf 2 slots ++ (bytesOf 2 (length free) ++ free)))
 
 -- the lines of n slots with one core and no rows, from a slot of one digit on
 unfoldable pub idleSlots : ℕ → ℕ → List ℕ

@@ -5,6 +5,7 @@ use mathlib.Core.Path.{_≡_}
 use mathlib.Core.List.{List}
 use mathlib.Core.Bool.{Bool}
 use lib.ListN.{length, take}
+use lib.Seq.{sets}
 use denote.Ref.{RefT, now}
 use Rattle.facts.specs.First.{Lowest}
 use Rattle.counts.specs.declared.Slot.{Slot}
@@ -12,7 +13,7 @@ use Rattle.counts.specs.declared.Quanta.{Quanta}
 use Rattle.counts.specs.declared.Subtask.{Subtask}
 use Rattle.counts.specs.Limits.{kept}
 use Rattle.counts.specs.Numbers.{numbersOf}
-use Rattle.fields.specs.Fields.{byte, half, word}
+use Rattle.fields.specs.Fields.{byte, half, word, bytesOf}
 use Rattle.windows.specs.declared.Answer.{Answer as Window}
 use Rattle.windows.specs.declared.Due.{Due}
 use Rattle.windows.specs.declared.Moment.{Moment}
@@ -23,8 +24,10 @@ use Rattle.windows.specs.Next.{nextDue, next}
 use Rattle.table.specs.declared.Row.{Row}
 use Rattle.table.specs.declared.Table.{Table}
 use Rattle.table.specs.declared.Reading.{Reading}
+use Rattle.table.specs.declared.Writing.{Writing}
 use Rattle.table.specs.Bytes.{tableNumber, reading}
 use Rattle.table.specs.Value.{faultOf}
+use Rattle.table.specs.Writing.{writing, bufferAfter}
 use Rattle.pd2.specs.declared.Verdict.{Verdict}
 use Rattle.pd2.specs.Ready.{originOf, ready, late}
 use Rattle.pd2.specs.Share.{within}
@@ -125,6 +128,10 @@ fields·half s at r = r ≡ half s at
 abbrev pub fields·word : List ℕ → ℕ → ℕ → Type 0
 fields·word s at r = r ≡ word s at
 
+-- fields::put
+abbrev pub fields·put : List ℕ → ℕ → ℕ → ℕ → List ℕ → Type 0
+fields·put s at width number s-after = s-after ≡ sets s at (bytesOf width number)
+
 -- windows::window
 abbrev pub windows·window : ℕ → ℕ → ℕ → Subtask → Window → Type 0
 windows·window e p f i r = replyOf r ≡ windowReply e p f (i .0)
@@ -156,6 +163,10 @@ table·read bytes r = r ≡ reading bytes
 -- table::fault
 abbrev pub table·fault : Table → ℕ → Type 0
 table·fault table r = r ≡ faultOf table
+
+-- table::write
+abbrev pub table·write : Table → List ℕ → Writing → List ℕ → Type 0
+table·write table buffer r buffer-after = (r ≡ writing table buffer) × (buffer-after ≡ bufferAfter table buffer)
 
 -- pd2::Verdict::is_yes
 abbrev pub pd2·Verdict·is-yes : Verdict → Bool → Type 0

@@ -1,8 +1,8 @@
 -- Laws of the order of reading, and of table values (01, "The table, in bytes", "What comes back"): part of specs/Laws.antt.
 use mathlib.Core.List.{List, [], _∷_, _++_}
 use lib.ListN.{take, replicate}
+use Rattle.fields.specs.Fields.{bytesOf}
 use Rattle.table.specs.Causes.{zeroRow}
-use Rattle.demands.specs.RunPasses.{wordBytes}
 use Rattle.demands.specs.Bench.{plainRow, box}
 use Rattle.demands.specs.Law.{Law, reads, faulty}
 use Rattle.demands.specs.LawInputs.{front, rowBytes, alikeRows, halfAndThird}
@@ -14,16 +14,16 @@ readingOrder =
     -- 11 and 10: format 0, and no cycle
     reads (0 ∷ []) 11
     -- 11 and 12, 10 and 12: the first bytes of a cycle that is 0
-    ∷ reads (0 ∷ wordBytes 0) 11
+    ∷ reads (0 ∷ bytesOf 4 0) 11
     ∷ reads (1 ∷ 0 ∷ 0 ∷ []) 10
     -- 12 and 10, 12 and 13
-    ∷ reads (1 ∷ wordBytes 0) 12
+    ∷ reads (1 ∷ bytesOf 4 0) 12
     ∷ reads (front 0 [] ++ (0 ∷ [])) 12
     -- 13 and 10, 13 and 14
-    ∷ reads (1 ∷ wordBytes 6 ++ (9 ∷ [])) 13
+    ∷ reads (1 ∷ bytesOf 4 6 ++ (9 ∷ [])) 13
     ∷ reads (front 6 (0 ∷ 0 ∷ 0 ∷ 0 ∷ 0 ∷ 0 ∷ 0 ∷ 0 ∷ 0 ∷ []) ++ (0 ∷ [])) 13
     -- 14 and 10: a third board is missing; 14 and 15
-    ∷ reads (1 ∷ wordBytes 6 ++ (3 ∷ 1 ∷ 1 ∷ [])) 14
+    ∷ reads (1 ∷ bytesOf 4 6 ++ (3 ∷ 1 ∷ 1 ∷ [])) 14
     ∷ reads (front 6 (1 ∷ 1 ∷ []) ++ (33 ∷ [])) 14
     -- 15 and 10, 15 and 16
     ∷ reads (front 6 (0 ∷ []) ++ (33 ∷ [])) 15

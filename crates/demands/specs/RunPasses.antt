@@ -1,9 +1,9 @@
 -- The trace of a run passes the check, or the check names the row and the time that the run named.
-use Prim.Native.Nat.{ℕ, _/_, _%_, _^_, _≤_, _<_}
+use Prim.Native.Nat.{ℕ, _^_, _≤_, _<_}
 use mathlib.Core.Path.{_≡_}
-use mathlib.Core.List.{List, [], _∷_, _++_}
+use mathlib.Core.List.{List, _++_}
 use lib.ListN.{take, drop}
-use Rattle.fields.specs.Fields.{word}
+use Rattle.fields.specs.Fields.{word, bytesOf}
 use Rattle.table.specs.declared.Table.{Table}
 use Rattle.table.specs.Bytes.{tableNumber, tableIn}
 use Rattle.trace.specs.Records.{firstPlace, slotsIn}
@@ -14,18 +14,14 @@ use Rattle.checker.specs.Causes.{slotLimit}
 use Rattle.checker.specs.Check.{traceSaid, checkOf}
 use Rattle.checker.specs.WellFormed.{WellFormed}
 
--- "Slot count (4 ..)", "Little-endian throughout": a number in four bytes
-unfoldable pub wordBytes : ℕ → List ℕ
-wordBytes n = n % 256 ∷ n / 256 % 256 ∷ n / 65_536 % 256 ∷ n / 16_777_216 % 256 ∷ []
-
--- Read as a field they are that number.
+-- "Slot count (4 ..)", "Little-endian throughout": a number in four bytes is read as that number.
 abbrev pub WordBytesAreRead : Type 0
-WordBytesAreRead = (n : ℕ) (rest : List ℕ) → n < 2 ^ 32 → word (wordBytes n ++ rest) 0 ≡ n
+WordBytesAreRead = (n : ℕ) (rest : List ℕ) → n < 2 ^ 32 → word (bytesOf 4 n ++ rest) 0 ≡ n
 
 -- "The dispatcher writes records only; the count is written by whoever keeps the trace": a count of slots, and behind it the records that stand
 -- in a buffer from place 4 up to the next place
 abbrev pub withSlotCount : ℕ → List ℕ → ℕ → List ℕ
-withSlotCount n bytes next = wordBytes n ++ drop firstPlace (take next bytes)
+withSlotCount n bytes next = bytesOf 4 n ++ drop firstPlace (take next bytes)
 
 -- the trace of a run: its count is the slots that were done
 abbrev pub traceOf : Run → List ℕ

@@ -11,7 +11,9 @@ use Rattle.counts.specs.declared.Subtask.{Subtask}
 use Rattle.windows.specs.declared.Answer.{Answer as Window}
 use Rattle.windows.specs.Question.{Reply, replyOf}
 use Rattle.windows.specs.Formula.{formula}
+use Rattle.table.specs.declared.Table.{Table}
 use Rattle.table.specs.declared.Reading.{Reading}
+use Rattle.table.specs.declared.Writing.{Writing}
 use Rattle.table.specs.Bytes.{tableNumber}
 use Rattle.pd2.specs.Choice.{quantaAt}
 use Rattle.trace.specs.Record.{marked}
@@ -30,8 +32,8 @@ use Rattle.why.specs.Reasons.{goesBefore}
 use Rattle.why.specs.Answer as why
 use Rattle.checker.specs.declared.Answer.{Answer as Checked}
 use Rattle.checker.specs.Answer as checked
-use Rattle.demands.specs.Promises.{windows·window, table·read, dispatcher·State·slot, why·of-row, checker·check, firmware·zb-table-check, firmware·zb-trace-check}
-use Rattle.demands.specs.Inputs.{Bytes, CanAskWindow, Possible, CanAsk}
+use Rattle.demands.specs.Promises.{windows·window, table·read, table·write, dispatcher·State·slot, why·of-row, checker·check, firmware·zb-table-check, firmware·zb-trace-check}
+use Rattle.demands.specs.Inputs.{Bytes, CanAskWindow, Possible, CanAsk, CanWrite}
 
 -- A reader keeps the promise of `read`, and the board's table check that of `zb_table_check`.
 abbrev pub IsReader : (List ℕ → Reading) → Type 0
@@ -192,6 +194,41 @@ pub record ShutOutOfWindow (window : Answerer) : Type 0 where
   pub rounds-down : RoundsDown window → ⊥
   pub own-window-counts : OwnWindowCounts window → ⊥
 
+-- A writer keeps the promise of `write` (02, Five); it gives back the answer and the buffer. Shut out are one that refuses all, one that says 0 and leaves the buffer as
+-- it was, one that fills the buffer past the bytes with 0, one that asks for a byte more than is needed, and one that says with a refusal how many bytes it would have written.
+abbrev pub Writer : Type 0
+Writer = Table → List ℕ → Writing × List ℕ
+
+abbrev pub IsWriter : Writer → Type 0
+IsWriter write = (t : Table) (buffer : List ℕ) → CanWrite t buffer → table·write t buffer (write t buffer .0) (write t buffer .1)
+
+-- how many bytes a table has
+abbrev pub bytesNeeded : Table → ℕ
+bytesNeeded t = 7 + t .cores + 9 * t .n
+
+abbrev pub WritesNoTable : Writer → Type 0
+WritesNoTable write = (t : Table) (buffer : List ℕ) → CanWrite t buffer → write t buffer .0 .number ≡ 0 → ⊥
+
+abbrev pub WritesNothing : Writer → Type 0
+WritesNothing write = (t : Table) (buffer : List ℕ) → CanWrite t buffer → write t buffer .0 .number ≡ 0 → write t buffer .1 ≡ buffer
+
+abbrev pub PadsTheRest : Writer → Type 0
+PadsTheRest write =
+    (t : Table) (buffer : List ℕ) → CanWrite t buffer → write t buffer .0 .number ≡ 0 → (i : ℕ) → bytesNeeded t ≤ i → i < length buffer → getD (write t buffer .1) i 1 ≡ 0
+
+abbrev pub AsksForMore : Writer → Type 0
+AsksForMore write = (t : Table) (buffer : List ℕ) → CanWrite t buffer → length buffer ≡ bytesNeeded t → write t buffer .0 .number ≡ 0 → ⊥
+
+abbrev pub SaysWhatItWould : Writer → Type 0
+SaysWhatItWould write = (t : Table) (buffer : List ℕ) → CanWrite t buffer → write t buffer .0 .length ≡ bytesNeeded t
+
+pub record ShutOutOfWriting (write : Writer) : Type 0 where
+  pub writes-no-table : WritesNoTable write → ⊥
+  pub writes-nothing : WritesNothing write → ⊥
+  pub pads-the-rest : PadsTheRest write → ⊥
+  pub asks-for-more : AsksForMore write → ⊥
+  pub says-what-it-would : SaysWhatItWould write → ⊥
+
 -- A checker keeps the promise of `check`, and the board's trace check that of `zb_trace_check`.
 abbrev pub IsChecker : (List ℕ → List ℕ → Checked) → Type 0
 IsChecker check = (bytes s : List ℕ) → Bytes bytes → Bytes s → checker·check bytes s (check bytes s)
@@ -215,6 +252,7 @@ pub record ShutOut : Type 0 where
   pub dispatcher : (slot : Dispatcher) → IsDispatcher slot → ShutOutOf slot
   pub why : (explain : Explainer) → IsExplainer explain → ShutOutOfWhy explain
   pub window : (window : Answerer) → IsAnswerer window → ShutOutOfWindow window
+  pub writing : (write : Writer) → IsWriter write → ShutOutOfWriting write
   pub always-passes : (check : List ℕ → List ℕ → Checked) → IsChecker check → AlwaysPasses (numberChecked check) → ⊥
   pub never-passes : (check : List ℕ → List ℕ → Checked) → IsChecker check → NeverPasses (numberChecked check) → ⊥
   -- the same of what the board calls

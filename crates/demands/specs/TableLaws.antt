@@ -2,7 +2,7 @@
 use Prim.Native.Nat.{ℕ}
 use mathlib.Core.List.{List, [], _∷_, _++_}
 use lib.ListN.{take}
-use Rattle.demands.specs.RunPasses.{wordBytes}
+use Rattle.fields.specs.Fields.{bytesOf}
 use Rattle.demands.specs.Law.{Law, reads, has-sizes, has-row, has-board, allZero}
 use Rattle.demands.specs.LawInputs.{front, rowBytes, alikeRows, halfAndThirdBytes}
 
@@ -17,14 +17,14 @@ tableLaws =
     reads [] 10
     ∷ reads (1 ∷ 6 ∷ 0 ∷ 0 ∷ []) 10
     ∷ reads (1 ∷ 0 ∷ 0 ∷ 0 ∷ []) 10
-    ∷ reads (1 ∷ wordBytes 6) 10
-    ∷ reads (1 ∷ wordBytes 6 ++ (2 ∷ 0 ∷ [])) 10
+    ∷ reads (1 ∷ bytesOf 4 6) 10
+    ∷ reads (1 ∷ bytesOf 4 6 ++ (2 ∷ 0 ∷ [])) 10
     ∷ reads (front 6 (0 ∷ 1 ∷ [])) 10
     ∷ reads (take 26 halfAndThirdBytes) 10
     ∷ reads halfAndThirdBytes 0
     -- 11, "format is not 1"
-    ∷ reads (0 ∷ wordBytes 6 ++ (1 ∷ 0 ∷ 0 ∷ [])) 11
-    ∷ reads (2 ∷ wordBytes 6 ++ (1 ∷ 0 ∷ 0 ∷ [])) 11
+    ∷ reads (0 ∷ bytesOf 4 6 ++ (1 ∷ 0 ∷ 0 ∷ [])) 11
+    ∷ reads (2 ∷ bytesOf 4 6 ++ (1 ∷ 0 ∷ 0 ∷ [])) 11
     -- 12, "L outside 1 to 1,000,000"
     ∷ reads (front 0 (0 ∷ []) ++ (0 ∷ [])) 12
     ∷ reads (front 1 (0 ∷ []) ++ (0 ∷ [])) 0
@@ -35,7 +35,7 @@ tableLaws =
     ∷ reads (front 6 [] ++ (0 ∷ [])) 13
     ∷ reads (front 6 (0 ∷ 1 ∷ 2 ∷ 3 ∷ 4 ∷ 5 ∷ 6 ∷ 255 ∷ []) ++ (0 ∷ [])) 0
     ∷ reads (front 6 (0 ∷ 1 ∷ 2 ∷ 3 ∷ 4 ∷ 5 ∷ 6 ∷ 7 ∷ 8 ∷ []) ++ (0 ∷ [])) 13
-    ∷ reads (1 ∷ wordBytes 6 ++ (255 ∷ [])) 13
+    ∷ reads (1 ∷ bytesOf 4 6 ++ (255 ∷ [])) 13
     -- 14, "board numbers not rising"
     ∷ reads (front 6 (3 ∷ 3 ∷ []) ++ (0 ∷ [])) 14
     ∷ reads (front 6 (1 ∷ 3 ∷ 2 ∷ []) ++ (0 ∷ [])) 14

@@ -1,6 +1,6 @@
 -- The laws of what is found first. Assumes nothing.
 use Prim.Native.Nat.{ℕ, _≤_}
-use mathlib.Core.Path.{_≡_, refl, sym, subst, _∙_}
+use mathlib.Core.Path.{_≡_, refl, sym, ap, subst, _∙_}
 use mathlib.Core.List.{List, [], _∷_}
 use mathlib.Core.Bool.{Bool, true, false, cond, _&&_}
 use mathlib.Core.Logic.{_↔_, _⊎_, inl, inr}
@@ -87,6 +87,32 @@ first-behind (NoneFound.later c rest) first = FirstFound.later c (first-behind r
 pub decides : {A : Type 0} (otherwise : A) (a b : List (Finding A)) {x : A} → x ≡ firstFound otherwise a → (x ≡ otherwise → ⊥) →
     x ≡ firstFound otherwise (a then b)
 decides otherwise a b e other = sym (first-is-said otherwise (first-in-front b (said-is-first otherwise a other (sym e))))
+
+-- for lists that say the same, whatever is said where nothing is found
+
+pub record Alike {A : Type 0} (a b : List (Finding A)) : Type 0 where
+  pub same : (otherwise : A) → firstFound otherwise a ≡ firstFound otherwise b
+
+module _ {A : Type 0} where
+  -- A cause that is not there says nothing.
+  pub alike-without : {f : Finding A} {fs : List (Finding A)} → f .cause ≡ false → Alike (f ∷ fs) fs
+  unfolding firstFound
+  alike-without c = record { same = λ otherwise. rw c }
+
+  -- what is said by lists one after the other
+  in-turn : (otherwise : A) (a b : List (Finding A)) → firstFound otherwise (a then b) ≡ firstFound (firstFound otherwise b) a
+  unfolding firstFound
+  in-turn otherwise [] b = refl
+  in-turn otherwise (f ∷ a) b = ap (cond (f .cause) (f .answer)) (in-turn otherwise a b)
+
+  -- Joined lists say the same if the first do, and those after them where nothing is found before.
+  pub alike-in-turn : {a b c d : List (Finding A)} → Alike a b → (NoneFound b → Alike c d) → Alike (a then c) (b then d)
+  alike-in-turn {a} {b} {c} {d} same later =
+      record { same = λ otherwise. in-turn otherwise a c ∙ (same .same (firstFound otherwise c) ∙ go otherwise (none-or-first b)) }
+    where
+      go : (otherwise : A) → NoneFound b ⊎ ((x : A) × FirstFound b x) → firstFound (firstFound otherwise c) b ≡ firstFound otherwise (b then d)
+      go otherwise (inl none) = none-says-otherwise (firstFound otherwise c) none ∙ (later none .same otherwise ∙ sym (after-none otherwise d none))
+      go otherwise (inr one) = first-is-said (firstFound otherwise c) (one .1) ∙ sym (first-is-said otherwise (first-in-front d (one .1)))
 
 -- for lists that say only such things
 

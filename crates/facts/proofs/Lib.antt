@@ -8,6 +8,7 @@ pub mod Counting
 pub mod Some
 pub mod Listing
 pub mod Sums
+pub mod Below
 pub mod Findings
 pub mod Rising
 pub mod Filling
@@ -16,3 +17,5 @@ pub mod Places
 pub mod Loops
 pub mod Determined
 pub mod Lent
+pub mod Storing
+pub mod Joining

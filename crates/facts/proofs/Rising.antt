@@ -1,5 +1,5 @@
 -- The laws of tests of elements one after the other. Assumes nothing.
-use Prim.Native.Nat.{ℕ, zero, suc, _+_, _≤_, _<_}
+use Prim.Native.Nat.{ℕ, zero, suc, _+_, _*_, _≤_, _<_}
 use mathlib.Core.Path.{_≡_, refl, ap}
 use mathlib.Core.List.{List, [], _∷_, map}
 use native.Mathlib.Nat.{le-of-suc-le-suc, not-suc-le-zero}
@@ -7,7 +7,8 @@ use native.Mathlib.Omega.{arith}
 use lib.ListN.{length, getD}
 use Rattle.facts.specs.Findings.{Test, _then_, NoneFound}
 use Rattle.facts.specs.Rising.{rising}
-use Rattle.facts.proofs.Findings.{AllSay, none-joined, none-apart, all-joined}
+use Rattle.facts.specs.Places.{places}
+use Rattle.facts.proofs.Findings.{Alike, alike-in-turn, AllSay, none-joined, none-apart, all-joined}
 
 -- for callers
 
@@ -17,6 +18,16 @@ pub rising-as-read : {A : Type 0} (tests : ℕ → A → List Test) (above : A �
 unfolding rising
 rising-as-read tests above read least [] = refl
 rising-as-read tests above read least (i ∷ l) = ap (λ after. tests least (read i) then after) (rising-as-read tests above read (above (read i)) l)
+
+-- Tests at places say what tests of what is read there say, if those at each place do.
+pub tested-as-read : {A : Type 0} (tests : ℕ → ℕ → List Test) (after : ℕ → A → List Test) (above : A → ℕ) (read : ℕ → A) (step end : ℕ) →
+    ((least i : ℕ) → i + step ≤ end → Alike (tests least i) (after least (read i))) →
+    (least from n : ℕ) → from + step * n ≤ end →
+    Alike (rising tests (λ i. above (read i)) least (places from step n)) (rising after above least (map read (places from step n)))
+unfolding rising places
+tested-as-read tests after above read step end each least from zero h = record { same = λ otherwise. refl }
+tested-as-read tests after above read step end each least from (suc n) h =
+    alike-in-turn (each least from (omega arith)) (λ _. tested-as-read tests after above read step end each (above (read from)) (from + step) n (omega arith))
 
 module _ {A : Type 0} (tests : ℕ → A → List Test) (above : A → ℕ) where
   -- Tests of elements say only such numbers if those of each element do.

@@ -3,6 +3,7 @@ pub mod Zero
 pub mod First
 pub mod Counting
 pub mod Sums
+pub mod Below
 pub mod Findings
 pub mod Rising
 pub mod Places

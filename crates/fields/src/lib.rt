@@ -1,6 +1,8 @@
-// Fields in bytes, little-endian. A byte past the end counts as 0, so every place may be asked for.
+// Fields in bytes, little-endian. A byte past the end counts as 0 and is not written, so every place may be asked for.
 ghost use mathlib.Core.Path.{_≡_};
-ghost use Rattle.fields.specs.Fields.{byte, half, word};
+ghost use Prim.Native.Nat.{min};
+ghost use lib.Seq.{sets};
+ghost use Rattle.fields.specs.Fields.{byte, half, word, bytesOf};
 
 // The byte at place `at`.
 pub fn byte(s: &[u8], at: usize) -> u8
@@ -31,4 +33,27 @@ pub fn word(s: &[u8], at: usize) -> u32
     let low = half(s, at) as u32;
     let high = half(s, at + 2) as u32;
     low + 65536 * high
+}
+
+// Writes a number into so many bytes from place `at` on: those that are inside.
+pub fn put(s: &mut [u8], at: usize, width: usize, number: u64)
+    ensures { λ _. ⌜ now (s .exit) ≡ sets (now (s .entry)) at (bytesOf width number) ⌝ }
+{
+    if s.len() <= at {
+        return;
+    }
+    let inside = least(width, s.len() - at);
+    let mut left = number;
+    let mut i: usize = 0;
+    while i < inside {
+        s[at + i] = (left % 256) as u8;
+        left /= 256;
+        i += 1;
+    }
+}
+
+fn least(a: usize, b: usize) -> usize
+    ensures { λ r. ⌜ r ≡ min a b ⌝ }
+{
+    if a < b { a } else { b }
 }

@@ -92,6 +92,26 @@ pub(crate) fn fault(request: &[u8]) -> usize
     303
 }
 
+// P: a table value (302), the length (4) of the buffer, and its bytes: the buffer is lent where it stands in the input. The answer is the number, how many
+// bytes were written (8), and the buffer.
+pub(crate) fn write_table(request: &mut [u8]) -> usize
+    ensures { λ r. ⌜ r ≤ length (now (request .entry)) ⌝ }
+{
+    let length = fields::word(request, 303) as usize;
+    let end = 307 + length;
+    if request.len() < end {
+        return 0;
+    }
+    let value = read::table(request, 1);
+    let writing = table::write(value, &mut request[307..end]);
+    let mut out = [0u8; 9];
+    let next = put::byte(&mut out, 0, writing.number);
+    put::long(&mut out, next, writing.length as u64);
+    io::write_all(STDOUT_FILENO, &out);
+    io::write_all(STDOUT_FILENO, &request[307..end]);
+    end
+}
+
 // S: a state (584), k (1), the place (8), the length (4) of the buffer, and its bytes. k means the first k cores.
 pub(crate) fn slot(request: &mut [u8]) -> usize
     ensures { λ r. ⌜ r ≤ length (now (request .entry)) ⌝ }

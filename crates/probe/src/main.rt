@@ -58,6 +58,7 @@ fn answer(requests: &mut [u8]) -> usize
         b'G' => answers::window_by_walk(requests),
         b'T' => answers::table(requests),
         b'V' => answers::fault(requests),
+        b'P' => answers::write_table(requests),
         b'S' => answers::slot(requests),
         b'K' => answers::slot_on_set(requests),
         b'Y' => answers::reason(requests),

@@ -7,7 +7,7 @@ pub(crate) fn byte(out: &mut [u8], at: usize, n: u8) -> usize
     requires { ⌜ at < length (now out) ⌝ }
     ensures { λ r. ⌜ r ≡ at + 1 ⌝ }
 {
-    out[at] = n;
+    fields::put(out, at, 1, n as u64);
     at + 1
 }
 
@@ -15,22 +15,22 @@ pub(crate) fn half(out: &mut [u8], at: usize, n: u16) -> usize
     requires { ⌜ at + 2 ≤ length (now out) ⌝ }
     ensures { λ r. ⌜ r ≡ at + 2 ⌝ }
 {
-    let next = byte(out, at, (n % 256) as u8);
-    byte(out, next, (n / 256) as u8)
+    fields::put(out, at, 2, n as u64);
+    at + 2
 }
 
 pub(crate) fn word(out: &mut [u8], at: usize, n: u32) -> usize
     requires { ⌜ at + 4 ≤ length (now out) ⌝ }
     ensures { λ r. ⌜ r ≡ at + 4 ⌝ }
 {
-    let next = half(out, at, (n % 65_536) as u16);
-    half(out, next, (n / 65_536) as u16)
+    fields::put(out, at, 4, n as u64);
+    at + 4
 }
 
 pub(crate) fn long(out: &mut [u8], at: usize, n: u64) -> usize
     requires { ⌜ at + 8 ≤ length (now out) ⌝ }
     ensures { λ r. ⌜ r ≡ at + 8 ⌝ }
 {
-    let next = word(out, at, (n % 4_294_967_296) as u32);
-    word(out, next, (n / 4_294_967_296) as u32)
+    fields::put(out, at, 8, n);
+    at + 8
 }

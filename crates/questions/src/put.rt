@@ -24,13 +24,7 @@ pub(crate) fn out(answer: [u8; LONGEST], length: usize)
 pub(crate) fn number(answer: &mut [u8; LONGEST], at: usize, bytes: usize, number: u64)
     requires { ⌜ at + bytes ≤ 584 ⌝ }
 {
-    let mut rest = number;
-    let mut i: usize = 0;
-    while i < bytes {
-        answer[at + i] = (rest % 256) as u8;
-        rest /= 256;
-        i += 1;
-    }
+    fields::put(answer, at, bytes, number);
 }
 
 pub(crate) fn state(answer: &mut [u8; LONGEST], state: State) {

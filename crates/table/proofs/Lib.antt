@@ -5,3 +5,8 @@ pub mod Bytes
 pub mod Answers
 pub mod Taken
 pub mod Faultless
+pub mod Fits
+pub mod Spelled
+pub mod Parts
+pub mod Written
+pub mod RoundTrip

@@ -10,7 +10,7 @@ use Rattle.fields.specs.Fields.{byte}
 use Rattle.table.specs.declared.Row.{Row}
 use Rattle.table.specs.declared.Table.{Table}
 use Rattle.table.specs.Causes.{boardTests, boardAbove, rowTests, tankAbove}
-use Rattle.table.specs.Value.{boardsOf, rowsOf, sizeTests, boardsTests, rowCountTests, rowsTests, sumTests, faultOf}
+use Rattle.table.specs.Value.{boardsOf, rowsOf, sizeTests, boardsTests, rowCountTests, rowsTests, sumTests, valueTests, faultOf}
 use Rattle.table.specs.Bytes.{cycleIn, boardPlaces, rowPlaces, rowInBytes, boardTestsIn, rowTestsIn, headTests, boardsTestsIn, rowCountTestsIn, rowsTestsIn, lastTests, tableTests, tableNumber}
 
 -- a number of a table's refusal
@@ -33,19 +33,21 @@ module _ (t : Table) where
   pub boards-say : AllSay Number (boardsTests t)
   boards-say = rising-say boardTests boardAbove (λ least board. in-range 10 22 (boardTests least board) refl) 0 (boardsOf t)
 
-  -- and its rows,
+  -- its rows,
   pub rows-say : AllSay Number (rowsTests t)
   rows-say = rising-say (rowTests (t .cycle)) tankAbove (row-says (t .cycle)) 0 (rowsOf t)
+
+  -- and the whole,
+  pub value-says : AllSay Number (valueTests t)
+  value-says =
+      all-joined (in-range 10 22 (sizeTests t) refl)
+      (all-joined boards-say (all-joined (in-range 10 22 (rowCountTests t) refl) (all-joined rows-say (in-range 10 22 (sumTests t) refl))))
 
   -- so where it has no fault, no part of it has;
   pub none-in-value : faultOf t ≡ 0 →
       NoneFound (sizeTests t) × NoneFound (boardsTests t) × NoneFound (rowCountTests t) × NoneFound (rowsTests t) × NoneFound (sumTests t)
   unfolding faultOf
-  none-in-value h =
-      none-in-five (sizeTests t) (boardsTests t) (rowCountTests t) (rowsTests t)
-      (none-met
-      (all-joined (in-range 10 22 (sizeTests t) refl)
-      (all-joined boards-say (all-joined (in-range 10 22 (rowCountTests t) refl) (all-joined rows-say (in-range 10 22 (sumTests t) refl))))) h)
+  none-in-value h = none-in-five (sizeTests t) (boardsTests t) (rowCountTests t) (rowsTests t) (none-met value-says h)
 
 -- and those of a table in bytes:
 module _ (s : List ℕ) where

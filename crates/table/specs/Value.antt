@@ -31,5 +31,8 @@ rowsTests t = rising (rowTests (t .cycle)) tankAbove 0 (rowsOf t)
 abbrev pub sumTests : Table → List Test
 sumTests t = sumTest (t .cores) (t .cycle) (rowsOf t) ∷ []
 
+abbrev pub valueTests : Table → List Test
+valueTests t = sizeTests t then boardsTests t then rowCountTests t then rowsTests t then sumTests t
+
 unfoldable pub faultOf : Table → ℕ
-faultOf t = firstFound 0 (sizeTests t then boardsTests t then rowCountTests t then rowsTests t then sumTests t)
+faultOf t = firstFound 0 (valueTests t)

@@ -1,7 +1,8 @@
-// Job tables: the reader, and the fault of a table value.
+// Job tables: the reader, the fault of a table value, and the writer.
 mod boards;
 mod head;
 mod rows;
+mod spelling;
 
 ghost use mathlib.Core.Path.{_≡_};
 ghost use Prim.Native.Nat.{_*_};
@@ -9,6 +10,7 @@ ghost use lib.Dec.{ltb};
 ghost use Rattle.table.specs.Value.{faultOf};
 ghost use Rattle.table.specs.Bytes.{reading};
 ghost use Rattle.table.specs.Parts.{refusedWith};
+ghost use Rattle.table.specs.Writing.{writing, bufferAfter};
 
 pub struct Row {
     pub tank: u16,
@@ -30,6 +32,12 @@ pub struct Table {
 pub struct Reading {
     pub number: u8,
     pub table: Table,
+}
+
+// What writing answers: 0 and how many bytes were written, or the number of the first fault met and 0.
+pub struct Writing {
+    pub number: u8,
+    pub length: usize,
 }
 
 const ROW_LIMIT: u8 = 32;
@@ -141,6 +149,28 @@ pub fn fault(table: Table) -> u8
         return 22;
     }
     0
+}
+
+// Writes the bytes of a table to the front of the buffer, or answers the number of the first fault met. The value may be wild.
+pub fn write(table: Table, buffer: &mut [u8]) -> Writing
+    ensures { λ r. ⌜ r ≡ writing table (now (buffer .entry)) ⌝ }
+    ensures { λ _. ⌜ now (buffer .exit) ≡ bufferAfter table (now (buffer .entry)) ⌝ }
+{
+    let number = fault(table);
+    if number != 0 {
+        return Writing { number, length: 0 };
+    }
+    let m = table.cores as usize;
+    let n = table.n as usize;
+    let length = 7 + m + 9 * n;
+    if buffer.len() < length {
+        return Writing {
+            number: 37,
+            length: 0,
+        };
+    }
+    spelling::put(buffer, table);
+    Writing { number: 0, length }
 }
 
 // A refusal: its number, and a table of zeros.

@@ -22,14 +22,7 @@ impl<const FRESH: bool> Kind for Case<FRESH> {
     };
 
     fn wild(random: &mut Random) -> Self {
-        let mut table = match random.below(12) {
-            0 => unfit(random),
-            _ => damage::draft(random).value(),
-        };
-        if random.one_in(2) {
-            fill(random, &mut table);
-        }
-        Case(table)
+        Case(any(random))
     }
 
     fn asked(&mut self, to: &mut Message) {
@@ -50,12 +43,29 @@ impl<const FRESH: bool> Kind for Case<FRESH> {
             return tally.saw("fault", fault);
         }
         tally.saw("fault of the value", fault);
-        let past = &self.0.rows[self.0.named_rows().len()..];
-        if !past.is_empty() {
-            let zero = past.iter().all(|row| *row == Row::zero());
-            tally.saw_each("past n, all places", [zero, !zero]);
-        }
+        count_past(&self.0, "past n, all places", tally);
     }
+}
+
+/// Whether all that stands past n is 0.
+pub fn count_past(table: &Table, title: &'static str, tally: &mut Tally) {
+    let past = &table.rows[table.named_rows().len()..];
+    if !past.is_empty() {
+        let zero = past.iter().all(|row| *row == Row::zero());
+        tally.saw_each(title, [zero, !zero]);
+    }
+}
+
+/// Any table value; what stands past n and M is often not 0.
+pub fn any(random: &mut Random) -> Table {
+    let mut table = match random.below(12) {
+        0 => unfit(random),
+        _ => damage::draft(random).value(),
+    };
+    if random.one_in(2) {
+        fill(random, &mut table);
+    }
+    table
 }
 
 /// Nothing in it fits anything else.

@@ -2,6 +2,7 @@
 
 use crate::kind::*;
 use crate::make::marks::{self, marked, marks, Marks};
+use crate::make::room;
 use second::questions::write;
 
 #[derive(Clone)]
@@ -22,14 +23,7 @@ impl Kind for Case {
 
     fn wild(random: &mut Random) -> Case {
         let marks = marks(random);
-        let exact = 2 + marked(&marks);
-        let length = match random.below(8) {
-            0 => 0,
-            1 => random.below(exact),
-            2 => exact - 1,
-            3 | 4 => exact,
-            _ => exact + random.between(1, 9),
-        };
+        let length = room::length(random, 2 + marked(&marks));
         let (small, any) = (random.below(9) as u8, random.byte());
         Case {
             k: random.pick(&[small, small, 9, 255, any]),
@@ -53,15 +47,8 @@ impl Kind for Case {
 
     fn count(&self, answer: &[u8], tally: &mut Tally) {
         tally.saw("number", answer[0]);
-        let (exact, length) = (2 + marked(&self.marks), self.part.len());
-        let room = match length {
-            0 => "none",
-            _ if length + 1 == exact => "one byte less",
-            _ if length < exact => "too little",
-            _ if length == exact => "exact",
-            _ => "more",
-        };
-        tally.saw("room", room);
+        let exact = 2 + marked(&self.marks);
+        tally.saw("room", room::name(self.part.len(), exact));
         tally.saw_each("k", [self.k <= 8, self.k > 8]);
         let title = match answer[0] {
             0 => "written, marked",

@@ -1,15 +1,17 @@
-//! A real-time dispatcher after the paper "Exact scope and rules", called 01 below, and after four
+//! A real-time dispatcher after the paper "Exact scope and rules", called 01 below, and after five
 //! requests of the paper "More requests from customers": "A core for each picked row", called
-//! 02, One, "Why did tank 14 wait?", called 02, Two, "Half is heavy", called 02, Three, and "The
-//! long walk", called 02, Four. Where One and Three change 01, they are followed; Two asks of the
-//! slot that is about to run and changes nothing; Four finds the group deadline by a formula and
-//! changes no answer.
+//! 02, One, "Why did tank 14 wait?", called 02, Two, "Half is heavy", called 02, Three, "The long
+//! walk", called 02, Four, and "Writing tables", called 02, Five. Where One and Three change 01,
+//! they are followed; Two asks of the slot that is about to run and changes nothing; Four finds the
+//! group deadline by a formula and changes no answer; Five writes the tables that 01 reads and
+//! changes nothing else.
 //!
-//! One module for each part of 01, and one for each of One and Two; the papers' words stand in the
-//! comments beside the code that follows them, and their numbers stand in the code as they are
-//! written there.
+//! One module for each part of 01, and one for each of One, Two and Five; the papers' words stand
+//! in the comments beside the code that follows them, and their numbers stand in the code as they
+//! are written there.
 //!
 //! * `table`: the table, in bytes, and the faults of a table value.
+//! * `writing`: a table value written into a lent buffer (02, Five).
 //! * `windows`: start, deadline, bit and group deadline of a subtask, the last by the formula of
 //!   02, Four, and by 01's walk.
 //! * `share`: the exact share of a row.
@@ -30,10 +32,10 @@
 //! place. The first five are those of 01's "Slips we have made", the next three are of the kind
 //! that is off by one. The next show at the ends of what may be asked alone: a number cut to
 //! fewer bytes, a limit that lets one too many or too few pass, a kind or a place that is not
-//! looked at. The next four are of 02, One, the next three of 02, Two, and the last two of
+//! looked at. The next four are of 02, One, the next three of 02, Two, and the next two of
 //! 02, Four: the first of these shows in `windows::window` and in the order, where D is found by
 //! the formula, the other in `windows::window_by_walk` and `questions::next_window`, where it is
-//! found by the walk.
+//! found by the walk. The last three are of 02, Five, and show in `writing::write_table` alone.
 //!
 //! | name | place | the mistake |
 //! |---|---|---|
@@ -61,6 +63,9 @@
 //! | `row_before_cores` | `why::refusal` | 36 is tested before 33 |
 //! | `phase_counted_twice` | `windows::group_deadline` | the formula's d counted from time 0 |
 //! | `walk_stops_before_d` | `windows::walked_group_deadline` | a 3-slot window ends its own walk |
+//! | `room_before_sum` | `writing::refusal` | 37 is tested before 22 |
+//! | `room_one_more` | `writing::too_short` | a buffer just as long as the bytes is refused |
+//! | `written_with_37` | `writing::write_table` | a buffer that is too short is written full |
 
 // compilers that know the lint warn of a cfg name they were not told of; older ones do not know
 // the lint
@@ -78,3 +83,4 @@ pub mod table;
 pub mod trace;
 pub mod why;
 pub mod windows;
+pub mod writing;

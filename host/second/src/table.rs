@@ -232,7 +232,8 @@ pub fn read(bytes: &[u8]) -> Result<Table, u8> {
 
 // ---- writing bytes ----
 
-/// The bytes a table value is read from, unjudged. (A wild M is cut at 8, a wild n at 32.)
+/// The bytes a table value is read from, unjudged. (A wild M is cut at 8, a wild n at 32.) Judged,
+/// and in a lent buffer, they are written by `writing::write_table`.
 pub fn write(table: &Table) -> Vec<u8> {
     let mut bytes = vec![1];
     bytes.extend_from_slice(&table.cycle.to_le_bytes());

@@ -1,0 +1,46 @@
+-- When a table is written, and what the buffer then holds (02, Five).
+use Prim.Native.Nat.{ℕ, _+_, _*_, _≤_, _<_}
+use mathlib.Core.Path.{_≡_}
+use mathlib.Core.List.{List}
+use mathlib.Core.Logic.{_↔_, _⊎_}
+use lib.ListN.{length, getD}
+use Rattle.facts.specs.Findings.{FirstFound}
+use Rattle.table.specs.declared.Table.{Table}
+use Rattle.table.specs.Fits.{CanHold}
+use Rattle.table.specs.Value.{faultOf}
+use Rattle.table.specs.Faultless.{Faultless}
+use Rattle.table.specs.Writing.{writeTests, writing, bufferAfter}
+
+-- Each number is answered exactly when its cause is the first met; `writeTests` has all the causes.
+abbrev pub WriteNumbersAreFirstCauses : Type 0
+WriteNumbersAreFirstCauses = (t : Table) (buffer : List ℕ) (k : ℕ) → (k ≡ 0 → ⊥) → (writing t buffer .number ≡ k) ↔ FirstFound (writeTests t buffer) k
+
+-- "Refusals: 12 to 20 .., 22, then 37": no others, and so none of 10, 11 and 21.
+abbrev pub WriteNumbers : Type 0
+WriteNumbers =
+    (t : Table) (buffer : List ℕ) →
+    let number = writing t buffer .number in
+    (number ≡ 0) ⊎ ((12 ≤ number) × (number ≤ 20)) ⊎ (number ≡ 22) ⊎ (number ≡ 37)
+
+-- The same said without the tests: a table as 01 describes it is written exactly if the buffer has its 7 + M + 9n bytes, and is answered 37 exactly if it has not.
+-- Of any other value the fault is answered, whatever the buffer has.
+pub record WriteExactly (t : Table) (buffer : List ℕ) (number : ℕ) : Type 0 where
+  pub is-0 : (number ≡ 0) ↔ (Faultless t × (7 + t .cores + 9 * t .n ≤ length buffer))
+  pub is-37 : (number ≡ 37) ↔ (Faultless t × (length buffer < 7 + t .cores + 9 * t .n))
+  pub fault : (Faultless t → ⊥) → number ≡ faultOf t
+
+abbrev pub WrittenExactly : Type 0
+WrittenExactly = (t : Table) (buffer : List ℕ) → CanHold t → WriteExactly t buffer (writing t buffer .number)
+
+-- How many bytes are written is said.
+abbrev pub LengthIsSaid : Type 0
+LengthIsSaid = (t : Table) (buffer : List ℕ) → CanHold t → writing t buffer .number ≡ 0 → writing t buffer .length ≡ 7 + t .cores + 9 * t .n
+
+-- "the buffer past them stays as it was": past the length that is said, which with a refusal is 0, so that then the whole buffer does.
+pub record Stays (t : Table) (buffer : List ℕ) : Type 0 where
+  pub long : length (bufferAfter t buffer) ≡ length buffer
+  pub past : (i d : ℕ) → writing t buffer .length ≤ i → getD (bufferAfter t buffer) i d ≡ getD buffer i d
+  pub refused : (writing t buffer .number ≡ 0 → ⊥) → (writing t buffer .length ≡ 0) × (bufferAfter t buffer ≡ buffer)
+
+abbrev pub PastStays : Type 0
+PastStays = (t : Table) (buffer : List ℕ) → Stays t buffer
