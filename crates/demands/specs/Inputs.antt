@@ -9,7 +9,7 @@ use lib.ListN.{length}
 use Rattle.facts.specs.Below.{allBelow}
 use Rattle.counts.specs.declared.Subtask.{Subtask}
 use Rattle.table.specs.declared.Table.{Table}
-use Rattle.table.specs.Fits.{tableFits, CanHold}
+use Rattle.table.specs.Fits.{tableFits, CanBeHeld}
 use Rattle.cores.specs.Sets.{firstCores}
 use Rattle.dispatcher.specs.declared.State.{State}
 use Rattle.dispatcher.specs.State.{quantaIn, timeOf}
@@ -43,5 +43,5 @@ pub record CanAsk (s : State) (k row : ℕ) : Type 0 where
 
 -- A table can be written so: a value as its types allow it, into a slice of bytes.
 pub record CanWrite (t : Table) (buffer : List ℕ) : Type 0 where
-  pub table : CanHold t
+  pub table : CanBeHeld t
   pub bytes : Bytes buffer

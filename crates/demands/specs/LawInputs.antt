@@ -9,7 +9,6 @@ use Rattle.fields.specs.Fields.{bytesOf}
 use Rattle.table.specs.declared.Row.{Row}
 use Rattle.table.specs.declared.Table.{Table}
 use Rattle.table.specs.Limits.{rowLimit}
-use Rattle.table.specs.Writing.{bytesOfRow}
 use Rattle.trace.specs.Records.{names}
 use Rattle.cores.specs.declared.Placement.{Placement}
 use Rattle.cores.specs.Sets.{setLimit}
@@ -23,7 +22,7 @@ front cycle boards = 1 ∷ bytesOf 4 cycle ++ (length boards ∷ boards)
 
 -- a row in its nine bytes: tank, e, p, f, kind
 abbrev pub rowBytes : ℕ → ℕ → ℕ → ℕ → ℕ → List ℕ
-rowBytes tank e p f kind = bytesOfRow (record { tank = tank; cost = e; period = p; phase = f; kind = kind })
+rowBytes tank e p f kind = bytesOf 2 tank ++ (bytesOf 2 e ++ (bytesOf 2 p ++ (bytesOf 2 f ++ (kind ∷ []))))
 
 -- n rows 1/p, with tanks rising one by one from the given tank on
 unfoldable pub alikeRows : ℕ → ℕ → ℕ → List ℕ

@@ -141,5 +141,5 @@ pub record DemandOne : Type 0 where
   pub slots : Slots
   pub checks : Checks
   pub records : Records
-  -- "A refusal hands back the state as it came and writes no byte": a slot's. (The record writer's is `no-room`, the printer's `too-short` of specs/Meanings.antt.)
+  -- "A refusal hands back the state as it came and writes no byte": a slot's. (The record writer's is `no-room`, the printer's `too-short` of specs/Meanings.antt, the table writer's `past-stays` of specs/WritingTables.antt.)
   pub hands-back : RefusalChangesNothing

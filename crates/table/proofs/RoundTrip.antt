@@ -23,7 +23,7 @@ use Rattle.table.specs.Limits.{coreLimit, rowLimit}
 use Rattle.table.specs.Causes.{zeroRow, boardTests, boardAbove, rowTests, tankAbove}
 use Rattle.table.specs.Value.{boardsOf, rowsOf, sizeTests, boardsTests, rowCountTests, rowsTests, sumTests, faultOf}
 use Rattle.table.specs.Bytes.{cycleIn, coresIn, rowCountIn, rowsPlace, rowPlaces, rowInBytes, boardTestsIn, rowTestsIn, headTests, boardsTestsIn, rowCountTestsIn, rowsTestsIn, lastTests, tableNumber, tableIn, reading}
-use Rattle.table.specs.Fits.{rowFits, CanHold}
+use Rattle.table.specs.Fits.{rowFits, CanBeHeld}
 use Rattle.table.specs.Writing.{bytesOfRow, bytesOfTable, writing, bufferAfter}
 use Rattle.table.specs.RoundTrip.{ReadsBack, WrittenReadsBack, ReadIsWrittenBack, ReaderSaysTheSame}
 use Rattle.table.proofs.Numbers.{none-in-value}
@@ -34,7 +34,7 @@ use Rattle.table.proofs.Spelled.{row-is-nine, table-is-long, byte-is-re
 use Rattle.table.proofs.Written.{done-if-fits, written-if-done}
 
 -- The bytes of a value, part by part: each is read as the value has it, and so tested as the value is.
-module _ (t : Table) (can : CanHold t) where
+module _ (t : Table) (can : CanBeHeld t) where
   abbrev s : List ℕ
   s = bytesOfTable t
 
@@ -169,7 +169,7 @@ reader-says-the-same t can =
     (λ _. last-same t can sizes count)))) .same 0
 
 -- Where there is none, the table that is read is the value below n and M.
-reads-back : (t : Table) → CanHold t → faultOf t ≡ 0 → ReadsBack t (bytesOfTable t)
+reads-back : (t : Table) → CanBeHeld t → faultOf t ≡ 0 → ReadsBack t (bytesOfTable t)
 reads-back t can none =
     let s = bytesOfTable t in
     let each = none-in-value t none in

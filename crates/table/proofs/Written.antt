@@ -24,7 +24,7 @@ use Rattle.table.specs.declared.Writing.{Writing}
 use Rattle.table.specs.Limits.{coreLimit, rowLimit}
 use Rattle.table.specs.Causes.{boardTests, boardAbove, rowTests, tankAbove}
 use Rattle.table.specs.Value.{boardsOf, rowsOf, valueTests, faultOf}
-use Rattle.table.specs.Fits.{CanHold}
+use Rattle.table.specs.Fits.{CanBeHeld}
 use Rattle.table.specs.Writing.{bytesOfTable, writeTests, writeNumber, writing, bufferAfter}
 use Rattle.table.specs.Written.{WriteNumbersAreFirstCauses, WriteNumbers, WriteExactly, WrittenExactly, LengthIsSaid, Stays, PastStays}
 use Rattle.table.proofs.Numbers.{value-says, none-met}
@@ -179,7 +179,7 @@ write-numbers t buffer = otherwise-or-such 0 all
         (AllSay.next (inr (inr refl)) AllSay.end)
 
 -- The answer said without the tests.
-module _ (t : Table) (can : CanHold t) where
+module _ (t : Table) (can : CanBeHeld t) where
   needed : faultOf t ≡ 0 → length (bytesOfTable t) ≡ 7 + t .cores + 9 * t .n
   needed none = let sizes = sizes-are-within t none in bytes-needed t (can .boards) (can .rows) (sizes .1 .1) (sizes .2)
 

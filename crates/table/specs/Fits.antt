@@ -22,7 +22,7 @@ rowsFit (row ∷ rows) = rowFits row && rowsFit rows
 abbrev pub tableFits : Table → Bool
 tableFits t = ltb (t .cycle) (2 ^ 32) && allBelow 256 (t .cores ∷ t .n ∷ t .boards) && rowsFit (t .rows)
 
-pub record CanHold (t : Table) : Type 0 where
+pub record CanBeHeld (t : Table) : Type 0 where
   pub numbers : tableFits t ≡ true
   pub boards : length (t .boards) ≡ coreLimit
   pub rows : length (t .rows) ≡ rowLimit

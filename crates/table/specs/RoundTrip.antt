@@ -6,7 +6,7 @@ use mathlib.Core.Bool.{true}
 use lib.ListN.{length, take, drop}
 use Rattle.facts.specs.Below.{allBelow}
 use Rattle.table.specs.declared.Table.{Table}
-use Rattle.table.specs.Fits.{CanHold}
+use Rattle.table.specs.Fits.{CanBeHeld}
 use Rattle.table.specs.Value.{boardsOf, rowsOf, faultOf}
 use Rattle.table.specs.Bytes.{tableNumber, reading}
 use Rattle.table.specs.Writing.{bytesOfTable, writing, bufferAfter}
@@ -26,7 +26,7 @@ pub record ReadsBack (t : Table) (written : List ℕ) : Type 0 where
 
 abbrev pub WrittenReadsBack : Type 0
 WrittenReadsBack =
-    (t : Table) (buffer : List ℕ) → CanHold t → writing t buffer .number ≡ 0 → ReadsBack t (take (writing t buffer .length) (bufferAfter t buffer))
+    (t : Table) (buffer : List ℕ) → CanBeHeld t → writing t buffer .number ≡ 0 → ReadsBack t (take (writing t buffer .length) (bufferAfter t buffer))
 
 -- "what reads back and is written gives the same bytes": into every buffer that has room for them
 pub record WritesBack (s buffer : List ℕ) : Type 0 where
@@ -38,4 +38,4 @@ ReadIsWrittenBack = (s buffer : List ℕ) → allBelow 256 s ≡ true → readin
 
 -- "a table that the reader would refuse is refused with that number": what the reader answers to the value's own bytes is the fault of the value.
 abbrev pub ReaderSaysTheSame : Type 0
-ReaderSaysTheSame = (t : Table) → CanHold t → tableNumber (bytesOfTable t) ≡ faultOf t
+ReaderSaysTheSame = (t : Table) → CanBeHeld t → tableNumber (bytesOfTable t) ≡ faultOf t

@@ -6,7 +6,7 @@ use mathlib.Core.Logic.{_↔_, _⊎_}
 use lib.ListN.{length, getD}
 use Rattle.facts.specs.Findings.{FirstFound}
 use Rattle.table.specs.declared.Table.{Table}
-use Rattle.table.specs.Fits.{CanHold}
+use Rattle.table.specs.Fits.{CanBeHeld}
 use Rattle.table.specs.Value.{faultOf}
 use Rattle.table.specs.Faultless.{Faultless}
 use Rattle.table.specs.Writing.{writeTests, writing, bufferAfter}
@@ -30,11 +30,11 @@ pub record WriteExactly (t : Table) (buffer : List ℕ) (number : ℕ) : Type 0 
   pub fault : (Faultless t → ⊥) → number ≡ faultOf t
 
 abbrev pub WrittenExactly : Type 0
-WrittenExactly = (t : Table) (buffer : List ℕ) → CanHold t → WriteExactly t buffer (writing t buffer .number)
+WrittenExactly = (t : Table) (buffer : List ℕ) → CanBeHeld t → WriteExactly t buffer (writing t buffer .number)
 
 -- How many bytes are written is said.
 abbrev pub LengthIsSaid : Type 0
-LengthIsSaid = (t : Table) (buffer : List ℕ) → CanHold t → writing t buffer .number ≡ 0 → writing t buffer .length ≡ 7 + t .cores + 9 * t .n
+LengthIsSaid = (t : Table) (buffer : List ℕ) → CanBeHeld t → writing t buffer .number ≡ 0 → writing t buffer .length ≡ 7 + t .cores + 9 * t .n
 
 -- "the buffer past them stays as it was": past the length that is said, which with a refusal is 0, so that then the whole buffer does.
 pub record Stays (t : Table) (buffer : List ℕ) : Type 0 where

@@ -23,7 +23,8 @@ returns c =
     let third = c .before .before in
     let second = third .before .before .before .before in
     let first = second .before .before .before .before in
-    head-stored _ _ _ (first .put .ensures) (second .put2 .ensures) (third .put3 .ensures)
+    let args = first .before .before .before .args in
+    head-stored (args .buffer .now) (args .cycle) (args .cores) (first .put .ensures) (second .put2 .ensures) (third .put3 .ensures)
 
 pub put-head-spec : {M : Type 1} → statement M
 put-head-spec = tie.close (tie.spec put-requires put-requires-2 put-requires-3 same-length returns)

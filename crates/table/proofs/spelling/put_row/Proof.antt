@@ -58,7 +58,8 @@ returns c =
     let period = phase .before .before .before .before .before in
     let cost = period .before .before .before .before .before in
     let tank = cost .before .before .before .before .before in
-    row-stored _ _ _ (tank .put .ensures) (cost .put2 .ensures) (period .put3 .ensures) (phase .put4 .ensures) (kind .put5 .ensures)
+    let args = tank .before .before .before .before .args in
+    row-stored (args .buffer .now) (args .at) (args .row) (tank .put .ensures) (cost .put2 .ensures) (period .put3 .ensures) (phase .put4 .ensures) (kind .put5 .ensures)
 
 pub put-row-spec : {M : Type 1} → statement M
 put-row-spec =
