@@ -48,7 +48,7 @@ kinds! {
                  window::Case<true>:           "windows by the walk",          PROBE,          40_000;
     mod table,   Lent<table::Tables, false>:   "tables",                       PROBE,          10_000;
     mod value,   value::Case<false>:           "table values",                 PROBE,          5_000;
-    mod writing, writing::Case:                "tables written",               PROBE,          10_000;
+    mod table_write, table_write::Case:        "tables written",               PROBE,          10_000;
     mod slot,    slot::Case<u8>:               "slots",                        PROBE,          20_000;
     mod cores,   cores::Case:                  "slots with a set of cores",    PROBE,          20_000;
     mod why,     why::Case:                    "why rows wait",                PROBE,          20_000;

@@ -161,7 +161,7 @@ def field(name: str, cell: str, line: int) -> int:
     """The number in a cell of a row; of a kind also its word."""
     if name == "kind" and not re.fullmatch("[0-9]+", cell):
         if cell.lower() not in KINDS:
-            raise Fault(f"{quoted(cell)} is neither plain nor early release, nor a number", line, name)
+            raise Fault(f"{quoted(cell)} is neither plain nor early release, nor a whole number written in digits", line, name)
         return KINDS[cell.lower()]
     return fitting(cell, MOST[name], line, name)
 

@@ -7,7 +7,7 @@ TEXT is CSV, in UTF-8 or UTF-16; FILE is a table, byte for byte, or as hex text 
 show, may be -, standard input; the FILE of write may be -, standard output. docs/TABLES.md is the planner's page.
 
 Whether a table is taken, and with which number it is refused, is what the proved writer and the proved reader answer through the probe: no rule of
-01 stands here. The writer is also asked where a fault lies (`refusal`).
+01 stands here, but the sum of the load, which is only shown. The writer is also asked where a fault lies (`refusal`).
 
 Exit status: 0 if it is done; 1 if the table is refused or the text has an error; 2 if the program could not do its work, for its arguments, the
 files or the probe. With 1 and 2 no file has been written, and one that was there is as it was.
@@ -229,8 +229,9 @@ def write(name: str, file: str, probe: Probe) -> None:
         raise Trouble(f"{name} and {file} are one file, and the text in it would be lost")
     typed = table_text.read(read_start(name))
     table = written(typed, probe)
+    said = f"{words.counted(len(table), 'byte')}; {load(typed.plan)}"
     save(file, hex_text(table, typed.plan).encode() if file.endswith(".hex") else table)
-    tell(f"{words.counted(len(table), 'byte')}; {load(typed.plan)}")
+    tell(said)
 
 
 def show(name: str, probe: Probe) -> None:

@@ -188,7 +188,7 @@ class TextFaults(FaultCase):
 
     def test_kinds(self) -> None:
         for cell in ["early bird", "plane", "-1", "1.0"]:
-            self.assert_faults(f"{HEAD}1,1,2,0,{cell}\n", f"line 3, kind: {cell!r} is neither plain nor early release, nor a number")
+            self.assert_faults(f"{HEAD}1,1,2,0,{cell}\n", f"line 3, kind: {cell!r} is neither plain nor early release, nor a whole number written in digits")
 
     def test_lines_above_the_rows(self) -> None:
         for text, words in [

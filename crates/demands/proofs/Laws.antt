@@ -74,7 +74,7 @@ unfolding ceilDiv atFirst howMany those firstFound rising places padded start de
 value-laws = refl
 
 write-laws : allLawsHold writeLaws ≡ true
-unfolding flatMap firstFound rising load bytesOf bytesOfRow bytesOfTable writeNumber writing bufferAfter same allLawsHold
+unfolding flatMap firstFound rising places load bytesOf bytesOfRow bytesOfTable writeNumber writing bufferAfter same allLawsHold alikeRows
 write-laws = refl
 
 slot-laws : allLawsHold slotLaws ≡ true

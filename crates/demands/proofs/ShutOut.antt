@@ -122,16 +122,16 @@ computed =
       remembered0 = refl;
       cores-swapped = refl;
       said-swapped = refl;
-      can-swapped = record { boards = refl; rows = refl; quanta = refl; table = refl; counts = refl; last-rows = refl; last-cores = refl; remembered = refl; marks = refl; bytes = refl };
+      can-swapped = record { table = record { numbers = refl; boards = refl; rows = refl }; quanta = refl; counts = refl; last-rows = refl; last-cores = refl; remembered = refl; marks = refl; bytes = refl };
       lowest-two = refl;
       passes = refl;
       late = refl;
       bytes = refl;
       trace-bytes = refl;
       late-bytes = refl;
-      can0 = record { boards = refl; rows = refl; quanta = refl; table = refl; counts = refl; last-rows = refl; last-cores = refl; remembered = refl; marks = refl; bytes = refl };
-      can1 = record { boards = refl; rows = refl; quanta = refl; table = refl; counts = refl; last-rows = refl; last-cores = refl; remembered = refl; marks = refl; bytes = refl };
-      can-again = record { boards = refl; rows = refl; quanta = refl; table = refl; counts = refl; last-rows = refl; last-cores = refl; remembered = refl; marks = refl; bytes = refl };
+      can0 = record { table = record { numbers = refl; boards = refl; rows = refl }; quanta = refl; counts = refl; last-rows = refl; last-cores = refl; remembered = refl; marks = refl; bytes = refl };
+      can1 = record { table = record { numbers = refl; boards = refl; rows = refl }; quanta = refl; counts = refl; last-rows = refl; last-cores = refl; remembered = refl; marks = refl; bytes = refl };
+      can-again = record { table = record { numbers = refl; boards = refl; rows = refl }; quanta = refl; counts = refl; last-rows = refl; last-cores = refl; remembered = refl; marks = refl; bytes = refl };
     }
 
 -- A dispatcher answers and writes in the example's slots 0 and 1 what the definition says.
@@ -219,13 +219,13 @@ why-computed : WhyComputed
 unfolding allBelow rowsFit ceilDiv atFirst howMany those firstFound rising places padded start deadline bit windowLength jobStart heavy stops stopTime groupDeadline load faultOf tableNumber reading ready late lower upper before picked names misremembers broken ruleFor lowestPicked readyFrom reasonOf whyOf
 why-computed =
     record {
-      can-ask = record { state = record { boards = refl; rows = refl; quanta = refl; table = refl; counts = refl; last-rows = refl; last-cores = refl; remembered = refl; marks = refl; bytes = refl }; numbers = refl };
+      can-ask = record { state = record { table = record { numbers = refl; boards = refl; rows = refl }; quanta = refl; counts = refl; last-rows = refl; last-cores = refl; remembered = refl; marks = refl; bytes = refl }; numbers = refl };
       third = refl;
       first-picked = refl;
       behind-first = refl;
-      can-ask-heavy = record { state = record { boards = refl; rows = refl; quanta = refl; table = refl; counts = refl; last-rows = refl; last-cores = refl; remembered = refl; marks = refl; bytes = refl }; numbers = refl };
+      can-ask-heavy = record { state = record { table = record { numbers = refl; boards = refl; rows = refl }; quanta = refl; counts = refl; last-rows = refl; last-cores = refl; remembered = refl; marks = refl; bytes = refl }; numbers = refl };
       heavy-first = refl;
-      can-ask-later = record { state = record { boards = refl; rows = refl; quanta = refl; table = refl; counts = refl; last-rows = refl; last-cores = refl; remembered = refl; marks = refl; bytes = refl }; numbers = refl };
+      can-ask-later = record { state = record { table = record { numbers = refl; boards = refl; rows = refl }; quanta = refl; counts = refl; last-rows = refl; last-cores = refl; remembered = refl; marks = refl; bytes = refl }; numbers = refl };
       later = refl;
     }
 
@@ -304,7 +304,7 @@ record Wrote : Type 0 where
   can-36 : CanWrite (tableIn example) (lent 36)
   said-36 : writing (tableIn example) (lent 36) .number ≡ 0
   can-35 : CanWrite (tableIn example) (lent 35)
-  said-35 : writing (tableIn example) (lent 35) .length ≡ 0
+  said-35 : writing (tableIn example) (lent 35) ≡ record { number = 37; length = 0 }
 
 wrote : Wrote
 unfolding allBelow rowsFit flatMap firstFound rising places padded load bytesOf bytesOfRow bytesOfTable writeNumber writing bufferAfter
@@ -336,7 +336,8 @@ shut-out-of-writing write is =
           omega arith;
       asks-for-more = λ h. h t (lent 36) (wrote .can-36) refl (ap (λ x. x .number) (is t (lent 36) (wrote .can-36) .0) ∙ wrote .said-36);
       says-what-it-would = λ h.
-          let z : _≡_ {A = ℕ} 0 36 = sym (ap (λ x. x .length) (is t (lent 35) (wrote .can-35) .0) ∙ wrote .said-35) ∙ h t (lent 35) (wrote .can-35) in
+          let said = is t (lent 35) (wrote .can-35) .0 ∙ wrote .said-35 in
+          let z : _≡_ {A = ℕ} 0 36 = sym (ap (λ x. x .length) said) ∙ h t (lent 35) (wrote .can-35) (ap (λ x. x .number) said) in
           omega arith;
     }
 

@@ -5,11 +5,11 @@ use Rattle.facts.specs.Findings.{firstFound}
 use Rattle.facts.specs.Rising.{rising}
 use Rattle.facts.specs.Places.{places, padded}
 use Rattle.fields.specs.Fields.{bytesOf}
-use Rattle.fields.proofs.Numbers.{written-is-read, read-is-written}
+use Rattle.fields.proofs.Numbers.{written-is-read, read-is-written, widths-two-and-four}
 use Rattle.table.specs.Causes.{load}
 use Rattle.table.specs.Writing.{bytesOfRow, bytesOfTable, writeNumber, writing, bufferAfter}
 use Rattle.table.proofs.Written.{write-numbers, write-numbers-are-first-causes, written-exactly, length-is-said, past-stays}
-use Rattle.table.proofs.RoundTrip.{written-reads-back, read-is-written-back, reader-says-the-same}
+use Rattle.table.proofs.RoundTrip.{written-reads-back, read-is-written-back, refused-as-the-reader-would, reader-says-the-same}
 use Rattle.demands.specs.WritingTables.{WritingTables}
 
 pub writing-tables : WritingTables
@@ -19,14 +19,16 @@ writing-tables =
       reads-back = written-reads-back;
       gives-same-bytes = read-is-written-back;
       past-stays = past-stays;
-      as-the-reader = reader-says-the-same;
+      as-the-reader = refused-as-the-reader-would;
+      reader-says-the-same = reader-says-the-same;
       numbers = write-numbers;
       refused = write-numbers-are-first-causes;
       exactly = written-exactly;
       length = length-is-said;
-      example-fits = refl;
-      example-written = refl;
-      example-too-long = refl;
+      in-36 = (refl, refl);
+      in-40 = (refl, refl);
+      in-35 = (refl, refl);
       number-is-read = written-is-read;
       number-is-written = read-is-written;
+      widths = widths-two-and-four;
     }

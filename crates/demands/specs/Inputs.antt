@@ -9,7 +9,7 @@ use lib.ListN.{length}
 use Rattle.facts.specs.Below.{allBelow}
 use Rattle.counts.specs.declared.Subtask.{Subtask}
 use Rattle.table.specs.declared.Table.{Table}
-use Rattle.table.specs.Fits.{tableFits, CanBeHeld}
+use Rattle.table.specs.Fits.{CanBeHeld}
 use Rattle.cores.specs.Sets.{firstCores}
 use Rattle.dispatcher.specs.declared.State.{State}
 use Rattle.dispatcher.specs.State.{quantaIn, timeOf}
@@ -25,10 +25,8 @@ CanAskWindow e p f i = allBelow 65_536 (e ∷ p ∷ f ∷ []) && ltb (i .0) (2 ^
 -- A slot can be asked so: the state holds 8 board numbers, 32 rows, 32 quanta, and a memory of 8 places in bytes; time, quanta and place are numbers of 64
 -- bits, and a set has 32 marks.
 pub record Possible (s : State) (free : List Bool) (buffer : List ℕ) (place : ℕ) : Type 0 where
-  pub boards : length (s .table .boards) ≡ 8
-  pub rows : length (s .table .rows) ≡ 32
+  pub table : CanBeHeld (s .table)
   pub quanta : length (s .quanta) ≡ 32
-  pub table : tableFits (s .table) ≡ true
   pub counts : allBelow (2 ^ 64) (place ∷ timeOf s ∷ quantaIn s) ≡ true
   pub last-rows : length (s .last .rows) ≡ 8
   pub last-cores : length (s .last .cores) ≡ 8

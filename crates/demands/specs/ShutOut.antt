@@ -195,7 +195,7 @@ pub record ShutOutOfWindow (window : Answerer) : Type 0 where
   pub own-window-counts : OwnWindowCounts window → ⊥
 
 -- A writer keeps the promise of `write` (02, Five); it gives back the answer and the buffer. Shut out are one that refuses all, one that says 0 and leaves the buffer as
--- it was, one that fills the buffer past the bytes with 0, one that asks for a byte more than is needed, and one that says with a refusal how many bytes it would have written.
+-- it was, one that fills the buffer past the bytes with 0, one that asks for a byte more than is needed, and one that says with 37 how many bytes it would have written.
 abbrev pub Writer : Type 0
 Writer = Table → List ℕ → Writing × List ℕ
 
@@ -220,7 +220,7 @@ abbrev pub AsksForMore : Writer → Type 0
 AsksForMore write = (t : Table) (buffer : List ℕ) → CanWrite t buffer → length buffer ≡ bytesNeeded t → write t buffer .0 .number ≡ 0 → ⊥
 
 abbrev pub SaysWhatItWould : Writer → Type 0
-SaysWhatItWould write = (t : Table) (buffer : List ℕ) → CanWrite t buffer → write t buffer .0 .length ≡ bytesNeeded t
+SaysWhatItWould write = (t : Table) (buffer : List ℕ) → CanWrite t buffer → write t buffer .0 .number ≡ 37 → write t buffer .0 .length ≡ bytesNeeded t
 
 pub record ShutOutOfWriting (write : Writer) : Type 0 where
   pub writes-no-table : WritesNoTable write → ⊥

@@ -1,10 +1,16 @@
 -- Laws of writing tables (02, Five): part of specs/Laws.antt.
-use mathlib.Core.List.{List, [], _∷_, _++_}
+use mathlib.Core.List.{List, [], _∷_, _++_, map}
 use lib.ListN.{replicate}
+use Rattle.facts.specs.Places.{places}
+use Rattle.table.specs.declared.Table.{Table}
 use Rattle.table.specs.Causes.{zeroRow}
 use Rattle.demands.specs.Bench.{plainRow, box}
 use Rattle.demands.specs.Law.{Law, writes, noSuchRow}
-use Rattle.demands.specs.LawInputs.{halfAndThird, halfAndThirdBytes}
+use Rattle.demands.specs.LawInputs.{front, alikeRows, halfAndThird, halfAndThirdBytes}
+
+-- 8 cores and 32 rows 1/64
+abbrev pub fullBox : Table
+fullBox = box 64 8 (map (λ tank. plainRow tank 1 64) (places 0 1 32))
 
 -- a value, the bytes of the buffer; then the number, how many bytes are written, and what the buffer holds
 abbrev pub writeLaws : List Law
@@ -20,9 +26,11 @@ writeLaws =
     ∷ writes (box 0 2 []) 0 12 0 []
     ∷ writes (box 1_000_001 2 []) 0 12 0 []
     ∷ writes (box 4_294_967_295 2 []) 9 12 0 (replicate 9 99)
+    ∷ writes (box 0 0 []) 0 12 0 []
     ∷ writes (box 6 0 []) 0 13 0 []
     ∷ writes (box 6 9 []) 0 13 0 []
     ∷ writes (box 6 255 []) 0 13 0 []
+    ∷ writes (record { cycle = 6; cores = 9; boards = replicate 8 0; n = 0; rows = replicate 32 zeroRow }) 0 13 0 []
     ∷ writes (record { cycle = 6; cores = 2; boards = 4 ∷ 4 ∷ 0 ∷ 0 ∷ 0 ∷ 0 ∷ 0 ∷ 0 ∷ []; n = 33; rows = replicate 32 zeroRow }) 0 14 0 []
     ∷ writes (record { cycle = 6; cores = 2; boards = 4 ∷ 5 ∷ 0 ∷ 0 ∷ 0 ∷ 0 ∷ 0 ∷ 0 ∷ []; n = 33; rows = replicate 32 zeroRow }) 0 15 0 []
     ∷ writes (box 6 2 (plainRow 7 1 3 ∷ plainRow 7 0 3 ∷ [])) 0 16 0 []
@@ -32,6 +40,9 @@ writeLaws =
     ∷ writes (box 6 1 (plainRow 0 2 3 ∷ record { tank = 1; cost = 1; period = 2; phase = 0; kind = 2 } ∷ [])) 0 20 0 []
     ∷ writes (box 6 1 (plainRow 0 2 3 ∷ plainRow 1 1 2 ∷ [])) 0 22 0 []
     ∷ writes (box 6 1 (plainRow 0 2 3 ∷ plainRow 1 1 2 ∷ [])) 30 22 0 (replicate 30 99)
+    -- the most bytes
+    ∷ writes fullBox 303 0 303 (front 64 (0 ∷ 1 ∷ 2 ∷ 3 ∷ 4 ∷ 5 ∷ 6 ∷ 7 ∷ []) ++ (32 ∷ alikeRows 64 0 32))
+    ∷ writes fullBox 302 37 0 (replicate 302 99)
     -- the fewest bytes, and what stands past M and n: it is neither judged nor written
     ∷ writes (record { cycle = 1; cores = 1; boards = 255 ∷ 7 ∷ 7 ∷ 7 ∷ 7 ∷ 7 ∷ 7 ∷ 7 ∷ []; n = 0; rows = replicate 32 noSuchRow }) 9 0 8
     (1 ∷ 1 ∷ 0 ∷ 0 ∷ 0 ∷ 1 ∷ 255 ∷ 0 ∷ 99 ∷ [])

@@ -1,16 +1,14 @@
 -- Numbers in bytes, of any width. Assumes nothing.
-use Prim.Native.Nat.{ℕ, zero, suc, _+_, _*_, _/_, _%_, _^_, _≤_, _<_}
+use Prim.Native.Nat.{ℕ, zero, suc, _+_, _*_, _/_, _%_, _^_, _<_}
 use mathlib.Core.Path.{_≡_, refl, sym, ap, _∙_, subst}
-use mathlib.Core.List.{List, [], _∷_, _++_}
-use mathlib.Core.Bool.{true}
-use native.Mathlib.Nat.{pow-suc, mod-add-div, mod-lt, div-lt-iff-lt-mul, div-add-mod', div-eq-of-lt-le}
+use mathlib.Core.List.{[], _∷_, _++_}
+use native.Mathlib.Nat.{pow-suc, mod-add-div, div-lt-iff-lt-mul, div-add-mod', div-eq-of-lt-le}
 use native.Mathlib.Numerals.{add-one}
 use native.Mathlib.Omega.{arith}
 use lib.ListN.{length, take, drop, length-append}
 use lib.Seq.{append-snoc, getD-append-seam, drop-cons}
-use Rattle.facts.specs.Below.{allBelow}
 use Rattle.facts.proofs.Below.{each-below}
-use Rattle.fields.specs.Fields.{byte, half, word, bytesOf, numberAt}
+use Rattle.fields.specs.Fields.{byte, bytesOf, numberAt}
 use Rattle.fields.specs.Numbers.{WrittenIsRead, ReadIsWritten, WidthsTwoAndFour}
 
 -- for callers

@@ -35,7 +35,8 @@ pub fn word(s: &[u8], at: usize) -> u32
     low + 65536 * high
 }
 
-// Writes a number into so many bytes from place `at` on: those that are inside.
+// Writes a number into so many bytes from place `at` on. Of the number what does not fit into them is left out, and of the bytes those past the end; where
+// they are more than the number needs, the others are 0.
 pub fn put(s: &mut [u8], at: usize, width: usize, number: u64)
     ensures { λ _. ⌜ now (s .exit) ≡ sets (now (s .entry)) at (bytesOf width number) ⌝ }
 {

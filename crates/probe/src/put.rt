@@ -1,4 +1,4 @@
-// Numbers put into a lent answer. Each function writes from a place on, and says the place behind.
+// Numbers put into a lent answer. Each function writes from a place on, and says the place behind. Each asks for room, so that no byte of an answer is lost.
 ghost use mathlib.Core.Path.{_≡_};
 ghost use Prim.Native.Nat.{_+_, _≤_, _<_};
 ghost use lib.ListN.{length};

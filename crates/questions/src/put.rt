@@ -20,7 +20,7 @@ pub(crate) fn out(answer: [u8; LONGEST], length: usize)
     io::write_all(STDOUT_FILENO, &answer[..length]);
 }
 
-// The lowest bytes of a number, little-endian, from place `at` on.
+// The lowest bytes of a number, little-endian, from place `at` on. It asks for room, so that none of them is lost.
 pub(crate) fn number(answer: &mut [u8; LONGEST], at: usize, bytes: usize, number: u64)
     requires { ⌜ at + bytes ≤ 584 ⌝ }
 {

@@ -6,7 +6,7 @@ use mathlib.Core.Bool.{true}
 use native.Mathlib.Nat.{mod-eq-of-lt}
 use native.Mathlib.Omega.{arith}
 use borrow.Author.Tests.{le-ltb, ltb-false}
-use lib.ListN.{length, getD, take, drop, length-append}
+use lib.ListN.{length, getD, drop, length-append}
 use lib.Seq.{getD-take, length-take-le, take-append-seam}
 use Rattle.facts.specs.Findings.{firstFound, NoneFound}
 use Rattle.facts.specs.Rising.{rising}
@@ -15,23 +15,22 @@ use Rattle.facts.proofs.Findings.{Alike, alike-without, alike-in-turn}
 use Rattle.facts.proofs.Rising.{tested-as-read}
 use Rattle.facts.proofs.Places.{first-are-read}
 use Rattle.facts.proofs.Joining.{joined-long, joined-are-read}
-use Rattle.fields.specs.Fields.{byte, word, bytesOf}
+use Rattle.fields.specs.Fields.{byte, bytesOf}
 use Rattle.fields.proofs.Numbers.{bytes-long, written-is-read, widths-two-and-four}
-use Rattle.table.specs.declared.Row.{Row}
 use Rattle.table.specs.declared.Table.{Table}
 use Rattle.table.specs.Limits.{coreLimit, rowLimit}
 use Rattle.table.specs.Causes.{zeroRow, boardTests, boardAbove, rowTests, tankAbove}
 use Rattle.table.specs.Value.{boardsOf, rowsOf, sizeTests, boardsTests, rowCountTests, rowsTests, sumTests, faultOf}
 use Rattle.table.specs.Bytes.{cycleIn, coresIn, rowCountIn, rowsPlace, rowPlaces, rowInBytes, boardTestsIn, rowTestsIn, headTests, boardsTestsIn, rowCountTestsIn, rowsTestsIn, lastTests, tableNumber, tableIn, reading}
 use Rattle.table.specs.Fits.{rowFits, CanBeHeld}
-use Rattle.table.specs.Writing.{bytesOfRow, bytesOfTable, writing, bufferAfter}
-use Rattle.table.specs.RoundTrip.{ReadsBack, WrittenReadsBack, ReadIsWrittenBack, ReaderSaysTheSame}
+use Rattle.table.specs.Writing.{bytesOfRow, bytesOfTable}
+use Rattle.table.specs.RoundTrip.{ReadsBack, WrittenReadsBack, ReadIsWrittenBack, RefusedAsTheReaderWould, ReaderSaysTheSame}
 use Rattle.table.proofs.Numbers.{none-in-value}
 use Rattle.table.proofs.Value.{not-outside}
 use Rattle.table.proofs.Taken.{number-read, table-read, taken-value-has-no-fault}
 use Rattle.table.proofs.Fits.{TableNumbers, table-numbers}
 use Rattle.table.proofs.Spelled.{row-is-nine, table-is-long, byte-is-read, row-is-read, table-is-written}
-use Rattle.table.proofs.Written.{done-if-fits, written-if-done}
+use Rattle.table.proofs.Written.{number-is-fault, done-if-fits, written-if-done}
 
 -- The bytes of a value, part by part: each is read as the value has it, and so tested as the value is.
 module _ (t : Table) (can : CanBeHeld t) where
@@ -167,6 +166,12 @@ reader-says-the-same t can =
     (λ _. alike-in-turn (count-same t can sizes)
     (λ count. alike-in-turn (rows-same t can sizes count)
     (λ _. last-same t can sizes count)))) .same 0
+
+-- So a value that the reader would refuse is refused with that number.
+pub refused-as-the-reader-would : RefusedAsTheReaderWould
+refused-as-the-reader-would t buffer can refused =
+    let same = reader-says-the-same t can in
+    sym (number-is-fault t buffer same refused)
 
 -- Where there is none, the table that is read is the value below n and M.
 reads-back : (t : Table) → CanBeHeld t → faultOf t ≡ 0 → ReadsBack t (bytesOfTable t)

@@ -1,16 +1,16 @@
 -- Fields, rows and whole tables in bytes: each is read as it was written, and written as it was read. Assumes nothing.
 use Prim.Native.Nat.{ℕ, _+_, _*_, _/_, _%_, _≤_, _<_}
 use mathlib.Core.Path.{_≡_, refl, sym, ap, _∙_}
-use mathlib.Core.List.{List, [], _∷_, _++_, flatMap, append-nil}
+use mathlib.Core.List.{List, [], _++_, flatMap}
 use mathlib.Core.Bool.{true}
 use native.Mathlib.Nat.{mod-eq-of-lt}
 use native.Mathlib.Omega.{arith}
-use lib.ListN.{length, getD, take, drop, length-append}
+use lib.ListN.{length, take, drop, length-append}
 use lib.Seq.{getD-append-add, take-length}
 use Rattle.facts.specs.Below.{allBelow}
 use Rattle.facts.proofs.Joining.{parts-joined, joined-long, joined-are-written}
 use Rattle.facts.proofs.Places.{first-are-read}
-use Rattle.fields.specs.Fields.{byte, half, word, bytesOf, numberAt}
+use Rattle.fields.specs.Fields.{byte, half, bytesOf, numberAt}
 use Rattle.fields.proofs.Numbers.{bytes-long, written-is-read, read-is-written, widths-two-and-four}
 use Rattle.table.specs.declared.Row.{Row}
 use Rattle.table.specs.declared.Table.{Table}

@@ -1,23 +1,19 @@
 -- When a table is written, and what the buffer then holds. Assumes nothing.
-use Prim.Native.Nat.{ℕ, zero, suc, _+_, _-_, _*_, _≤_, _<_}
+use Prim.Native.Nat.{ℕ, _+_, _-_, _*_, _≤_, _<_}
 use mathlib.Core.Path.{_≡_, refl, sym, ap, _∙_}
-use mathlib.Core.List.{List, [], _∷_, _++_}
-use mathlib.Core.Logic.{_↔_, _⊎_, inl, inr}
-use mathlib.Core.Bool.{true, false}
+use mathlib.Core.List.{List, _++_}
+use mathlib.Core.Logic.{_⊎_, inl, inr}
 use native.Mathlib.Decide.{ℕ-discrete, decLt}
 use native.Mathlib.Omega.{arith}
-use borrow.Author.Tests.{lt-ltb, le-ltb, ltb-false, ltb-true}
-use lib.Dec.{ltb}
-use lib.ListN.{length, getD, take, drop}
+use borrow.Author.Tests.{lt-ltb, le-ltb}
+use lib.ListN.{length, getD, drop}
 use lib.Seq.{sets, sets-eq, length-sets, length-take-le, getD-append-add, getD-drop}
 use Rattle.facts.specs.Zero.{if0}
 use Rattle.facts.specs.Findings.{firstFound, FirstFound, NoneFound}
 use Rattle.facts.specs.Determined.{Determined}
 use Rattle.facts.proofs.Zero.{if0-other}
-use Rattle.facts.proofs.Determined.{by-value}
-use Rattle.facts.proofs.Findings.{AllSay, all-joined, said-exactly, otherwise-or-such, none-exactly, none-joined, none-apart, none-says-otherwise, first-is-said, first-behind, decides}
+use Rattle.facts.proofs.Findings.{AllSay, all-joined, said-exactly, otherwise-or-such, none-joined, none-says-otherwise, first-is-said, first-behind, decides}
 use Rattle.facts.proofs.Rising.{rising-say}
-use Rattle.fields.specs.Fields.{shorter}
 use Rattle.table.specs.declared.Row.{Row}
 use Rattle.table.specs.declared.Table.{Table}
 use Rattle.table.specs.declared.Writing.{Writing}
@@ -26,7 +22,7 @@ use Rattle.table.specs.Causes.{boardTests, boardAbove, rowTests, tankAbo
 use Rattle.table.specs.Value.{boardsOf, rowsOf, valueTests, faultOf}
 use Rattle.table.specs.Fits.{CanBeHeld}
 use Rattle.table.specs.Writing.{bytesOfTable, writeTests, writeNumber, writing, bufferAfter}
-use Rattle.table.specs.Written.{WriteNumbersAreFirstCauses, WriteNumbers, WriteExactly, WrittenExactly, LengthIsSaid, Stays, PastStays}
+use Rattle.table.specs.Written.{WriteNumbersAreFirstCauses, WriteNumbers, WrittenExactly, LengthIsSaid, Stays, PastStays}
 use Rattle.table.proofs.Numbers.{value-says, none-met}
 use Rattle.table.proofs.Taken.{sizes-are-within}
 use Rattle.table.proofs.Faultless.{faultless-exactly}
@@ -50,6 +46,10 @@ module _ (t : Table) (buffer : List ℕ) where
   number-by-fault : {k : ℕ} → k ≡ faultOf t → (k ≡ 0 → ⊥) → k ≡ writeNumber t buffer
   unfolding writeNumber faultOf
   number-by-fault e f = decides 0 (valueTests t) _ e f
+
+  pub number-is-fault : {k : ℕ} → k ≡ faultOf t → (k ≡ 0 → ⊥) → k ≡ writing t buffer .number
+  unfolding writing
+  number-is-fault e f = number-by-fault e f
 
   module _ (none : faultOf t ≡ 0) where
     value-passes : NoneFound (valueTests t)

@@ -36,6 +36,11 @@ pub record WritesBack (s buffer : List ℕ) : Type 0 where
 abbrev pub ReadIsWrittenBack : Type 0
 ReadIsWrittenBack = (s buffer : List ℕ) → allBelow 256 s ≡ true → reading s .number ≡ 0 → length s ≤ length buffer → WritesBack s buffer
 
--- "a table that the reader would refuse is refused with that number": what the reader answers to the value's own bytes is the fault of the value.
+-- "a table that the reader would refuse is refused with that number": what the reader would read are the value's own bytes.
+abbrev pub RefusedAsTheReaderWould : Type 0
+RefusedAsTheReaderWould =
+    (t : Table) (buffer : List ℕ) → CanBeHeld t → (tableNumber (bytesOfTable t) ≡ 0 → ⊥) → writing t buffer .number ≡ tableNumber (bytesOfTable t)
+
+-- Of any value, what the reader answers to its bytes is its fault.
 abbrev pub ReaderSaysTheSame : Type 0
 ReaderSaysTheSame = (t : Table) → CanBeHeld t → tableNumber (bytesOfTable t) ≡ faultOf t

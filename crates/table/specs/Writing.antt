@@ -36,7 +36,7 @@ writeTests t buffer = valueTests t then (shorter buffer (length (bytesOfTable t)
 unfoldable pub writeNumber : Table → List ℕ → ℕ
 writeNumber t buffer = firstFound 0 (writeTests t buffer)
 
--- What is answered: 0 and how many bytes were written, or a refusal. "In any refused answer each part that no rule names is 0" (01).
+-- What is answered: 0 and how many bytes were written, or a refusal. "In any refused answer each part that no rule names is 0 or empty." (01)
 abbrev pub writingOf : ℕ → ℕ → Writing
 writingOf number many = record { number = number; length = if0 number many 0 }
 

@@ -22,7 +22,7 @@ WriteNumbers =
     let number = writing t buffer .number in
     (number ≡ 0) ⊎ ((12 ≤ number) × (number ≤ 20)) ⊎ (number ≡ 22) ⊎ (number ≡ 37)
 
--- The same said without the tests: a table as 01 describes it is written exactly if the buffer has its 7 + M + 9n bytes, and is answered 37 exactly if it has not.
+-- 0 and 37 said without the tests: a table as 01 describes it is written exactly if the buffer has its 7 + M + 9n bytes, and is answered 37 exactly if it has not.
 -- Of any other value the fault is answered, whatever the buffer has.
 pub record WriteExactly (t : Table) (buffer : List ℕ) (number : ℕ) : Type 0 where
   pub is-0 : (number ≡ 0) ↔ (Faultless t × (7 + t .cores + 9 * t .n ≤ length buffer))

@@ -162,6 +162,7 @@ pub fn write(table: Table, buffer: &mut [u8]) -> Writing
     }
     let m = table.cores as usize;
     let n = table.n as usize;
+    // Format and cycle have 1 + 4 bytes, the cores 1 + M, the rows 1 + 9n.
     let length = 7 + m + 9 * n;
     if buffer.len() < length {
         return Writing {

@@ -1,4 +1,5 @@
-// Writing a table: one part behind the other, from the front of the lent buffer on.
+// Writing a table: one part behind the other, from the front of the lent buffer on. No function asks for room: what would stand past the end is not
+// written, and `write` has seen that there is room for all. Places are bounded, so that no sum of them can overflow.
 use crate::Row;
 use crate::Table;
 ghost use mathlib.Core.Path.{_≡_};

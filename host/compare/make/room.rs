@@ -13,7 +13,7 @@ pub fn length(random: &mut Random, exact: usize) -> usize {
     }
 }
 
-/// How a buffer of this length is called.
+/// What a buffer of this length is called.
 pub fn name(length: usize, exact: usize) -> &'static str {
     match length {
         0 => "none",

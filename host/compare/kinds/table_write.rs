@@ -16,7 +16,7 @@ impl Kind for Case {
     const GROUPS: &'static [Group] = &[
         "number (1 in 200): 0 | 12..20 | 22 | 37",
         "of a value with a fault, room (1 in 50): none | too little | one byte less | exact | more",
-        "of a value without, room (1 in 50): none | too little | one byte less | exact | more",
+        "of a value without a fault, room (1 in 50): none | too little | one byte less | exact | more",
         "written, M (1 in 500): 1..8",
         "written, n (1 in 2500): 0..32",
         "written, past n (1 in 20): 0 | not 0",
@@ -44,7 +44,7 @@ impl Kind for Case {
     fn count(&self, answer: &[u8], tally: &mut Tally) {
         tally.saw("number", answer[0]);
         let title = match fault(&self.table) {
-            0 => "of a value without, room",
+            0 => "of a value without a fault, room",
             _ => "of a value with a fault, room",
         };
         tally.saw(title, room::name(self.buffer.len(), needed(&self.table)));
