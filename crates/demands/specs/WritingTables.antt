@@ -14,7 +14,7 @@ use Rattle.table.specs.RoundTrip.{WrittenReadsBack, ReadIsWrittenBack, RefusedA
 -- Written into so many bytes, all 238, 01's table is answered so, and leaves the buffer so.
 abbrev pub Leaves : ℕ → Writing → List ℕ → Type 0
 Leaves bytes said after =
-    let buffer = replicate bytes 238 in
+    let buffer : List ℕ = replicate bytes 238 in
     (writing (tableIn example) buffer ≡ said) × (bufferAfter (tableIn example) buffer ≡ after)
 
 pub record WritingTables : Type 0 where
