@@ -38,7 +38,7 @@ pub record EveryPromiseDetermines : Type 0 where
   pub fields-byte : (s : List ℕ) (at : ℕ) → Determined (fields·byte s at)
   pub fields-half : (s : List ℕ) (at : ℕ) → Determined (fields·half s at)
   pub fields-word : (s : List ℕ) (at : ℕ) → Determined (fields·word s at)
-  pub fields-put : (s : List ℕ) (at width number : ℕ) → Determined (fields·put s at width number)
+  pub fields-put : (s : List ℕ) (at width number : ℕ) → Determined {R = ℕ × List ℕ} (λ r. fields·put s at width number (r .0) (r .1))
   pub windows-window : (e p f : ℕ) (i : Subtask) → Determined (windows·window e p f i)
   pub windows-window-by-walk : (e p f : ℕ) (i : Subtask) → Determined (windows·window-by-walk e p f i)
   pub windows-next-due : (e p : ℕ) (origin : Slot) (given : Quanta) → Determined (windows·next-due e p origin given)

@@ -129,8 +129,8 @@ abbrev pub fields·word : List ℕ → ℕ → ℕ → Type 0
 fields·word s at r = r ≡ word s at
 
 -- fields::put
-abbrev pub fields·put : List ℕ → ℕ → ℕ → ℕ → List ℕ → Type 0
-fields·put s at width number s-after = s-after ≡ sets s at (bytesOf width number)
+abbrev pub fields·put : List ℕ → ℕ → ℕ → ℕ → ℕ → List ℕ → Type 0
+fields·put s at width number r s-after = (r ≡ min width (length s - at)) × (s-after ≡ sets s at (bytesOf width number))
 
 -- windows::window
 abbrev pub windows·window : ℕ → ℕ → ℕ → Subtask → Window → Type 0

@@ -1,6 +1,7 @@
 // Fields in bytes, little-endian. A byte past the end counts as 0 and is not written, so every place may be asked for.
 ghost use mathlib.Core.Path.{_≡_};
-ghost use Prim.Native.Nat.{min};
+ghost use Prim.Native.Nat.{_-_, min};
+ghost use lib.ListN.{length};
 ghost use lib.Seq.{sets};
 ghost use Rattle.fields.specs.Fields.{byte, half, word, bytesOf};
 
@@ -36,12 +37,13 @@ pub fn word(s: &[u8], at: usize) -> u32
 }
 
 // Writes a number into so many bytes from place `at` on. Of the number what does not fit into them is left out, and of the bytes those past the end; where
-// they are more than the number needs, the others are 0.
-pub fn put(s: &mut [u8], at: usize, width: usize, number: u64)
+// they are more than the number needs, the others are 0. Says how many bytes were written.
+pub fn put(s: &mut [u8], at: usize, width: usize, number: u64) -> usize
+    ensures { λ r. ⌜ r ≡ min width (length (now (s .entry)) - at) ⌝ }
     ensures { λ _. ⌜ now (s .exit) ≡ sets (now (s .entry)) at (bytesOf width number) ⌝ }
 {
     if s.len() <= at {
-        return;
+        return 0;
     }
     let inside = least(width, s.len() - at);
     let mut left = number;
@@ -51,6 +53,7 @@ pub fn put(s: &mut [u8], at: usize, width: usize, number: u64)
         left /= 256;
         i += 1;
     }
+    inside
 }
 
 fn least(a: usize, b: usize) -> usize

@@ -36,7 +36,7 @@ inside-at : (a : tie.At-loop Inv-loop μ-loop) →
 inside-at a = inside-is (a .before .least .ensures) refl (a .before .before .if1 .left)
 
 returns : tie.Need-returns Inv-loop μ-loop
-returns c = sym (none-stored-past (bytesOf _ _) _ _ (c .if1 .taken))
+returns c = (omega (arith, c .if1 .taken), sym (none-stored-past (bytesOf _ _) _ _ (c .if1 .taken)))
 
 sub-least : tie.Need-sub-least Inv-loop μ-loop
 sub-least c = search needs
@@ -74,7 +74,7 @@ returns-2 : tie.Need-returns-2 Inv-loop μ-loop
 returns-2 c =
     let a = c .before in
     let all : a .loop .i ≡ a .before .least .result = omega (arith, a .loop .inv .0, c .loop-test .left) in
-    putting-ends _ _ _ _ (a .loop .inv .1) (rw all (inside-at a .2))
+    (a .before .least .ensures, putting-ends _ _ _ _ (a .loop .inv .1) (rw all (inside-at a .2)))
 
 pub put-spec : {M : Type 1} → statement M
 put-spec =

@@ -58,7 +58,7 @@ returns c =
     table-stored (start .args .buffer .now) t (length-take-le (t .cores) (t .boards) (omega (arith, start .pre .0, eight start)))
     (head .put-head .ensures)
     (boards .put-boards .ensures)
-    (count .put .ensures)
+    (count .put .ensures .1)
     (rows .put-rows .ensures)
 
 pub put-spec : {M : Type 1} → statement M

@@ -53,7 +53,7 @@ loop-again c =
     let more = c .before .before .before .before .loop-test .taken in (
       omega (arith, more),
       joined-stored (bytesOf 1) 1 (bytes-long 1) (start .args .t2) (a .loop .i) 0 (start .args .buffer .now) 6 (omega (arith, more, start .pre, eight start)) (a .loop .inv .1) (omega arith)
-          (c .before .before .put .ensures),
+          (c .before .before .put .ensures .1),
     )
 
 same-length : tie.Need-same-length Inv-loop μ-loop

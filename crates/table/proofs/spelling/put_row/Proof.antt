@@ -59,7 +59,7 @@ returns c =
     let cost = period .before .before .before .before .before in
     let tank = cost .before .before .before .before .before in
     let args = tank .before .before .before .before .args in
-    row-stored (args .buffer .now) (args .at) (args .row) (tank .put .ensures) (cost .put2 .ensures) (period .put3 .ensures) (phase .put4 .ensures) (kind .put5 .ensures)
+    row-stored (args .buffer .now) (args .at) (args .row) (tank .put .ensures .1) (cost .put2 .ensures .1) (period .put3 .ensures .1) (phase .put4 .ensures .1) (kind .put5 .ensures .1)
 
 pub put-row-spec : {M : Type 1} → statement M
 put-row-spec =
