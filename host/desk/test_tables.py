@@ -669,14 +669,19 @@ class ThePage(InFolder):
         # Files are written beside the page's own, in a folder that looks like this one.
         for name in ["host", "examples"]:
             os.symlink(ROOT / name, self.folder / name)
-        words = []
-        for command, *expected in self.blocks("$ "):
-            python, program, *arguments = shlex.split(command.removeprefix("$ "))
-            self.assertEqual((python, program), ("python3", "host/desk/tables.py"))
-            run = subprocess.run([sys.executable, program, *arguments], stdout=subprocess.PIPE, stderr=subprocess.STDOUT, cwd=self.folder)
-            self.assertEqual((run.stdout.decode().splitlines(), run.returncode), (expected, 0))
-            words.append(arguments[0])
-        self.assertEqual(words, ["write", "show"])
+        [[command, *expected]] = self.blocks("$ ")
+        self.assertEqual(self.printed(command.removeprefix("$ ")), expected)
+        show = "python3 host/desk/tables.py show farm.hex"
+        self.assertIn(f"`{show}`", PAGE.read_text())
+        rows = ["10,2,3,0,plain", "11,1,4,0,plain", "20,3,12,0,early release", "21,1,6,5,plain"]
+        self.assertEqual(self.printed(show), ["cycle,12", "boards,0,1", "tank,cost,period,phase,kind", *rows])
+
+    def printed(self, command: str) -> list[str]:
+        python, program, *arguments = shlex.split(command)
+        self.assertEqual((python, program), ("python3", "host/desk/tables.py"))
+        run = subprocess.run([sys.executable, program, *arguments], stdout=subprocess.PIPE, stderr=subprocess.STDOUT, cwd=self.folder)
+        self.assertEqual(run.returncode, 0)
+        return run.stdout.decode().splitlines()
 
     def test_the_error(self) -> None:
         # "With a line `cycle,12` above `boards`, and 5 as the period of tank 11": lines 2 and 6.
