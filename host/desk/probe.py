@@ -25,6 +25,8 @@ RECORD = 2 + CORES  # the longest record of a slot: each slot is lent a buffer o
 LONGEST_TABLE = 1 + 4 + 1 + CORES + 1 + ROWS * ROW  # bytes: each table that is written is lent a buffer of this length
 REQUEST_LIMIT = 1 << 20  # the most bytes that the probe reads
 
+TABLE_HEAD = struct.Struct(f"<IB{CORES}sB")  # of a table value: cycle, cores, board numbers, row count; the rows follow
+ROW_PARTS = struct.Struct("<HHHHB")  # tank, cost, period, phase, kind
 STATE_PARTS = struct.Struct(f"<{TABLE_VALUE}sQB{ROWS}Q{PLACEMENT}s")  # table value, time, stopped, quanta, memory
 TABLE_REQUEST = struct.Struct("<cI")  # T, length; the table's bytes follow
 TABLE_ANSWER = struct.Struct(f"<B{TABLE_VALUE}s")  # number, table value

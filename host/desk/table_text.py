@@ -44,12 +44,15 @@ class Plan:
 
 @dataclass(frozen=True)
 class Typed:
-    """A plan as it was typed: the line of each of its parts, or none where the cycle or the boards were left out."""
+    """A plan as it was typed: the line of each of its parts, or none where the cycle or the boards were left out; and the names of the
+    columns that are not read.
+    """
 
     plan: Plan
     cycle_line: int | None
     boards_line: int | None
     row_lines: tuple[int, ...]
+    not_read: tuple[str, ...] = ()
 
 
 class Fault(Exception):
@@ -72,6 +75,8 @@ def read(data: bytes) -> Typed:
     rows: list[tuple[int, Row]] = []
     for line, cells in records(lines, separator(lines), strict=True):
         word = cells[0].lower()
+        if names and word in ABOVE and names[0] in MOST:  # in a column of names it would be a name
+            raise Fault("this line must stand above the line of column names", line, word)
         if names:
             rows.append((line, typed_row(cells, names, line)))
         elif word not in ABOVE:
@@ -83,7 +88,7 @@ def read(data: bytes) -> Typed:
     cycle_line, cycle = above.get("cycle", (None, (least_common_multiple(row.period for _, row in rows),)))
     boards_line, boards = above.get("boards", (None, ()))
     plan = Plan(cycle[0], boards, tuple(row for _, row in rows))
-    return Typed(plan, cycle_line, boards_line, tuple(line for line, _ in rows))
+    return Typed(plan, cycle_line, boards_line, tuple(line for line, _ in rows), tuple(name for name in names if name and name not in MOST))
 
 
 def decoded(data: bytes) -> str:
@@ -151,8 +156,9 @@ def column_names(cells: list[str], line: int) -> list[str]:
 
 
 def typed_row(cells: list[str], names: list[str], line: int) -> Row:
-    if len(cells) > len(names):
-        raise Fault(f"{quoted(cells[-1])} stands under no column name", line)  # of a number such as 1,000 the end may stand there
+    for cell, name in itertools.zip_longest(cells, names, fillvalue=""):
+        if cell and not name:
+            raise Fault(f"{quoted(cell)} stands under no column name", line)  # of a number such as 1,000 the end may stand there
     under = {name: cell for name, cell in zip(names, cells) if cell}
     return Row(*(field(name, under.get(name, LEFT_OUT.get(name, "")), line) for name in Row._fields))
 

@@ -19,7 +19,6 @@ import io
 import os
 import secrets
 import shutil
-import struct
 import sys
 from dataclasses import replace
 from typing import Sequence
@@ -28,12 +27,10 @@ import endings
 import inputs
 import table_text
 import words
-from probe import CORES, ROWS, ROWS_AT, TABLE_VALUE, Probe, Trouble
+from probe import CORES, ROW_PARTS, ROWS, ROWS_AT, TABLE_HEAD, TABLE_VALUE, Probe, Trouble
 from table_text import CYCLE_MOST, TEXT_LIMIT, Fault, Plan, Row, Typed
 
 USE = "say what to do: python3 host/desk/tables.py write TEXT FILE, or python3 host/desk/tables.py show FILE"
-HEAD = struct.Struct(f"<IB{CORES}sB")  # of a table value: cycle, cores, board numbers, row count
-ROW = struct.Struct("<HHHHB")
 COUNT_MOST = 0xFF  # what the fields of the two counts hold at most
 
 ROW_COLUMNS = {16: "tank", 17: "cost", 18: "cost", 19: "period", 20: "kind"}  # where in its row a fault with this number lies
@@ -44,16 +41,16 @@ def value_of(plan: Plan) -> bytes:
     and rows for which there are no places are only counted.
     """
     cores, rows = (min(len(part), COUNT_MOST) for part in (plan.boards, plan.rows))
-    head = HEAD.pack(min(plan.cycle, CYCLE_MOST), cores, bytes(plan.boards[:CORES]), rows)
-    return (head + b"".join(ROW.pack(*row) for row in plan.rows[:ROWS])).ljust(TABLE_VALUE, b"\0")
+    head = TABLE_HEAD.pack(min(plan.cycle, CYCLE_MOST), cores, bytes(plan.boards[:CORES]), rows)
+    return (head + b"".join(ROW_PARTS.pack(*row) for row in plan.rows[:ROWS])).ljust(TABLE_VALUE, b"\0")
 
 
 def plan_of(value: bytes) -> Plan:
     """What a table value holds that was taken."""
-    cycle, cores, boards, count = HEAD.unpack_from(value)
+    cycle, cores, boards, count = TABLE_HEAD.unpack_from(value)
     if cores > CORES or count > ROWS:
         raise Trouble(f"the probe takes a table of {cores} cores and {count} rows, and there are {CORES} and {ROWS} at most")
-    rows = ROW.iter_unpack(value[ROWS_AT : ROWS_AT + ROW.size * count])
+    rows = ROW_PARTS.iter_unpack(value[ROWS_AT : ROWS_AT + ROW_PARTS.size * count])
     return Plan(cycle, tuple(boards[:cores]), tuple(Row(*row) for row in rows))
 
 
@@ -229,9 +226,16 @@ def write(name: str, file: str, probe: Probe) -> None:
         raise Trouble(f"{name} and {file} are one file, and the text in it would be lost")
     typed = table_text.read(read_start(name))
     table = written(typed, probe)
-    said = f"{words.counted(len(table), 'byte')}; {load(typed.plan)}"
+    said = f"{words.counted(len(table), 'byte')}, {words.counted(len(typed.plan.rows), 'tank')}; {load(typed.plan)}"
     save(file, hex_text(table, typed.plan).encode() if file.endswith(".hex") else table)
     tell(said)
+    if typed.not_read:  # a name that is misspelled would else go unnoticed
+        tell(unread(typed.not_read))
+
+
+def unread(names: Sequence[str]) -> str:
+    shown = ", ".join(map(table_text.quoted, names[:8]))
+    return f"columns that are not read: {shown}" + (f" and {len(names) - 8} more" if len(names) > 8 else "")
 
 
 def show(name: str, probe: Probe) -> None:

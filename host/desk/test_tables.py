@@ -37,7 +37,7 @@ THREE_HEX = """\
 1400 0200 0300 0000 00   # tank 20: 2/3
 """
 # Each takes 2 · (3/3) = 2 quanta of a cycle, and two cores give 2 · 3.
-THREE_SAID = "36 bytes; load 6 of 6 quanta in a cycle of 3 slots on 2 cores: nothing is left\n"
+THREE_SAID = "36 bytes, 3 tanks; load 6 of 6 quanta in a cycle of 3 slots on 2 cores: nothing is left\n"
 
 # examples/farm.csv. Periods 3, 4, 12 and 6: the least number that they all divide is 12.
 FARM_BYTES = bytes.fromhex(
@@ -91,7 +91,7 @@ class FaultCase(unittest.TestCase):
 class Reading(FaultCase):
     def test_example_with_lines(self) -> None:
         text = "# a comment\ncycle,3\n\nboards,0,1\ntank,cost,period,phase,kind,name\n10,2,3,0,plain,x\n11,2,3,0,plain,y\n# one more\n20,2,3,0,plain,z\n"
-        self.assertEqual(typed(text), Typed(THREE, 2, 4, (6, 7, 9)))
+        self.assertEqual(typed(text), Typed(THREE, 2, 4, (6, 7, 9), ("name",)))
         self.assertEqual(typed(THREE_TEXT), Typed(THREE, 1, 2, (4, 5, 6)))
         self.assertEqual(table_text.read(Path(THREE_TANKS).read_bytes()).plan, THREE)
 
@@ -122,11 +122,20 @@ class Reading(FaultCase):
     def test_encodings(self) -> None:
         text = THREE_TEXT.replace("kind", "kind,Größe").replace(",", "\t").replace("\n", "\r\n")
         for data in [text.encode("utf-8"), text.encode("utf-8-sig"), ("\ufeff" + text).encode("utf-16-le"), ("\ufeff" + text).encode("utf-16-be")]:
-            self.assertEqual(table_text.read(data), Typed(THREE, 1, 2, (4, 5, 6)))
+            self.assertEqual(table_text.read(data), Typed(THREE, 1, 2, (4, 5, 6), ("größe",)))
 
     def test_columns_in_any_order(self) -> None:
         text = "boards,0\nName,KIND,Period,tank,remark,Cost,remark,phase\na,early,6,10,b,2,c,4\n"
         self.assertEqual(plan_of(text).rows, (Row(10, 2, 6, 4, 1),))
+        self.assertEqual(typed(text).not_read, ("name", "remark", "remark"))
+
+    def test_columns_that_are_not_read(self) -> None:
+        # Two names are misspelled: what stands under them is left out, and that is said.
+        misspelled = typed("boards,0\ntank,cost,period,phse,,knd\n10,2,3,7,,early release\n")
+        self.assertEqual((misspelled.plan.rows, misspelled.not_read), ((Row(10, 2, 3, 0, 0),), ("phse", "knd")))
+
+    def test_words_as_names(self) -> None:
+        self.assertEqual(plan_of("name,tank,cost,period\ncycle,1,1,2\nBoards,2,1,2\n").rows, (Row(1, 1, 2, 0, 0), Row(2, 1, 2, 0, 0)))
 
     def test_kinds(self) -> None:
         for word, kind in [("plain", 0), ("Plain", 0), ("early release", 1), ("EARLY-RELEASE", 1), ("early", 1), ("0", 0), ("1", 1), ("2", 2), ("255", 255)]:
@@ -202,7 +211,8 @@ class TextFaults(FaultCase):
             ("kind\n", "line 1, tank: no column has this name"),
             ("tank,cost,period,Cost\n", "line 1, cost: two columns have this name"),
             ("phase,tank,cost,period,phase\n", "line 1, phase: two columns have this name"),
-            (HEAD + "cycle,3\n", f"line 3, tank: 'cycle' {NO_NUMBER}"),
+            (HEAD + "10,2,3\nCycle,3\n", "line 4, cycle: this line must stand above the line of column names"),
+            ("kind,tank,cost,period\nboards,0\n", "line 2, boards: this line must stand above the line of column names"),
         ]:
             self.assert_faults(text, words)
 
@@ -213,6 +223,7 @@ class TextFaults(FaultCase):
     def test_a_number_that_fell_apart(self) -> None:
         # 3,000 without quotes: its end stands where there is no column.
         self.assert_faults("tank,cost,period\n10,2,3,000\n", "line 2: '000' stands under no column name")
+        self.assert_faults("tank,cost,period,,phase\n10,2,3,000,7\n", "line 2: '000' stands under no column name")
 
     def test_quotes(self) -> None:
         cut = "the line cannot be cut into cells"
@@ -403,6 +414,16 @@ class Files(InFolder):
         self.assertEqual(ran(["write", self.text, f"{self.file}.hex"], taking(TABLE, 5)), (0, "", THREE_SAID))
         self.assertEqual(Path(f"{self.file}.hex").read_text(), THREE_HEX)
         self.assertEqual(self.names(), ["farm.csv", "table", "table.hex"])
+
+    def test_what_is_said(self) -> None:
+        # How many tanks there are, since one behind # is none; and which columns were not read.
+        Path(self.text).write_text("cycle,2\nboards,0\nname,tank,cost,period,\x1b\n#1,1,1,2\n2,2,1,2\n")
+        row = bytes.fromhex("01 02000000 01 00 01  0200 0100 0200 0000 00")
+        words = "17 bytes, 1 tank; load 1 of 2 quanta in a cycle of 2 slots on 1 core: 1 is left\ncolumns that are not read: 'name', '\\x1b'\n"
+        self.assertEqual(ran(["write", self.text, self.file], taking(row, 2)), (0, "", words))
+        Path(self.text).write_text("boards,0\ntank,cost,period" + 10 * ",a" + "\n")
+        words = "8 bytes, 0 tanks; load 0 of 1 quantum in a cycle of 1 slot on 1 core: 1 is left\ncolumns that are not read: " + ", ".join(8 * ["'a'"]) + " and 2 more\n"
+        self.assertEqual(ran(["write", self.text, self.file], taking(bytes.fromhex("01 01000000 01 00 00"), 1)), (0, "", words))
 
     def test_show(self) -> None:
         Path(self.file).write_bytes(TABLE)
@@ -666,12 +687,14 @@ class ThePage(InFolder):
         self.assertEqual(self.blocks("# "), [Path(FARM).read_text().splitlines()])
 
     def test_commands(self) -> None:
-        # Files are written beside the page's own, in a folder that looks like this one.
+        # In a folder that looks like this one.
         for name in ["host", "examples"]:
             os.symlink(ROOT / name, self.folder / name)
+        os.mkdir(self.folder / "target")
         [[command, *expected]] = self.blocks("$ ")
         self.assertEqual(self.printed(command.removeprefix("$ ")), expected)
-        show = "python3 host/desk/tables.py show farm.hex"
+        self.assertEqual((self.folder / "target" / "farm.table").read_bytes(), FARM_BYTES)
+        show = "python3 host/desk/tables.py show target/farm.table"
         self.assertIn(f"`{show}`", PAGE.read_text())
         rows = ["10,2,3,0,plain", "11,1,4,0,plain", "20,3,12,0,early release", "21,1,6,5,plain"]
         self.assertEqual(self.printed(show), ["cycle,12", "boards,0,1", "tank,cost,period,phase,kind", *rows])
