@@ -1,4 +1,4 @@
-//! Table values written into a lent buffer, whose length is around that of the table's bytes.
+//! Table values written into a lent buffer, whose length is most often around that of the table's bytes.
 
 use super::value;
 use crate::kind::*;
@@ -15,11 +15,14 @@ pub struct Case {
 impl Kind for Case {
     const GROUPS: &'static [Group] = &[
         "number (1 in 200): 0 | 12..20 | 22 | 37",
-        "of a value with a fault, room (1 in 50): none | too little | one byte less | exact | more",
-        "of a value without a fault, room (1 in 50): none | too little | one byte less | exact | more",
+        "of a value with a fault, room (1 in 50): none | too little | one byte less | exact | more | much more",
+        "of a value without a fault, room (1 in 50): none | too little | one byte less | exact | more | much more",
         "written, M (1 in 500): 1..8",
         "written, n (1 in 2500): 0..32",
+        "written, past M (1 in 20): 0 | not 0",
         "written, past n (1 in 20): 0 | not 0",
+        "too short, M (1 in 1000): 1..8",
+        "too short, n (1 in 5000): 0..32",
     ];
 
     fn wild(random: &mut Random) -> Case {
@@ -48,10 +51,18 @@ impl Kind for Case {
             _ => "of a value with a fault, room",
         };
         tally.saw(title, room::name(self.buffer.len(), needed(&self.table)));
-        if answer[0] == 0 {
-            tally.saw("written, M", self.table.cores);
-            tally.saw("written, n", self.table.count);
-            value::count_past(&self.table, "written, past n", tally);
+        match answer[0] {
+            0 => {
+                tally.saw("written, M", self.table.cores);
+                tally.saw("written, n", self.table.count);
+                value::count_past_boards(&self.table, "written, past M", tally);
+                value::count_past_rows(&self.table, "written, past n", tally);
+            }
+            37 => {
+                tally.saw("too short, M", self.table.cores);
+                tally.saw("too short, n", self.table.count);
+            }
+            _ => {}
         }
     }
 }

@@ -43,16 +43,25 @@ impl<const FRESH: bool> Kind for Case<FRESH> {
             return tally.saw("fault", fault);
         }
         tally.saw("fault of the value", fault);
-        count_past(&self.0, "past n, all places", tally);
+        count_past_rows(&self.0, "past n, all places", tally);
     }
 }
 
 /// Whether all that stands past n is 0.
-pub fn count_past(table: &Table, title: &'static str, tally: &mut Tally) {
-    let past = &table.rows[table.named_rows().len()..];
+pub fn count_past_rows(table: &Table, title: &'static str, tally: &mut Tally) {
+    count_past(&table.rows[table.named_rows().len()..], &Row::zero(), title, tally);
+}
+
+/// Whether all that stands past M is 0.
+pub fn count_past_boards(table: &Table, title: &'static str, tally: &mut Tally) {
+    let past = table.boards.get(usize::from(table.cores)..);
+    count_past(past.unwrap_or_default(), &0, title, tally);
+}
+
+fn count_past<T: PartialEq>(past: &[T], zero: &T, title: &'static str, tally: &mut Tally) {
     if !past.is_empty() {
-        let zero = past.iter().all(|row| *row == Row::zero());
-        tally.saw_each(title, [zero, !zero]);
+        let all = past.iter().all(|part| part == zero);
+        tally.saw_each(title, [all, !all]);
     }
 }
 

@@ -15,7 +15,7 @@ pub struct Case {
 impl Kind for Case {
     const GROUPS: &'static [Group] = &[
         "number (1 in 20): 0 | 34",
-        "room (1 in 50): none | too little | one byte less | exact | more",
+        "room (1 in 50): none | too little | one byte less | exact | more | much more",
         "k (1 in 10): 0 to 8 | above 8",
         "written, marked (1 in 60): none | 1 to 8 | 9 to 31 | all",
         "no room, marked (1 in 100): none | 1 to 8 | 9 to 31 | all",
