@@ -1,14 +1,13 @@
 -- Any two results that a promise allows are equal: by the law that stands beside each. Assumes nothing.
 use Prim.Native.Nat.{min}
 use lib.ListN.{take}
-use mathlib.Core.Path.{sym, ap₂, _∙_}
-use Rattle.facts.proofs.Determined.{by-value}
+use mathlib.Core.Path.{sym, _∙_}
+use Rattle.facts.proofs.Determined.{by-value, both-by-value}
 use Rattle.counts.proofs.Determined.{slot-is-determined, quanta-is-determined, subtask-is-determined}
 use Rattle.windows.proofs.Question.{window-is-determined}
 use Rattle.windows.proofs.Next.{next-due-is-determined}
 use Rattle.pd2.specs.Ready.{originOf}
 use Rattle.pd2.proofs.Rows.{give-is-determined, lowest-late-is-determined}
-use Rattle.table.proofs.Written.{writing-is-determined}
 use Rattle.trace.proofs.Determined.{write-is-determined, record-is-determined-but-for-its-name}
 use Rattle.counts.specs.Numbers.{numbersOf}
 use Rattle.choice.specs.Choice.{chosen}
@@ -39,7 +38,7 @@ every-promise-determines =
       fields-byte = λ s at. by-value;
       fields-half = λ s at. by-value;
       fields-word = λ s at. by-value;
-      fields-put = λ s at width number a b p q. ap₂ (λ many bytes. (many, bytes)) (p .0 ∙ sym (q .0)) (p .1 ∙ sym (q .1));
+      fields-put = λ s at width number. both-by-value;
       windows-window = λ e p f i. window-is-determined e p f (i .0);
       windows-window-by-walk = λ e p f i. window-is-determined e p f (i .0);
       windows-next-due = λ e p origin given. next-due-is-determined e p (origin .0) (given .0);
@@ -48,7 +47,7 @@ every-promise-determines =
       windows-next-group-deadline = λ e p origin given. by-value;
       table-read = λ bytes. by-value;
       table-fault = λ table. by-value;
-      table-write = λ table buffer. writing-is-determined table buffer;
+      table-write = λ table buffer. both-by-value;
       pd2-Verdict-is-yes = λ self. by-value;
       pd2-origin = λ row. slot-is-determined (originOf row);
       pd2-ready = λ row given slot. by-value;
@@ -80,5 +79,5 @@ every-promise-determines =
       firmware-zb-trace-check = λ table trace. by-value;
       printer-Printed-length = λ self. by-value;
       printer-print = λ input out a b p q. print-is-determined input out a b (p .0, p .1) (q .0, q .1);
-      slots-run-zb-slots = λ table k slots entry a b p q. ap₂ (λ time bytes. (time, bytes)) (p .0 ∙ sym (q .0)) (p .1 ∙ sym (q .1));
+      slots-run-zb-slots = λ table k slots entry. both-by-value;
     }

@@ -50,7 +50,7 @@ use Rattle.why.specs.Answer.{rulePlace, toldOf}
 use Rattle.why.specs.Why.{readyFrom, reasonOf, whyOf}
 use Rattle.checker.specs.Causes.{badRows}
 use Rattle.checker.specs.Check.{recordsFindings, traceSaid, checkOf}
-use Rattle.demands.specs.Bench.{exampleTrace, threeCores}
+use Rattle.demands.specs.Bench.{exampleTrace, threeCores, box}
 use Rattle.demands.specs.LawInputs.{stateOf}
 use Rattle.demands.specs.Inputs.{Bytes, CanAskWindow, Possible, CanAsk, CanWrite}
 use Rattle.demands.specs.ShutOut.{Dispatcher, IsDispatcher, numberOf, rowsWritten, GivesAsRecorded, ShutOutOf, Explainer, IsExplainer, ShutOutOfWhy, Answerer, IsAnswerer, ShutOutOfWindow, ShutOut, Writer, IsWriter, ShutOutOfWriting}
@@ -292,7 +292,7 @@ shut-out-of-window window is =
           omega (arith, ap (λ reply. reply .D) own, ap (λ reply. reply .d) own, wrong);
     }
 
--- 01's example is written into 40 bytes and into 36, and not into 35.
+-- 01's example is written into 40 bytes and into 36, and not into 35; a value whose cycle is 0 is refused.
 abbrev lent : ℕ → List ℕ
 lent bytes = replicate bytes 238
 
@@ -305,6 +305,8 @@ record Wrote : Type 0 where
   said-36 : writing (tableIn example) (lent 36) .number ≡ 0
   can-35 : CanWrite (tableIn example) (lent 35)
   said-35 : writing (tableIn example) (lent 35) ≡ record { number = 37; length = 0 }
+  can-faulty : CanWrite (box 0 2 []) (lent 40)
+  said-faulty : writing (box 0 2 []) (lent 40) .number ≡ 12
 
 wrote : Wrote
 unfolding allBelow rowsFit flatMap firstFound rising places padded load bytesOf bytesOfRow bytesOfTable writeNumber writing bufferAfter
@@ -318,6 +320,8 @@ wrote =
       said-36 = refl;
       can-35 = record { table = record { numbers = refl; boards = refl; rows = refl }; bytes = refl };
       said-35 = refl;
+      can-faulty = record { table = record { numbers = refl; boards = refl; rows = refl }; bytes = refl };
+      said-faulty = refl;
     }
 
 shut-out-of-writing : (write : Writer) → IsWriter write → ShutOutOfWriting write
@@ -328,6 +332,10 @@ shut-out-of-writing write is =
     let done = ap (λ x. x .number) (is-40 .0) ∙ wrote .said-40 in
     record {
       writes-no-table = λ h. h t (lent 40) (wrote .can-40) done;
+      judges-nothing = λ h.
+          let said = ap (λ x. x .number) (is (box 0 2 []) (lent 40) (wrote .can-faulty) .0) ∙ wrote .said-faulty in
+          let z : _≡_ {A = ℕ} 0 12 = sym (h (box 0 2 []) (lent 40) (wrote .can-faulty) (omega arith)) ∙ said in
+          omega arith;
       writes-nothing = λ h.
           let z : _≡_ {A = ℕ} 1 238 = sym (ap (λ l. getD l 0 0) (is-40 .1) ∙ wrote .first-40) ∙ ap (λ l. getD l 0 0) (h t (lent 40) (wrote .can-40) done) in
           omega arith;

@@ -7,7 +7,7 @@ use borrow.Author.Tests.{le-ltb}
 use lib.ListN.{length, getD, take, drop, length-append, length-drop}
 use lib.Seq.{length-take-le, getD-take, getD-drop, getD-append-add}
 use Rattle.fields.specs.Fields.{bytesOf}
-use Rattle.fields.proofs.Numbers.{written-is-read, widths-two-and-four}
+use Rattle.fields.proofs.Numbers.{written-is-read, fields-are-numbers}
 use Rattle.table.specs.declared.Table.{Table}
 use Rattle.table.specs.Value.{rowsOf}
 use Rattle.trace.specs.Records.{freeAt, pickedAt, pastRecord, placeOf, firstPlace, slotsIn, placeIn, timesNamed, timesNamedFrom}
@@ -21,7 +21,7 @@ use Rattle.demands.specs.RunPasses.{WordBytesAreRead, withSlotCount}
 
 -- A number in four bytes is read as that number.
 pub word-bytes-are-read : WordBytesAreRead
-word-bytes-are-read n rest h = widths-two-and-four .four (bytesOf 4 n ++ rest) 0 ∙ written-is-read 4 n h [] rest
+word-bytes-are-read n rest h = fields-are-numbers .four (bytesOf 4 n ++ rest) 0 ∙ written-is-read 4 n h [] rest
 
 -- The count n is written in front of the n sound records of a buffer.
 module _ (table : Table) (n : ℕ) (b : List ℕ) (next : ℕ) (so : Written table firstPlace n b next) (few : n ≤ slotLimit) where

@@ -5,7 +5,7 @@ use Rattle.facts.specs.Findings.{firstFound}
 use Rattle.facts.specs.Rising.{rising}
 use Rattle.facts.specs.Places.{places, padded}
 use Rattle.fields.specs.Fields.{bytesOf}
-use Rattle.fields.proofs.Numbers.{written-is-read, read-is-written, widths-two-and-four}
+use Rattle.fields.proofs.Numbers.{written-is-read, read-is-written, fields-are-numbers}
 use Rattle.table.specs.Causes.{load}
 use Rattle.table.specs.Writing.{bytesOfRow, bytesOfTable, writeNumber, writing, bufferAfter}
 use Rattle.table.proofs.Written.{write-numbers, write-numbers-are-first-causes, written-exactly, length-is-said, past-stays}
@@ -30,5 +30,5 @@ writing-tables =
       in-35 = (refl, refl);
       number-is-read = written-is-read;
       number-is-written = read-is-written;
-      widths = widths-two-and-four;
+      fields = fields-are-numbers;
     }

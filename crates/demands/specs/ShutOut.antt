@@ -15,6 +15,7 @@ use Rattle.table.specs.declared.Table.{Table}
 use Rattle.table.specs.declared.Reading.{Reading}
 use Rattle.table.specs.declared.Writing.{Writing}
 use Rattle.table.specs.Bytes.{tableNumber}
+use Rattle.table.specs.Written.{bytesNeeded}
 use Rattle.pd2.specs.Choice.{quantaAt}
 use Rattle.trace.specs.Record.{marked}
 use Rattle.trace.specs.Records.{rowsAt, names}
@@ -194,20 +195,20 @@ pub record ShutOutOfWindow (window : Answerer) : Type 0 where
   pub rounds-down : RoundsDown window → ⊥
   pub own-window-counts : OwnWindowCounts window → ⊥
 
--- A writer keeps the promise of `write` (02, Five); it gives back the answer and the buffer. Shut out are one that refuses all, one that says 0 and leaves the buffer as
--- it was, one that fills the buffer past the bytes with 0, one that asks for a byte more than is needed, and one that says with 37 how many bytes it would have written.
+-- A writer keeps the promise of `write` (02, Five); it gives back the answer and the buffer. Shut out are one that refuses all, one that judges nothing and
+-- writes wherever there is room, one that says 0 and leaves the buffer as it was, one that fills the buffer past the bytes with 0, one that asks for a byte more than is
+-- needed, and one that says with 37 how many bytes it would have written.
 abbrev pub Writer : Type 0
 Writer = Table → List ℕ → Writing × List ℕ
 
 abbrev pub IsWriter : Writer → Type 0
 IsWriter write = (t : Table) (buffer : List ℕ) → CanWrite t buffer → table·write t buffer (write t buffer .0) (write t buffer .1)
 
--- how many bytes a table has
-abbrev pub bytesNeeded : Table → ℕ
-bytesNeeded t = 7 + t .cores + 9 * t .n
-
 abbrev pub WritesNoTable : Writer → Type 0
 WritesNoTable write = (t : Table) (buffer : List ℕ) → CanWrite t buffer → write t buffer .0 .number ≡ 0 → ⊥
+
+abbrev pub JudgesNothing : Writer → Type 0
+JudgesNothing write = (t : Table) (buffer : List ℕ) → CanWrite t buffer → bytesNeeded t ≤ length buffer → write t buffer .0 .number ≡ 0
 
 abbrev pub WritesNothing : Writer → Type 0
 WritesNothing write = (t : Table) (buffer : List ℕ) → CanWrite t buffer → write t buffer .0 .number ≡ 0 → write t buffer .1 ≡ buffer
@@ -224,6 +225,7 @@ SaysWhatItWould write = (t : Table) (buffer : List ℕ) → CanWrite t buffer �
 
 pub record ShutOutOfWriting (write : Writer) : Type 0 where
   pub writes-no-table : WritesNoTable write → ⊥
+  pub judges-nothing : JudgesNothing write → ⊥
   pub writes-nothing : WritesNothing write → ⊥
   pub pads-the-rest : PadsTheRest write → ⊥
   pub asks-for-more : AsksForMore write → ⊥

@@ -3,7 +3,7 @@ use Prim.Native.Nat.{ℕ}
 use mathlib.Core.Path.{_≡_}
 use mathlib.Core.List.{List, _++_}
 use lib.ListN.{replicate}
-use Rattle.fields.specs.Numbers.{WrittenIsRead, ReadIsWritten, WidthsTwoAndFour}
+use Rattle.fields.specs.Numbers.{WrittenIsRead, ReadIsWritten, FieldsAreNumbers}
 use Rattle.table.specs.declared.Writing.{Writing}
 use Rattle.table.specs.Bytes.{tableIn}
 use Rattle.table.specs.Example.{example}
@@ -31,12 +31,13 @@ pub record WritingTables : Type 0 where
   pub numbers : WriteNumbers
   pub refused : WriteNumbersAreFirstCauses
   pub exactly : WrittenExactly
+  -- how many bytes are written, which is said (docs/DECISIONS.md, 97)
   pub length : LengthIsSaid
   -- 01's table of 36 bytes in buffers of 36, of 40 and of 35 bytes
   pub in-36 : Leaves 36 (record { number = 0; length = 36 }) example
   pub in-40 : Leaves 40 (record { number = 0; length = 36 }) (example ++ replicate 4 238)
   pub in-35 : Leaves 35 (record { number = 37; length = 0 }) (replicate 35 238)
-  -- "Little-endian throughout" (01): a number in any count of bytes is read as it was written, and written as it was read.
+  -- "Little-endian throughout" (01): a number that fits into so many bytes is read as it was written, and bytes are written as they were read.
   pub number-is-read : WrittenIsRead
   pub number-is-written : ReadIsWritten
-  pub widths : WidthsTwoAndFour
+  pub fields : FieldsAreNumbers

@@ -13,3 +13,7 @@ by-way-back found back a b e = sym (back a) ∙ (ap found e ∙ back b)
 -- A promise that gives the result itself determines it.
 pub by-value : {R : Type 0} {right : R} → Determined {R = R} (λ r. r ≡ right)
 by-value a b p q = p ∙ sym q
+
+-- One that gives two things, such as an answer and what is left in a buffer, determines both.
+pub both-by-value : {R S : Type 0} {right : R} {left : S} → Determined {R = R × S} (λ r. (r .0 ≡ right) × (r .1 ≡ left))
+both-by-value a b p q z = ((p .0 ∙ sym (q .0)) z, (p .1 ∙ sym (q .1)) z)

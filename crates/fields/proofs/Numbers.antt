@@ -9,7 +9,7 @@ use lib.ListN.{length, take, drop, length-append}
 use lib.Seq.{append-snoc, getD-append-seam, drop-cons}
 use Rattle.facts.proofs.Below.{each-below}
 use Rattle.fields.specs.Fields.{byte, bytesOf, numberAt}
-use Rattle.fields.specs.Numbers.{WrittenIsRead, ReadIsWritten, WidthsTwoAndFour}
+use Rattle.fields.specs.Numbers.{WrittenIsRead, ReadIsWritten, FieldsAreNumbers}
 
 -- for callers
 
@@ -55,11 +55,12 @@ read-is-written s bytes (suc width) i h =
     (ap (λ l. byte s i ∷ l) (read-is-written s bytes width (i + 1) (omega arith))
     ∙ (ap (λ k. byte s i ∷ take width (drop k s)) (add-one i) ∙ sym (ap (take (suc width)) (drop-cons s i 0 (omega arith)))))
 
--- Fields of two and of four bytes are such numbers.
-pub widths-two-and-four : WidthsTwoAndFour
+-- Fields of one, two and four bytes are such numbers.
+pub fields-are-numbers : FieldsAreNumbers
 unfolding numberAt
-widths-two-and-four =
+fields-are-numbers =
     record {
+      one = λ s i. omega arith;
       two = λ s i. omega arith;
       four = λ s i.
           omega (

@@ -16,7 +16,7 @@ use Rattle.facts.proofs.Rising.{tested-as-read}
 use Rattle.facts.proofs.Places.{first-are-read}
 use Rattle.facts.proofs.Joining.{joined-long, joined-are-read}
 use Rattle.fields.specs.Fields.{byte, bytesOf}
-use Rattle.fields.proofs.Numbers.{bytes-long, written-is-read, widths-two-and-four}
+use Rattle.fields.proofs.Numbers.{bytes-long, written-is-read, fields-are-numbers}
 use Rattle.table.specs.declared.Table.{Table}
 use Rattle.table.specs.Limits.{coreLimit, rowLimit}
 use Rattle.table.specs.Causes.{zeroRow, boardTests, boardAbove, rowTests, tankAbove}
@@ -56,7 +56,7 @@ module _ (t : Table) (can : CanBeHeld t) where
 
   cycle-is : cycleIn s ≡ t .cycle
   unfolding bytesOfTable bytesOf
-  cycle-is = widths-two-and-four .four s 1 ∙ written-is-read 4 (t .cycle) (small .cycle) (1 ∷ []) (bytesOf 1 (t .cores) ++ boards ++ bytesOf 1 (t .n) ++ rows)
+  cycle-is = fields-are-numbers .four s 1 ∙ written-is-read 4 (t .cycle) (small .cycle) (1 ∷ []) (bytesOf 1 (t .cores) ++ boards ++ bytesOf 1 (t .n) ++ rows)
 
   cores-is : coresIn s ≡ t .cores
   unfolding bytesOfTable bytesOf

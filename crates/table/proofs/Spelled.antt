@@ -11,7 +11,7 @@ use Rattle.facts.specs.Below.{allBelow}
 use Rattle.facts.proofs.Joining.{parts-joined, joined-long, joined-are-written}
 use Rattle.facts.proofs.Places.{first-are-read}
 use Rattle.fields.specs.Fields.{byte, half, bytesOf, numberAt}
-use Rattle.fields.proofs.Numbers.{bytes-long, written-is-read, read-is-written, widths-two-and-four}
+use Rattle.fields.proofs.Numbers.{bytes-long, written-is-read, read-is-written, fields-are-numbers}
 use Rattle.table.specs.declared.Row.{Row}
 use Rattle.table.specs.declared.Table.{Table}
 use Rattle.table.specs.Limits.{coreLimit, rowLimit}
@@ -46,13 +46,12 @@ table-is-long t =
 
 -- a field of one byte,
 pub byte-is-read : (front rest : List ℕ) (n : ℕ) → n < 256 → byte (front ++ (bytesOf 1 n ++ rest)) (length front) ≡ n
-unfolding numberAt
-byte-is-read front rest n h = omega (arith, written-is-read 1 n (omega arith) front rest)
+byte-is-read front rest n h = fields-are-numbers .one (front ++ (bytesOf 1 n ++ rest)) (length front) ∙ written-is-read 1 n h front rest
 
 -- of two,
 two-bytes : (n : ℕ) → n < 65_536 → n % 256 + 256 * (n / 256 % 256) ≡ n
-unfolding bytesOf numberAt
-two-bytes n h = omega (arith, written-is-read 2 n (omega arith) [] [])
+unfolding bytesOf
+two-bytes n h = fields-are-numbers .two (bytesOf 2 n) 0 ∙ written-is-read 2 n h [] []
 
 -- a row at the front,
 row-in-front : (row : Row) (rest : List ℕ) → rowFits row ≡ true → rowInBytes (bytesOfRow row ++ rest) 0 ≡ row
@@ -94,12 +93,11 @@ row-is-read front rest row fits = row-behind front (bytesOfRow row ++ rest) ∙ 
 module _ (s : List ℕ) (bytes : allBelow 256 s ≡ true) where
   -- a field of one byte,
   byte-is-written : (i : ℕ) → i + 1 ≤ length s → bytesOf 1 (byte s i) ≡ take 1 (drop i s)
-  unfolding numberAt
-  byte-is-written i h = ap (bytesOf 1) {x = byte s i} {y = byte s i + 256 * 0} (omega arith) ∙ read-is-written s bytes 1 i h
+  byte-is-written i h = ap (bytesOf 1) (fields-are-numbers .one s i) ∙ read-is-written s bytes 1 i h
 
   -- of two,
   half-is-written : (i : ℕ) → i + 2 ≤ length s → bytesOf 2 (half s i) ≡ take 2 (drop i s)
-  half-is-written i h = ap (bytesOf 2) (widths-two-and-four .two s i) ∙ read-is-written s bytes 2 i h
+  half-is-written i h = ap (bytesOf 2) (fields-are-numbers .two s i) ∙ read-is-written s bytes 2 i h
 
   -- a row,
   row-is-written : (i : ℕ) → i + 9 ≤ length s → bytesOfRow (rowInBytes s i) ≡ take 9 (drop i s)
@@ -119,7 +117,7 @@ module _ (s : List ℕ) (bytes : allBelow 256 s ≡ true) where
       let n = rowCountIn s in
       let long = taken-is-as-long s taken in
       let format = ap (bytesOf 1) (sym (taken-has-format-1 s taken)) ∙ byte-is-written 0 (omega arith) in
-      let word-is = ap (bytesOf 4) (widths-two-and-four .four s 1) ∙ read-is-written s bytes 4 1 (omega arith) in
+      let word-is = ap (bytesOf 4) (fields-are-numbers .four s 1) ∙ read-is-written s bytes 4 1 (omega arith) in
       let cycle = parts-joined s 0 1 4 format word-is refl in
       let cores = parts-joined s 0 5 1 cycle (byte-is-written 5 (omega arith)) refl in
       let boards-are = ap (flatMap (bytesOf 1)) (first-are-read (byte s) 0 coreLimit 6 1 m) ∙ joined-are-written (bytesOf 1) 1 s (byte s) byte-is-written 6 m (omega arith) in

@@ -10,7 +10,6 @@ use lib.ListN.{length, getD, drop}
 use lib.Seq.{sets, sets-eq, length-sets, length-take-le, getD-append-add, getD-drop}
 use Rattle.facts.specs.Zero.{if0}
 use Rattle.facts.specs.Findings.{firstFound, FirstFound, NoneFound}
-use Rattle.facts.specs.Determined.{Determined}
 use Rattle.facts.proofs.Zero.{if0-other}
 use Rattle.facts.proofs.Findings.{AllSay, all-joined, said-exactly, otherwise-or-such, none-joined, none-says-otherwise, first-is-said, first-behind, decides}
 use Rattle.facts.proofs.Rising.{rising-say}
@@ -22,7 +21,7 @@ use Rattle.table.specs.Causes.{boardTests, boardAbove, rowTests, tankAbo
 use Rattle.table.specs.Value.{boardsOf, rowsOf, valueTests, faultOf}
 use Rattle.table.specs.Fits.{CanBeHeld}
 use Rattle.table.specs.Writing.{bytesOfTable, writeTests, writeNumber, writing, bufferAfter}
-use Rattle.table.specs.Written.{WriteNumbersAreFirstCauses, WriteNumbers, WrittenExactly, LengthIsSaid, Stays, PastStays}
+use Rattle.table.specs.Written.{bytesNeeded, WriteNumbersAreFirstCauses, WriteNumbers, WrittenExactly, LengthIsSaid, Stays, PastStays}
 use Rattle.table.proofs.Numbers.{value-says, none-met}
 use Rattle.table.proofs.Taken.{sizes-are-within}
 use Rattle.table.proofs.Faultless.{faultless-exactly}
@@ -32,7 +31,7 @@ use Rattle.table.proofs.Spelled.{table-is-long}
 
 -- How many bytes a table within its limits has.
 pub bytes-needed : (t : Table) → length (t .boards) ≡ coreLimit → length (t .rows) ≡ rowLimit → t .cores ≤ coreLimit → t .n ≤ rowLimit →
-    length (bytesOfTable t) ≡ 7 + t .cores + 9 * t .n
+    length (bytesOfTable t) ≡ bytesNeeded t
 bytes-needed t boards rows few-cores few-rows =
     omega (
       arith,
@@ -180,7 +179,7 @@ write-numbers t buffer = otherwise-or-such 0 all
 
 -- The answer said without the tests.
 module _ (t : Table) (can : CanBeHeld t) where
-  needed : faultOf t ≡ 0 → length (bytesOfTable t) ≡ 7 + t .cores + 9 * t .n
+  needed : faultOf t ≡ 0 → length (bytesOfTable t) ≡ bytesNeeded t
   needed none = let sizes = sizes-are-within t none in bytes-needed t (can .boards) (can .rows) (sizes .1 .1) (sizes .2)
 
   module _ (buffer : List ℕ) where
@@ -222,7 +221,3 @@ written-exactly t buffer can =
 
 pub length-is-said : LengthIsSaid
 length-is-said t buffer can done = let written = written-if-done t buffer done in written .long ∙ needed t can (written .none)
-
--- The promise of `write` gives the answer and the buffer, so it determines both.
-pub writing-is-determined : (t : Table) (buffer : List ℕ) → Determined {R = Writing × List ℕ} (λ r. (r .0 ≡ writing t buffer) × (r .1 ≡ bufferAfter t buffer))
-writing-is-determined t buffer a b p q z = ((p .0 ∙ sym (q .0)) z, (p .1 ∙ sym (q .1)) z)

@@ -22,11 +22,15 @@ WriteNumbers =
     let number = writing t buffer .number in
     (number ≡ 0) ⊎ ((12 ≤ number) × (number ≤ 20)) ⊎ (number ≡ 22) ⊎ (number ≡ 37)
 
--- 0 and 37 said without the tests: a table as 01 describes it is written exactly if the buffer has its 7 + M + 9n bytes, and is answered 37 exactly if it has not.
+-- "exactly the bytes needed": format and cycle have 1 + 4, the cores 1 + M, the rows 1 + 9n (01, "The table, in bytes").
+abbrev pub bytesNeeded : Table → ℕ
+bytesNeeded t = 7 + t .cores + 9 * t .n
+
+-- 0 and 37 said without the tests: a table as 01 describes it is written exactly if the buffer has the bytes needed, and is answered 37 exactly if it has not.
 -- Of any other value the fault is answered, whatever the buffer has.
 pub record WriteExactly (t : Table) (buffer : List ℕ) (number : ℕ) : Type 0 where
-  pub is-0 : (number ≡ 0) ↔ (Faultless t × (7 + t .cores + 9 * t .n ≤ length buffer))
-  pub is-37 : (number ≡ 37) ↔ (Faultless t × (length buffer < 7 + t .cores + 9 * t .n))
+  pub is-0 : (number ≡ 0) ↔ (Faultless t × (bytesNeeded t ≤ length buffer))
+  pub is-37 : (number ≡ 37) ↔ (Faultless t × (length buffer < bytesNeeded t))
   pub fault : (Faultless t → ⊥) → number ≡ faultOf t
 
 abbrev pub WrittenExactly : Type 0
@@ -34,7 +38,7 @@ WrittenExactly = (t : Table) (buffer : List ℕ) → CanBeHeld t → WriteExactl
 
 -- How many bytes are written is said.
 abbrev pub LengthIsSaid : Type 0
-LengthIsSaid = (t : Table) (buffer : List ℕ) → CanBeHeld t → writing t buffer .number ≡ 0 → writing t buffer .length ≡ 7 + t .cores + 9 * t .n
+LengthIsSaid = (t : Table) (buffer : List ℕ) → CanBeHeld t → writing t buffer .number ≡ 0 → writing t buffer .length ≡ bytesNeeded t
 
 -- "the buffer past them stays as it was": past the length that is said, which with a refusal is 0, so that then the whole buffer does.
 pub record Stays (t : Table) (buffer : List ℕ) : Type 0 where

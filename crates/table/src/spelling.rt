@@ -65,9 +65,16 @@ fn put_row(buffer: &mut [u8], at: usize, row: Row)
     requires { ⌜ at ≤ 303 ⌝ }
     ensures { λ _. ⌜ now (buffer .exit) ≡ sets (now (buffer .entry)) at (bytesOfRow row) ⌝ }
 {
-    fields::put(buffer, at, 2, row.tank as u64);
-    fields::put(buffer, at + 2, 2, row.cost as u64);
-    fields::put(buffer, at + 4, 2, row.period as u64);
-    fields::put(buffer, at + 6, 2, row.phase as u64);
+    put_pair(buffer, at, row.tank, row.cost);
+    put_pair(buffer, at + 4, row.period, row.phase);
     fields::put(buffer, at + 8, 1, row.kind as u64);
+}
+
+// Writes two numbers of two bytes each to place `at`. A row is written in pairs, since each call in a function makes the next one dearer to check.
+fn put_pair(buffer: &mut [u8], at: usize, first: u16, second: u16)
+    requires { ⌜ at ≤ 307 ⌝ }
+    ensures { λ _. ⌜ now (buffer .exit) ≡ sets (now (buffer .entry)) at (bytesOf 2 first ++ bytesOf 2 second) ⌝ }
+{
+    fields::put(buffer, at, 2, first as u64);
+    fields::put(buffer, at + 2, 2, second as u64);
 }
