@@ -22,19 +22,21 @@ module _ (b : List ℕ) where
   head-stored cycle cores p₁ p₂ p₃ =
       stored-behind b (bytesOf 1 1 ++ bytesOf 4 cycle) (bytesOf 1 cores) 0 (stored-behind b (bytesOf 1 1) (bytesOf 4 cycle) 0 p₁ refl p₂) refl p₃
 
-  -- two numbers of a row, and a row,
-  pub pair-stored : (at first second : ℕ) {w₁ w₂ : List ℕ} → w₁ ≡ sets b at (bytesOf 2 first) → w₂ ≡ sets w₁ (at + 2) (bytesOf 2 second) →
-      w₂ ≡ sets b at (bytesOf 2 first ++ bytesOf 2 second)
+  -- what stands first in a row, and a row,
+  pub front-stored : (at tank cost period : ℕ) {w₁ w₂ w₃ : List ℕ} → w₁ ≡ sets b at (bytesOf 2 tank) → w₂ ≡ sets w₁ (at + 2) (bytesOf 2 cost) →
+      w₃ ≡ sets w₂ (at + 4) (bytesOf 2 period) → w₃ ≡ sets b at (bytesOf 2 tank ++ bytesOf 2 cost ++ bytesOf 2 period)
   unfolding bytesOf
-  pair-stored at first second p₁ p₂ = stored-behind b (bytesOf 2 first) (bytesOf 2 second) at p₁ refl p₂
+  front-stored at tank cost period p₁ p₂ p₃ =
+      stored-behind b (bytesOf 2 tank ++ bytesOf 2 cost) (bytesOf 2 period) at (stored-behind b (bytesOf 2 tank) (bytesOf 2 cost) at p₁ refl p₂) refl p₃
 
-  pub row-stored : (at : ℕ) (row : Row) {w₁ w₂ w₃ : List ℕ} → w₁ ≡ sets b at (bytesOf 2 (row .tank) ++ bytesOf 2 (row .cost)) →
-      w₂ ≡ sets w₁ (at + 4) (bytesOf 2 (row .period) ++ bytesOf 2 (row .phase)) → w₃ ≡ sets w₂ (at + 8) (bytesOf 1 (row .kind)) → w₃ ≡ sets b at (bytesOfRow row)
+  pub row-stored : (at : ℕ) (row : Row) {w₁ w₂ w₃ : List ℕ} → w₁ ≡ sets b at (bytesOf 2 (row .tank) ++ bytesOf 2 (row .cost) ++ bytesOf 2 (row .period)) →
+      w₂ ≡ sets w₁ (at + 6) (bytesOf 2 (row .phase)) → w₃ ≡ sets w₂ (at + 8) (bytesOf 1 (row .kind)) → w₃ ≡ sets b at (bytesOfRow row)
   unfolding bytesOfRow bytesOf
   row-stored at row p₁ p₂ p₃ =
-      let front = bytesOf 2 (row .tank) ++ bytesOf 2 (row .cost) in
-      let back = bytesOf 2 (row .period) ++ bytesOf 2 (row .phase) in
-      stored-behind b (front ++ back) (bytesOf 1 (row .kind)) at (stored-behind b front back at p₁ refl p₂) refl p₃
+      let front = bytesOf 2 (row .tank) ++ bytesOf 2 (row .cost) ++ bytesOf 2 (row .period) in
+      let phase = bytesOf 2 (row .phase) in
+      let kind = bytesOf 1 (row .kind) in
+      stored-behind b (front ++ phase) kind at (stored-behind b front phase at p₁ refl p₂) refl p₃
 
   -- and the whole table.
   pub table-stored : (t : Table) → length (boardsOf t) ≡ t .cores → {w₁ w₂ w₃ w₄ : List ℕ} →

@@ -65,16 +65,17 @@ fn put_row(buffer: &mut [u8], at: usize, row: Row)
     requires { ⌜ at ≤ 303 ⌝ }
     ensures { λ _. ⌜ now (buffer .exit) ≡ sets (now (buffer .entry)) at (bytesOfRow row) ⌝ }
 {
-    put_pair(buffer, at, row.tank, row.cost);
-    put_pair(buffer, at + 4, row.period, row.phase);
+    put_front(buffer, at, row.tank, row.cost, row.period);
+    fields::put(buffer, at + 6, 2, row.phase as u64);
     fields::put(buffer, at + 8, 1, row.kind as u64);
 }
 
-// Writes two numbers of two bytes each to place `at`. A row is written in pairs, since each call in a function makes the next one dearer to check.
-fn put_pair(buffer: &mut [u8], at: usize, first: u16, second: u16)
-    requires { ⌜ at ≤ 307 ⌝ }
-    ensures { λ _. ⌜ now (buffer .exit) ≡ sets (now (buffer .entry)) at (bytesOf 2 first ++ bytesOf 2 second) ⌝ }
+// Writes what stands first in a row to place `at`. It is a function of its own, since each call in a function makes the next one dearer to check.
+fn put_front(buffer: &mut [u8], at: usize, tank: u16, cost: u16, period: u16)
+    requires { ⌜ at ≤ 303 ⌝ }
+    ensures { λ _. ⌜ now (buffer .exit) ≡ sets (now (buffer .entry)) at (bytesOf 2 tank ++ bytesOf 2 cost ++ bytesOf 2 period) ⌝ }
 {
-    fields::put(buffer, at, 2, first as u64);
-    fields::put(buffer, at + 2, 2, second as u64);
+    fields::put(buffer, at, 2, tank as u64);
+    fields::put(buffer, at + 2, 2, cost as u64);
+    fields::put(buffer, at + 4, 2, period as u64);
 }
