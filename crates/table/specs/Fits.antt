@@ -22,6 +22,7 @@ rowsFit (row ∷ rows) = rowFits row && rowsFit rows
 abbrev pub tableFits : Table → Bool
 tableFits t = ltb (t .cycle) (2 ^ 32) && allBelow 256 (t .cores ∷ t .n ∷ t .boards) && rowsFit (t .rows)
 
+-- its numbers fit, and it has 8 places for board numbers and 32 for rows
 pub record CanBeHeld (t : Table) : Type 0 where
   pub numbers : tableFits t ≡ true
   pub boards : length (t .boards) ≡ coreLimit
