@@ -80,4 +80,6 @@ every-promise-determines =
       printer-Printed-length = λ self. by-value;
       printer-print = λ input out a b p q. print-is-determined input out a b (p .0, p .1) (q .0, q .1);
       slots-run-zb-slots = λ table k slots entry. both-by-value;
+      desk-run-zb-run = λ table list entries. both-by-value;
+      desk-run-zb-judge = λ table trace place. both-by-value;
     }

@@ -1,13 +1,14 @@
 -- The definitions mean what 01 says, in numbers and bytes. Assumes nothing.
-use Prim.Native.Nat.{ℕ, _+_, _-_, _*_, _/_, _≤_}
+use Prim.Native.Nat.{ℕ, _+_, _-_, _*_, _/_, _%_, _≤_}
 use mathlib.Core.Path.{_≡_, refl, ap, _∙_}
-use mathlib.Core.List.{List}
+use mathlib.Core.List.{List, [], _∷_, _++_, map, flatMap, append-assoc}
 use mathlib.Core.Bool.{Bool, true, false}
 use mathlib.Core.Logic.{_↔_}
 use native.Mathlib.Omega.{arith}
 use borrow.Author.Tests.{ltb-false, le-ltb, leb-true, le-leb, lt-leb}
 use lib.Dec.{ltb, leb}
 use lib.ListN.{length, getD}
+use lib.Seq.{sets}
 use Rattle.facts.specs.Rounding.{ceilDiv}
 use Rattle.facts.specs.First.{Lowest}
 use Rattle.facts.proofs.Listing.{lowest-is-first}
@@ -19,21 +20,23 @@ use Rattle.table.specs.Limits.{coreLimit, rowLimit}
 use Rattle.table.specs.Causes.{zeroRow, load}
 use Rattle.table.specs.Value.{rowsOf}
 use Rattle.table.specs.Bytes.{rowInBytes}
-use Rattle.fields.specs.Fields.{byte}
+use Rattle.fields.specs.Fields.{byte, bytesOf}
 use Rattle.pd2.specs.Ready.{ready, late}
 use Rattle.trace.specs.Record.{recordOf, marked, withFront}
 use Rattle.trace.specs.Records.{placeOf, slotsIn, placeIn, rowsOfSlot}
 use Rattle.trace.proofs.Names.{marked-are-named}
 use Rattle.trace.proofs.Found.{next-begins}
+use Rattle.trace.specs.Said.{Said}
 use Rattle.dispatcher.specs.declared.State.{State}
 use Rattle.checker.specs.WellFormed.{WellFormed}
 use Rattle.checker.proofs.Sound.{rising-exactly}
 use Rattle.cores.proofs.Means.{ran-on-means, ran-before-means, moves-are}
 use Rattle.slots_run.specs.Slots.{slotsFrom}
+use Rattle.desk_run.specs.Run.{entered, runFrom}
 use Rattle.printer.specs.Text.{textOf}
 use Rattle.printer.specs.Buffer.{printedOf, outAfter}
 use Rattle.demands.proofs.Limits.{in-limits}
-use Rattle.demands.specs.Meanings.{WindowMeans, TableMeans, ValueMeans, RowMeans, OrderMeans, Shaped, TraceMeans, NamedMeans, WriteMeans, PrintMeans, SlotsMean, Meanings}
+use Rattle.demands.specs.Meanings.{WindowMeans, TableMeans, ValueMeans, RowMeans, OrderMeans, Shaped, TraceMeans, NamedMeans, WriteMeans, PrintMeans, SlotsMean, RunMeans, PlaceMeans, Meanings}
 
 window-means : (e p f i : ℕ) → WindowMeans e p f i
 unfolding start deadline ceilDiv bit windowLength jobStart
@@ -161,6 +164,30 @@ slots-mean : (s : State) (k : ℕ) (bytes : List ℕ) → SlotsMean s k bytes
 unfolding slotsFrom
 slots-mean s k bytes = record { none = refl; one-more = λ m. refl }
 
+-- Numbers in one byte each are their rests.
+one-byte-each : (l : List ℕ) → flatMap (bytesOf 1) l ≡ map (λ n. n % 256) l
+unfolding flatMap bytesOf
+one-byte-each [] = refl
+one-byte-each (n ∷ l) = ap (λ rest. n % 256 ∷ rest) (one-byte-each l)
+
+run-means : (s : State) (list bytes : List ℕ) → RunMeans s list bytes
+unfolding runFrom entered bytesOf
+run-means s list bytes =
+    record {
+      all = λ table. refl;
+      none = refl;
+      one-more = λ m. refl;
+      entry = λ given at.
+          let cores = given .placed .cores in
+          let number = bytesOf 1 (given .said .number) in
+          let row = bytesOf 1 (given .said .row) in
+          ap (sets (given .bytes) (at + 10)) (append-assoc (flatMap (bytesOf 1) cores) number row ∙ ap (λ l. l ++ (number ++ row)) (one-byte-each cores));
+    }
+
+place-means : (said : Said) (bytes : List ℕ) → PlaceMeans said bytes
+unfolding bytesOf
+place-means said bytes = refl
+
 pub meanings : Meanings
 meanings =
     record {
@@ -177,4 +204,6 @@ meanings =
       fresh = λ t. refl;
       memory = λ last. record { ran-on = ran-on-means last; ran-before = ran-before-means last; moves = moves-are last };
       slots = slots-mean;
+      run = run-means;
+      place = place-means;
     }

@@ -19,7 +19,7 @@ use Rattle.dispatcher.specs.declared.Outcome.{Outcome}
 use Rattle.why.specs.declared.Answer.{Answer as WhyAnswer}
 use Rattle.checker.specs.declared.Answer.{Answer as Checked}
 use Rattle.printer.specs.declared.Printed.{Printed}
-use Rattle.demands.specs.Promises.{counts·Slot·at, counts·Slot·time, counts·Slot·later, counts·Slot·before, counts·Slot·since, counts·Quanta·of, counts·Quanta·count, counts·Quanta·one-more, counts·Quanta·next-subtask, counts·Subtask·numbered, counts·Subtask·number, counts·Subtask·next, counts·Subtask·quanta-before, fields·byte, fields·half, fields·word, fields·put, windows·window, windows·window-by-walk, windows·next-due, windows·next-start, windows·next-job-start, windows·next-group-deadline, table·read, table·fault, table·write, pd2·Verdict·is-yes, pd2·origin, pd2·ready, pd2·late, pd2·within, pd2·give, pd2·lowest-late, trace·write, trace·record, trace·begins, choice·picks, choice·first-left, cores·Placement·nobody, cores·Placement·is-faulty, cores·how-many, cores·names-past, cores·first, cores·place, dispatcher·Answer·told, dispatcher·State·fresh, dispatcher·State·is-broken, dispatcher·State·slot, why·Answer·told, why·of-row, checker·check, checker·number, firmware·zb-table-check, firmware·zb-trace-check, printer·Printed·length, printer·print, slots-run·zb-slots}
+use Rattle.demands.specs.Promises.{counts·Slot·at, counts·Slot·time, counts·Slot·later, counts·Slot·before, counts·Slot·since, counts·Quanta·of, counts·Quanta·count, counts·Quanta·one-more, counts·Quanta·next-subtask, counts·Subtask·numbered, counts·Subtask·number, counts·Subtask·next, counts·Subtask·quanta-before, fields·byte, fields·half, fields·word, fields·put, windows·window, windows·window-by-walk, windows·next-due, windows·next-start, windows·next-job-start, windows·next-group-deadline, table·read, table·fault, table·write, pd2·Verdict·is-yes, pd2·origin, pd2·ready, pd2·late, pd2·within, pd2·give, pd2·lowest-late, trace·write, trace·record, trace·begins, choice·picks, choice·first-left, cores·Placement·nobody, cores·Placement·is-faulty, cores·how-many, cores·names-past, cores·first, cores·place, dispatcher·Answer·told, dispatcher·State·fresh, dispatcher·State·is-broken, dispatcher·State·slot, why·Answer·told, why·of-row, checker·check, checker·number, firmware·zb-table-check, firmware·zb-trace-check, printer·Printed·length, printer·print, slots-run·zb-slots, desk-run·zb-run, desk-run·zb-judge}
 
 pub record EveryPromiseDetermines : Type 0 where
   pub counts-Slot-at : (time : ℕ) → Determined (counts·Slot·at time)
@@ -80,3 +80,5 @@ pub record EveryPromiseDetermines : Type 0 where
   pub printer-Printed-length : (self : Printed) → Determined (printer·Printed·length self)
   pub printer-print : (input out : List ℕ) → Determined {R = Printed × List ℕ} (λ r. printer·print input out (r .0) (r .1))
   pub slots-run-zb-slots : (table : List ℕ) (k slots : ℕ) (entry : List ℕ) → Determined {R = ℕ × List ℕ} (λ r. slots-run·zb-slots table k slots entry (r .0) (r .1))
+  pub desk-run-zb-run : (table list entries : List ℕ) → Determined {R = ℕ × List ℕ} (λ r. desk-run·zb-run table list entries (r .0) (r .1))
+  pub desk-run-zb-judge : (table trace place : List ℕ) → Determined {R = ℕ × List ℕ} (λ r. desk-run·zb-judge table trace place (r .0) (r .1))

@@ -1,39 +1,44 @@
 -- What the definitions mean that the demands and the promises name, once more in 01's own numbers and bytes. Some lines repeat a definition to the letter, on purpose: whoever
 -- changes the definition has to change it here too, under 01's sentence.
-use Prim.Native.Nat.{ℕ, suc, _+_, _-_, _*_, _/_, _%_, _≤_, _<_}
+use Prim.Native.Nat.{ℕ, suc, _+_, _-_, _*_, _/_, _%_, _≤_, _<_, min}
 use mathlib.Core.Path.{_≡_}
-use mathlib.Core.List.{List, [], _∷_, _++_}
+use mathlib.Core.List.{List, [], _∷_, _++_, map}
 use mathlib.Core.Bool.{Bool, true, false, cond, not, _&&_}
 use mathlib.Core.Logic.{_↔_}
 use lib.Dec.{eqb}
 use lib.ListN.{length, getD, take, drop, replicate}
+use lib.Seq.{sets}
 use Rattle.facts.specs.Counting.{howMany}
+use Rattle.fields.specs.Fields.{bytesOf}
 use Rattle.windows.specs.Windows.{start, deadline, bit, windowLength, jobStart}
 use Rattle.windows.specs.Group.{groupDeadline}
 use Rattle.table.specs.declared.Row.{Row}
 use Rattle.table.specs.declared.Table.{Table}
 use Rattle.table.specs.Causes.{zeroRow, load}
 use Rattle.table.specs.Value.{rowsOf, boardsOf}
-use Rattle.table.specs.Bytes.{tableIn}
+use Rattle.table.specs.Bytes.{tableIn, reading}
 use Rattle.pd2.specs.Ready.{ready, late}
 use Rattle.pd2.specs.Share.{within}
 use Rattle.pd2.specs.Order.{rankOf, before}
 use Rattle.pd2.specs.Choice.{rowAt, quantaAt, readyIn, goesBeforeBy}
 use Rattle.trace.specs.Record.{recordOf, marked, writeNumber, partAfter}
 use Rattle.trace.specs.Records.{names, slotsIn, placeIn, rowsOfSlot, timesNamed}
+use Rattle.trace.specs.Said.{Said}
 use Rattle.cores.specs.declared.Placement.{Placement}
 use Rattle.cores.specs.Sets.{firstCores}
 use Rattle.cores.specs.Placement.{ranOn, ranBefore}
 use Rattle.cores.specs.Best.{moves}
 use Rattle.dispatcher.specs.declared.State.{State}
 use Rattle.dispatcher.specs.State.{freshOf}
-use Rattle.dispatcher.specs.Slot.{slotOf}
+use Rattle.dispatcher.specs.Slot.{SlotReply, slotOf}
 use Rattle.checker.specs.Causes.{tooEarly, tooLate, lowest}
 use Rattle.checker.specs.WellFormed.{WellFormed}
 use Rattle.printer.specs.declared.Printed.the-variants.{Text, TooShort}
 use Rattle.printer.specs.Text.{textOf}
 use Rattle.printer.specs.Buffer.{printedOf, outAfter}
 use Rattle.slots_run.specs.Slots.{slotsFrom}
+use Rattle.desk_run.specs.Run.{entered, runFrom, ran}
+use Rattle.desk_run.specs.Judged.{placeOf}
 use Rattle.demands.specs.Limits.{InLimits}
 
 -- "start r = f + floor((i-1)·p/e); deadline d = f + ceil(i·p/e)", "bit b = 0 if e divides i·p, else 1", "f + floor((i-1)/e)·p"
@@ -163,6 +168,22 @@ pub record SlotsMean (s : State) (k : ℕ) (bytes : List ℕ) : Type 0 where
       let after = slotOf (left .state) (firstCores k) (left .bytes) 0 in
       slotsFrom s k bytes (suc m) ≡ record { state = after .state; bytes = after .bytes }
 
+-- Slots one after the other, each with its own number of free cores and an entry of its own, which only `zb_run` of the desk's command promises: as many as there are numbers,
+-- and room for entries of 20 bytes. An entry has the record, the eight cores from place 10 on, the number and the row.
+pub record RunMeans (s : State) (list bytes : List ℕ) : Type 0 where
+  pub all : (table : List ℕ) → ran table list bytes ≡ runFrom (freshOf (reading table .table)) list bytes (min (length list) (length bytes / 20))
+  pub none : runFrom s list bytes 0 ≡ record { state = s; bytes = bytes }
+  pub one-more : (m : ℕ) →
+      let left = runFrom s list bytes m in
+      let after = slotOf (left .state) (firstCores (getD list m 0)) (left .bytes) (20 * m) in
+      runFrom s list bytes (suc m) ≡ record { state = after .state; bytes = entered after (20 * m) }
+  pub entry : (given : SlotReply) (at : ℕ) →
+      entered given at ≡ sets (given .bytes) (at + 10) (map (λ n. n % 256) (given .placed .cores) ++ (given .said .number % 256 ∷ given .said .row % 256 ∷ []))
+
+-- The row and the time that a check names, which only `zb_judge` of the desk's command promises in bytes: one for the row, eight for the time.
+abbrev pub PlaceMeans : Said → List ℕ → Type 0
+PlaceMeans said bytes = placeOf said bytes ≡ sets bytes 0 (said .row % 256 ∷ bytesOf 8 (said .time))
+
 pub record Meanings : Type 0 where
   pub window : (e p f i : ℕ) → WindowMeans e p f i
   pub table : (s : List ℕ) → TableMeans s
@@ -177,3 +198,5 @@ pub record Meanings : Type 0 where
   pub fresh : (t : Table) → FreshMeans t
   pub memory : (last : Placement) → MemoryMeans last
   pub slots : (s : State) (k : ℕ) (bytes : List ℕ) → SlotsMean s k bytes
+  pub run : (s : State) (list bytes : List ℕ) → RunMeans s list bytes
+  pub place : (said : Said) (bytes : List ℕ) → PlaceMeans said bytes

@@ -63,6 +63,8 @@ use Rattle.printer.specs.Limits.{textLimit}
 use Rattle.printer.specs.Text.{textOf}
 use Rattle.printer.specs.Buffer.{lengthOf, printedOf, outAfter}
 use Rattle.slots_run.specs.Slots.{slotsFrom}
+use Rattle.desk_run.specs.Run.{ran}
+use Rattle.desk_run.specs.Judged.{placeOf}
 
 -- counts::Slot::at
 abbrev pub counts·Slot·at : ℕ → Slot → Type 0
@@ -297,3 +299,11 @@ abbrev pub slots-run·zb-slots : List ℕ → ℕ → ℕ → List ℕ → ℕ �
 slots-run·zb-slots table k slots entry r entry-after =
     (r ≡ timeOf (slotsFrom (freshOf (reading table .table)) k entry slots .state))
     × (entry-after ≡ slotsFrom (freshOf (reading table .table)) k entry slots .bytes)
+
+-- desk_run::zb_run
+abbrev pub desk-run·zb-run : List ℕ → List ℕ → List ℕ → ℕ → List ℕ → Type 0
+desk-run·zb-run table list entries r entries-after = (r ≡ timeOf (ran table list entries .state)) × (entries-after ≡ ran table list entries .bytes)
+
+-- desk_run::zb_judge
+abbrev pub desk-run·zb-judge : List ℕ → List ℕ → List ℕ → ℕ → List ℕ → Type 0
+desk-run·zb-judge table trace place r place-after = (r ≡ checkOf table trace .number) × (place-after ≡ placeOf (checkOf table trace) place)
