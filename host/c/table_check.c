@@ -4,7 +4,7 @@
  * Checks job tables. For each FILE, where '-' is standard input, it prints a line
  *     FILE: NUMBER meaning
  * with the number that 01, the maker's paper, gives to the bytes of the file. Exit status: 0 if every table is taken, 1 if some table
- * is refused, 2 if some file cannot be read.
+ * is refused, 2 if some file cannot be read or a line not be written.
  */
 #include "meaning.h"
 #include "zbrojomir.h"
@@ -15,9 +15,13 @@
 
 enum status { TAKEN = 0, REFUSED = 1, TROUBLE = 2 };
 
-static enum status trouble(const char *name) {
-    fprintf(stderr, "table_check: %s: %s\n", name, errno != 0 ? strerror(errno) : "it cannot be read");
+static enum status trouble(const char *name, const char *otherwise) {
+    fprintf(stderr, "table_check: %s: %s\n", name, errno != 0 ? strerror(errno) : otherwise);
     return TROUBLE;
+}
+
+static enum status unread(const char *name) {
+    return trouble(strcmp(name, "-") == 0 ? "standard input" : name, "it cannot be read");
 }
 
 /*
@@ -35,11 +39,11 @@ static enum status check(const char *name) {
     errno = 0;
     file = standard ? stdin : fopen(name, "rb");
     if (file == NULL) {
-        return trouble(name);
+        return unread(name);
     }
     length = fread(table, 1, sizeof table, file);
     if (ferror(file)) {
-        enum status status = trouble(name);
+        enum status status = unread(name);
         if (!standard) {
             fclose(file);
         }
@@ -69,7 +73,7 @@ int main(int count, char **words) {
     }
     errno = 0;
     if (fflush(stdout) != 0 || ferror(stdout)) {
-        return trouble("standard output");
+        return trouble("standard output", "it cannot be written");
     }
     return worst;
 }

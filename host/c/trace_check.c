@@ -2,9 +2,9 @@
  * trace_check TABLE TRACE
  *
  * Checks a trace against its job table. TABLE and TRACE are files, where '-' is standard input for one of them. It prints a line
- *     TRACE: NUMBER meaning
- * with the number that 01, the maker's paper, gives to the bytes of the two; a number 10 to 22 is about the table. Exit status: 0 if the
- * trace passes, 1 if it or the table is refused, 2 if a file cannot be read.
+ *     FILE: NUMBER meaning
+ * with the number that 01, the maker's paper, gives to the bytes of the two. FILE is the one that the number is about: TABLE with 10 to 22,
+ * else TRACE. Exit status: 0 if the trace passes, 1 if it or the table is refused, 2 if a file cannot be read or the line not be written.
  */
 #include "meaning.h"
 #include "zbrojomir.h"
@@ -16,9 +16,13 @@
 
 enum status { PASSED = 0, REFUSED = 1, TROUBLE = 2 };
 
-static enum status trouble(const char *name) {
-    fprintf(stderr, "trace_check: %s: %s\n", name, errno != 0 ? strerror(errno) : "it cannot be read");
+static enum status trouble(const char *name, const char *otherwise) {
+    fprintf(stderr, "trace_check: %s: %s\n", name, errno != 0 ? strerror(errno) : otherwise);
     return TROUBLE;
+}
+
+static enum status unread(const char *name) {
+    return trouble(strcmp(name, "-") == 0 ? "standard input" : name, "it cannot be read");
 }
 
 struct bytes {
@@ -54,12 +58,12 @@ static int read_file(const char *name, struct bytes *bytes) {
     errno = 0;
     file = standard ? stdin : fopen(name, "rb");
     if (file == NULL) {
-        trouble(name);
+        unread(name);
         return 0;
     }
     done = read_rest(file, bytes);
     if (!done) {
-        trouble(name);
+        unread(name);
     }
     if (!standard) {
         fclose(file);
@@ -73,7 +77,8 @@ static enum status check(const char *table_name, const char *trace_name) {
 
     if (read_file(table_name, &table) && read_file(trace_name, &trace)) {
         uint8_t number = zb_trace_check(table.start, table.length, trace.start, trace.length);
-        printf("%s: %u %s\n", trace_name, (unsigned)number, meaning(number));
+        int of_table = number >= ZB_TABLE_CUT && number <= ZB_TABLE_OVERFULL;
+        printf("%s: %u %s\n", of_table ? table_name : trace_name, (unsigned)number, meaning(number));
         status = number == ZB_DONE ? PASSED : REFUSED;
     }
     free(table.start);
@@ -91,7 +96,7 @@ int main(int count, char **words) {
     status = check(words[1], words[2]);
     errno = 0;
     if (fflush(stdout) != 0 || ferror(stdout)) {
-        return trouble("standard output");
+        return trouble("standard output", "it cannot be written");
     }
     return status;
 }

@@ -1,15 +1,10 @@
-"""Files, byte for byte or as hex text; and the inputs of the slot printer (01, 'Slot printer'), split into their parts. The table is only cut
-out, not judged.
-"""
+"""The inputs of the slot printer (01, 'Slot printer'), split into their parts and made of them. The table is only cut out, not judged."""
 from __future__ import annotations
 
-import contextlib
-import io
-import re
+import struct
 from dataclasses import dataclass
-from typing import BinaryIO, Iterator
 
-from probe import Trouble
+import words
 
 INPUT_LIMIT = 65_536
 SLOT_LIMIT = 4_096
@@ -27,6 +22,10 @@ class Asked:
         """The k of a slot, where the table has so many cores: 'Slots past the k list use all M cores.'"""
         return self.listed[slot] if slot < len(self.listed) else cores
 
+    def input(self) -> bytes:
+        """The bytes for the printer, of parts that are within its limits."""
+        return struct.pack("<H", len(self.table)) + self.table + struct.pack("<HH", self.slots, len(self.listed)) + self.listed
+
 
 def split(input: bytes) -> Asked | None:
     """The parts, or none if bytes are missing or left over, or a number is above its limit."""
@@ -43,29 +42,19 @@ def half(raw: bytes, at: int) -> int:
     return int.from_bytes(raw[at : at + 2], "little")
 
 
-def read(name: str) -> bytes:
-    """What a file holds; of a longer one than an input may be, enough to tell that it is too long, so that a stream need not end."""
-    with opened(name) as file:
-        return file.read(INPUT_LIMIT + 1)
-
-
-@contextlib.contextmanager
-def opened(name: str) -> Iterator[BinaryIO]:
-    """A file, to be read as far as is needed; - is standard input. If the name ends in .hex it is text, read whole, in place of which stand the
-    bytes that it names.
-    """
-    try:
-        with open(0 if name == "-" else name, "rb", closefd=name != "-") as file:
-            yield io.BytesIO(unhexed(file.read(), name)) if name.endswith(".hex") else file
-    except OSError as error:
-        raise Trouble(f"{name} cannot be read: {error.strerror}") from None
-
-
-def unhexed(text: bytes, name: str) -> bytes:
-    """The bytes that a text names, as ./slots reads it: hex digits, white space, and comments from '#' to the end of the line."""
-    digits = b"".join(re.sub(rb"#.*", b"", text).split())
-    if re.search(rb"[^0-9A-Fa-f]", digits):
-        raise Trouble(f"{name} has something else than hex digits, white space and comments")
-    if len(digits) % 2 != 0:
-        raise Trouble(f"{name} has half a byte: an odd number of hex digits")
-    return bytes.fromhex(digits.decode("ascii"))
+def fault(input: bytes) -> str:
+    """What makes an input none, by its lengths alone."""
+    if len(input) > INPUT_LIMIT:
+        return f"it has more than {INPUT_LIMIT:,} bytes"
+    if len(input) < 2:
+        return "it is empty" if not input else "it has 1 byte, and the table's length alone takes 2"
+    length = half(input, 0)
+    there = len(input) >= length + 6
+    slots, count = (half(input, length + 2), half(input, length + 4)) if there else (0, 0)
+    must = length + 6 + count
+    faults = [
+        (len(input) != must, f"the table's length says {length}, so the input must have {must} bytes with {words.counted(count, 'k value')}, and has {len(input)}"),
+        (slots > SLOT_LIMIT, f"it asks for {slots} slots, and {SLOT_LIMIT:,} are the most"),
+        (count > slots, f"it has {words.counted(count, 'k value')} for {words.counted(slots, 'slot')}"),
+    ]
+    return "; ".join(said for holds, said in faults if holds)

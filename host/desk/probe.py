@@ -1,5 +1,5 @@
-"""A client of the probe (crates/probe): it builds requests and takes answers apart. It judges nothing: whether a table is taken, who runs and on
-which core, who waits and why, who is late and what is refused is what the probe answers.
+"""A client of the probe (crates/probe, docs/PROBE.md): it builds requests and takes answers apart. It judges nothing: whether a table is taken, who
+runs and on which core, who waits and why, who is late and what is refused is what the probe answers.
 
 Numbers are little-endian. A table value is L (4), M (1), 8 board numbers, n (1) and 32 rows of 9 bytes; a placement a count (1), 8 rows and 8
 cores; a state a table value, the time (8), a stopped mark (1), 32 quanta (8 each), and the placement of the last slot.
@@ -9,8 +9,10 @@ from __future__ import annotations
 import struct
 import subprocess
 from dataclasses import dataclass
-from pathlib import Path
-from typing import Sequence
+from typing import Any, Iterable, Iterator, Sequence
+
+import building
+from trouble import Trouble
 
 CORES, ROWS, ROW = 8, 32, 9  # places for cores and for rows, and the bytes of a row
 CORE_COUNT_AT = 4
@@ -37,17 +39,14 @@ WHY_ANSWER = struct.Struct("<BBQBB")  # number, reason, first slot, row, rule
 CHECK_REQUEST = struct.Struct("<cI")  # C, length; the table's bytes follow, and behind them
 CHECK_TRACE = struct.Struct("<I")  # length; the trace's bytes follow
 CHECK_ANSWER = struct.Struct("<BBQ")  # number, row, time
+WINDOW_REQUEST = struct.Struct("<cHHHQ")  # W, cost, period, phase, subtask
+WINDOW_ANSWER = struct.Struct("<BQQBQ")  # number, start, deadline, bit, group deadline
 WRITE_REQUEST = struct.Struct(f"<c{TABLE_VALUE}sI{LONGEST_TABLE}s")  # P, table value, length, buffer
 WRITE_ANSWER = struct.Struct(f"<BQ{LONGEST_TABLE}s")  # number, bytes written, buffer
 
 LATE = 1  # the answer of a slot after which a row is late; 0 is done, and any number above is a refusal
 
-# Found from this file's own place, through symlinks, so that it does not matter where a user stands.
-RUN = (str(Path(__file__).resolve().parent.parent / "run"), "probe")
-
-
-class Trouble(Exception):
-    """No answer can be had; the sentence for the user says why."""
+RUN = (str(building.HOST / "run"), "probe")
 
 
 @dataclass(frozen=True)
@@ -146,6 +145,17 @@ class Check:
 
 
 @dataclass(frozen=True)
+class Window:
+    """What the probe answered about a window (01, 'Windows'): 0 and r, d, b and D, or why it is refused and zeros."""
+
+    number: int
+    start: int
+    deadline: int
+    bit: int
+    group: int
+
+
+@dataclass(frozen=True)
 class Written:
     """What the probe answered about a table value that it was to write: 0 and the table's bytes, or why it is refused and none."""
 
@@ -165,8 +175,15 @@ class Probe:
         self.command = command
 
     def read_table(self, table: bytes) -> Table:
-        request = TABLE_REQUEST.pack(b"T", len(table)) + table
-        return Table(*TABLE_ANSWER.unpack(self.ask(request, TABLE_ANSWER.size)))
+        return self.read_tables([table])[0]
+
+    def read_tables(self, tables: Iterable[bytes]) -> list[Table]:
+        requests = (TABLE_REQUEST.pack(b"T", len(table)) + table for table in tables)
+        return [Table(*answer) for answer in self.ask_all(requests, TABLE_ANSWER)]
+
+    def windows(self, questions: Iterable[tuple[int, int, int, int]]) -> list[Window]:
+        """The windows of subtasks, each asked for by cost, period, phase and its number."""
+        return [Window(*answer) for answer in self.ask_all((WINDOW_REQUEST.pack(b"W", *question) for question in questions), WINDOW_ANSWER)]
 
     def run_slot(self, state: State, free: int) -> Slot:
         """One slot; bit c of `free` says that core c is free."""
@@ -177,28 +194,50 @@ class Probe:
 
     def why(self, state: State, k: int, row: int) -> Why:
         """Why a row waits in the slot about to run, with k cores free."""
-        request = WHY_REQUEST.pack(b"Y", state.raw, k, row)
-        return Why(*WHY_ANSWER.unpack(self.ask(request, WHY_ANSWER.size)))
+        return next(self.whys([(state, k, row)]))
+
+    def whys(self, questions: Iterable[tuple[State, int, int]]) -> Iterator[Why]:
+        """The same for many, each asked for by a state, k and a row; answered as they come."""
+        requests = (WHY_REQUEST.pack(b"Y", state.raw, k, row) for state, k, row in questions)
+        return (Why(*answer) for answer in self.ask_all(requests, WHY_ANSWER))
 
     def check(self, table: bytes, trace: bytes) -> Check | None:
         """The trace check, or none if the two are longer than the probe reads."""
-        request = CHECK_REQUEST.pack(b"C", len(table)) + table + CHECK_TRACE.pack(len(trace)) + trace
-        if len(request) > REQUEST_LIMIT:
+        if CHECK_REQUEST.size + len(table) + CHECK_TRACE.size + len(trace) > REQUEST_LIMIT:
             return None
-        return Check(*CHECK_ANSWER.unpack(self.ask(request, CHECK_ANSWER.size)))
+        return self.checks([(table, trace)])[0]
+
+    def checks(self, questions: Iterable[tuple[bytes, bytes]]) -> list[Check]:
+        """The trace check of tables with short traces."""
+        requests = (CHECK_REQUEST.pack(b"C", len(table)) + table + CHECK_TRACE.pack(len(trace)) + trace for table, trace in questions)
+        return [Check(*answer) for answer in self.ask_all(requests, CHECK_ANSWER)]
 
     def write_tables(self, values: Sequence[bytes]) -> list[Written]:
         """The bytes of each of some table values, asked for in one run."""
-        request = b"".join(WRITE_REQUEST.pack(b"P", value, LONGEST_TABLE, bytes(LONGEST_TABLE)) for value in values)
-        answers = WRITE_ANSWER.iter_unpack(self.ask(request, WRITE_ANSWER.size * len(values)))
-        return [Written(number, buffer[:length]) for number, length, buffer in answers]
+        requests = (WRITE_REQUEST.pack(b"P", value, LONGEST_TABLE, bytes(LONGEST_TABLE)) for value in values)
+        return [Written(number, buffer[:length]) for number, length, buffer in self.ask_all(requests, WRITE_ANSWER)]
+
+    def ask_all(self, requests: Iterable[bytes], answer: struct.Struct) -> Iterator[tuple[Any, ...]]:
+        """The answers to requests of one kind, as many of them in a run as the probe reads."""
+        run: list[bytes] = []
+        size = 0
+        for request in requests:
+            if run and size + len(request) > REQUEST_LIMIT:
+                yield from answer.iter_unpack(self.ask(b"".join(run), answer.size * len(run)))
+                run, size = [], 0
+            run.append(request)
+            size += len(request)
+        if run:
+            yield from answer.iter_unpack(self.ask(b"".join(run), answer.size * len(run)))
 
     def ask(self, request: bytes, length: int) -> bytes:
         """The answer to one request, or to several one behind the other, which has `length` bytes.
 
-        The probe reads all its requests before it answers, and a slot needs the state that the one before gave back: so a run of slots is one
-        process for each slot. It is started without a shell in between.
+        The probe reads all its requests before it answers, and a slot needs the state that the one before gave back: so what goes slot by slot is
+        asked of the archive (archive.py), and not of one process for each slot.
         """
+        if self.command is RUN:
+            building.need("probe")
         try:
             run = subprocess.run(self.command, input=request, capture_output=True)
         except OSError as error:

@@ -1,36 +1,24 @@
-"""Tables as farm planners type them: a text (table_text.py) to the table's bytes, and the bytes back to the text (02, 'Writing tables').
-
-    python3 host/desk/tables.py write TEXT FILE
-    python3 host/desk/tables.py show FILE
-
-TEXT is CSV, in UTF-8 or UTF-16; FILE is a table, byte for byte, or as hex text with comments if its name ends in .hex. TEXT, and the FILE of
-show, may be -, standard input; the FILE of write may be -, standard output. docs/TABLES.md is the planner's page.
+"""Tables as farm planners type them and as the box reads them: a text (table_text.py) to the table's bytes, and the bytes back to the text (02, 'Writing
+tables'); what is wrong with a table, and where; its load, and how many cores it needs. docs/TABLES.md is the planner's page.
 
 Whether a table is taken, and with which number it is refused, is what the proved writer and the proved reader answer through the probe: no rule of
-01 stands here, but the sum of the load, which is only shown. The writer is also asked where a fault lies (`refusal`).
-
-Exit status: 0 if it is done; 1 if the table is refused or the text has an error; 2 if the program could not do its work, for its arguments, the
-files or the probe. With 1 and 2 no file has been written, and one that was there is as it was.
+01 stands here, but the sum of the load, which is only shown. They are also asked where a fault lies (`refusal`, `place`), and how many cores are
+enough (`cores_needed`).
 """
 from __future__ import annotations
 
-import contextlib
 import io
-import os
-import secrets
-import shutil
-import sys
-from dataclasses import replace
+from dataclasses import dataclass, replace
 from typing import Sequence
 
-import endings
+import files
 import inputs
 import table_text
 import words
-from probe import CORES, ROW_PARTS, ROWS, ROWS_AT, TABLE_HEAD, TABLE_VALUE, Probe, Trouble
+from probe import CORES, LONGEST_TABLE, ROW, ROW_PARTS, ROWS, ROWS_AT, TABLE_HEAD, TABLE_VALUE, Probe
 from table_text import CYCLE_MOST, TEXT_LIMIT, Fault, Plan, Row, Typed
+from trouble import Trouble
 
-USE = "say what to do: python3 host/desk/tables.py write TEXT FILE, or python3 host/desk/tables.py show FILE"
 COUNT_MOST = 0xFF  # what the fields of the two counts hold at most
 
 ROW_COLUMNS = {16: "tank", 17: "cost", 18: "cost", 19: "period", 20: "kind"}  # where in its row a fault with this number lies
@@ -155,114 +143,113 @@ def row_comment(row: Row) -> str:
     return f"tank {row.tank}: {row.cost}/{row.period}{phase}{'' if row.kind == 0 else ', early release'}"
 
 
-def read_start(name: str) -> bytes:
-    """What a file holds; of one longer than a text may be, enough to tell that it is too long."""
-    try:
-        with open(0 if name == "-" else name, "rb", closefd=name != "-") as file:
-            return file.read(TEXT_LIMIT + 1)
-    except OSError as error:
-        raise Trouble(f"{name} cannot be read: {error.strerror}") from None
+@dataclass(frozen=True)
+class Source:
+    """A table as a file has it: its bytes, which may be refused; the text that was typed, if it is one; and what else is asked for, if the file is an
+    input of the slot printer.
+    """
+
+    name: str
+    table: bytes
+    typed: Typed | None = None
+    asked: inputs.Asked | None = None
 
 
-def read_table(name: str) -> bytes:
-    """The bytes of a table, from a file of bytes or of hex text; of very many, as many as tell the reader that they are too many."""
-    start = read_start(name)
-    if name.endswith(".hex"):
-        if len(start) > TEXT_LIMIT:
-            raise Trouble(f"{name} is longer than {TEXT_LIMIT} bytes, and no table needs so many")
-        start = inputs.unhexed(start, name)
-    return start[: inputs.INPUT_LIMIT + 1]
+def source(name: str, probe: Probe) -> Source:
+    """What a file holds: bytes or hex text of a table or of a printer's input, or a typed table, which is written. What the reader takes as a table is
+    one, whatever else it could be.
+    """
+    content = files.read(name, TEXT_LIMIT)
+    if content.is_text:
+        typed = table_text.read(content.data)
+        return Source(name, written(typed, probe), typed)
+    table = content.data[: inputs.INPUT_LIMIT + 1]  # of very many bytes, as many as tell the reader that they are too many
+    asked = inputs.split(content.data)
+    if asked is not None and probe.read_table(table).number != 0:
+        return Source(name, asked.table, asked=asked)
+    return Source(name, table)
 
 
-def save(name: str, data: bytes) -> None:
-    """Writes a file wholly, or leaves what is there as it is; without a buffer of Python's, which would try again at the end what has failed."""
-    if name == "-" and sys.stdout is None:
-        raise Trouble("the table cannot be written: standard output is closed")
-    try:
-        if name != "-" and (os.path.isfile(name) or not os.path.exists(name)):
-            supplant(os.path.realpath(name), data)  # a link stays, and leads to the new file
-            return
-        # A pipe or a device: no file may take its place.
-        with open(1 if name == "-" else name, "wb", buffering=0, closefd=name != "-") as file:
-            put(data, file)
-    except BrokenPipeError:
-        raise
-    except OSError as error:
-        raise Trouble(f"{'standard output' if name == '-' else name} cannot be written: {error.strerror}") from None
+def cores_needed(table: bytes, probe: Probe) -> int | None:
+    """The fewest cores with which the reader takes the same rows, or none if eight are not enough: it is asked of the table with 1, 2, .. cores."""
+    rest = table[6 + table[5] :]
+    asked = (table[:5] + bytes([cores, *range(cores)]) + rest for cores in range(1, 1 + CORES))
+    numbers = [read.number for read in probe.read_tables(asked)]
+    return 1 + numbers.index(0) if 0 in numbers else None
 
 
-def supplant(path: str, data: bytes) -> None:
-    """A new file takes the place of the old one in one step, once it is wholly there."""
-    beside = os.path.join(os.path.dirname(path), f".table-{secrets.token_hex(8)}")
-    with open(beside, "xb", buffering=0) as file:
-        try:
-            put(data, file)
-            os.fsync(file.fileno())  # that the disk is full may show only here
-            if os.path.exists(path):
-                open(path, "r+b").close()  # one that is protected from writing stays
-                shutil.copymode(path, beside)
-            os.replace(beside, path)
-        except BaseException:
-            with contextlib.suppress(OSError):
-                os.unlink(beside)
-            raise
+def never_late(table: bytes, plan: Plan, probe: Probe) -> str:
+    """Whether a table that is taken can ever be late (docs/NEVER-LATE.md)."""
+    needed, cores = cores_needed(table, probe), len(plan.boards)
+    if needed is None or needed > cores:
+        raise Trouble("the probe contradicts itself: it takes a table, and not with fewer cores than it has, nor with as many")
+    enough = f"at least {needed} of the {cores} cores are" if needed < cores else ("the core is" if cores == 1 else f"all {cores} cores are")
+    fewer = f"; it needs {needed}: with {words.counted(needed - 1, 'core')} the same table is refused ({words.of_number(22)})" if needed > 1 else ""
+    return f"never late from a fresh start if {enough} free in every slot (proved){fewer}"
 
 
-def put(data: bytes, file: io.FileIO) -> None:
-    while data:
-        data = data[file.write(data) :]
+def would_need(table: bytes, probe: Probe) -> str:
+    """How many cores a table would need that is refused with 22."""
+    needed = cores_needed(table, probe)
+    return f"it would need {needed} cores" if needed else f"no box has so many cores: {CORES} are the most"
 
 
-def tell(line: str) -> None:
-    """A line on standard error, if there is anybody to tell."""
-    if sys.stderr is not None:  # or it would go to standard output, behind the table
-        with contextlib.suppress(OSError):
-            print(line, file=sys.stderr, flush=True)
+def about(plan: Plan) -> str:
+    return f"{words.counted(len(plan.rows), 'tank')}; {load(plan)}"
 
 
-def write(name: str, file: str, probe: Probe) -> None:
-    """From a text to a table's bytes."""
-    if "-" not in (name, file) and os.path.realpath(name) == os.path.realpath(file):
-        raise Trouble(f"{name} and {file} are one file, and the text in it would be lost")
-    typed = table_text.read(read_start(name))
-    table = written(typed, probe)
-    said = f"{words.counted(len(table), 'byte')}, {words.counted(len(typed.plan.rows), 'tank')}; {load(typed.plan)}"
-    save(file, hex_text(table, typed.plan).encode() if file.endswith(".hex") else table)
-    tell(said)
-    if typed.not_read:  # a name that is misspelled would else go unnoticed
-        tell(unread(typed.not_read))
+def place(table: bytes, number: int, probe: Probe) -> str:
+    """Where the reader met a fault, and what stands there. It reads from the front and tests what is there: so it is asked for the table cut behind each
+    byte, and the fault lies at the end of the first cut that has its number.
+    """
+    plan = laid_out(table)
+    if number == 10:
+        return f"it ends after {words.counted(len(table), 'byte')}, {inside(table)}"
+    if number == 21:
+        return f"the last row ends after {7 + len(plan.boards) + ROW * len(plan.rows)} bytes, and there are {len(table)}"
+    if number == 22:
+        return f"{load(plan)}; {would_need(table, probe)}"
+    cuts = [table[:end] for end in range(1, 1 + min(len(table), LONGEST_TABLE))]
+    numbers = [read.number for read in probe.read_tables(cuts)]
+    if number not in numbers:
+        raise Trouble(f"the probe contradicts itself: it refuses a table with number {number}, and no part of it")
+    met = 1 + numbers.index(number)
+    if number in ROW_COLUMNS:
+        at = (met - 7 - len(plan.boards)) // ROW - 1
+        return f"row {at}, tank {plan.rows[at].tank}, bytes {met - ROW} to {met - 1}: {row_words(number, plan, at)}"
+    known = {11: f"it is {table[0]}", 12: f"it is {plan.cycle}", 13: f"it is {table[met - 1]}", 15: f"it is {table[met - 1]}"}
+    if number == 14:
+        return f"byte {met - 1}: board {table[met - 1]} after board {table[met - 2]}"
+    return f"byte {met - 1}: {known[number]}" if number in known else f"byte {met - 1}"
+
+
+def laid_out(table: bytes) -> Plan:
+    """The parts of a table's bytes as they lie there, as far as they are there, whatever they say."""
+    cores = table[5] if len(table) > 5 else 0
+    rows_at = 7 + cores
+    count = table[rows_at - 1] if len(table) >= rows_at else 0
+    whole = min(count, max(0, len(table) - rows_at) // ROW)
+    rows = ROW_PARTS.iter_unpack(table[rows_at : rows_at + ROW * whole])
+    return Plan(int.from_bytes(table[1:5], "little"), tuple(table[6 : 6 + cores]), tuple(Row(*row) for row in rows))
+
+
+def inside(table: bytes) -> str:
+    """What a table was cut in."""
+    boards_end = 6 + table[5] if len(table) > 5 else 0
+    ends = [(1, "before its format"), (5, "inside its cycle"), (6, "before its core count"), (boards_end, "inside its board numbers")]
+    for end, part in ends:
+        if len(table) < end:
+            return part
+    return "before its row count" if len(table) == boards_end else f"inside row {(len(table) - boards_end - 1) // ROW}"
+
+
+def in_form(table: bytes, plan: Plan, name: str) -> bytes:
+    """A table as the name of a file asks for: hex text, a text to type on, or the bytes."""
+    if name.lower().endswith(".hex"):
+        return hex_text(table, plan).encode()
+    return table_text.text(plan).encode() if name.lower().endswith(files.TEXT_NAMES) else table
 
 
 def unread(names: Sequence[str]) -> str:
     shown = ", ".join(map(table_text.quoted, names[:8]))
     return f"columns that are not read: {shown}" + (f" and {len(names) - 8} more" if len(names) > 8 else "")
-
-
-def show(name: str, probe: Probe) -> None:
-    """From a table's bytes to a text."""
-    for line in table_text.text(taken(read_table(name), probe)).splitlines():
-        endings.show(line, "table")
-
-
-def main(arguments: list[str], probe: Probe) -> int:
-    """Does what the arguments ask for, and returns the exit status."""
-    return endings.status("tables", lambda: run(arguments, probe))
-
-
-def run(arguments: list[str], probe: Probe) -> int:
-    word, *names = arguments or [""]
-    if (word, len(names)) not in [("write", 2), ("show", 1)] or any(name.startswith("-") and name != "-" for name in names):
-        raise Trouble(USE)
-    try:
-        if word == "write":
-            write(names[0], names[1], probe)
-        else:
-            show(names[0], probe)
-    except Fault as found:
-        tell(f"{'standard input' if names[0] == '-' else names[0]}: {found}")
-        return 1
-    return 0
-
-
-if __name__ == "__main__":
-    sys.exit(main(sys.argv[1:], Probe()))

@@ -1,31 +1,48 @@
-"""The tests of the second listing: python3 host/desk/test_cores.py. What is expected was worked out by hand, from 01 and request One of 02."""
+"""The tests of the second listing, zb slots --cores, of the inputs that it reads and of the archive that runs its slots: python3 host/desk/test_cores.py.
+What is expected was worked out by hand, from 01 and request One of 02.
+"""
 from __future__ import annotations
 
-import contextlib
-import io
 import os
 import subprocess
-import sys
 import tempfile
 import unittest
 from pathlib import Path
-from typing import Callable
+from typing import Iterator
 
+import archive
 import cores
+import files
 import inputs
-from probe import RUN, Placement, Probe, State, Trouble
-
-HERE = Path(__file__).resolve().parent
-ROOT = HERE.parent.parent
-PROGRAM = str(HERE / "cores.py")
-EXAMPLE = str(ROOT / "examples" / "three-tanks-slots.hex")
-
-# 01's example: its table, the same as a table value, and the whole input.
-TABLE = bytes.fromhex("01 03000000 02 0001 03  0A00 0200 0300 0000 00  0B00 0200 0300 0000 00  1400 0200 0300 0000 00")
-VALUE = bytes.fromhex(
-    "03000000 02 0001000000000000 03  0A00 0200 0300 0000 00  0B00 0200 0300 0000 00  1400 0200 0300 0000 00" + 29 * "000000000000000000"
+import zb
+from archive import Archive, Ran
+from probe import RUN, Check, Placement, Probe, State, first_cores
+from testing import (
+    COMMAND,
+    HERE,
+    ROOT,
+    TABLE,
+    TAKEN,
+    THREE_SLOTS,
+    TRACE,
+    VALUE,
+    EndingCase,
+    Fake,
+    FakeArchive,
+    Interrupted,
+    InterruptedArchive,
+    SlotBySlot,
+    as_process,
+    as_users_have_it,
+    needs_archive,
+    needs_probe,
+    placement,
+    ran,
+    refused,
 )
-THREE_SLOTS = b"\x24\0" + TABLE + b"\3\0" + b"\0\0"
+from trouble import Trouble
+
+EXAMPLE, MOVES, LATE = (str(ROOT / "examples" / name) for name in ("three-tanks-slots.hex", "moves.hex", "late.hex"))
 
 EXAMPLE_LISTING = """\
 slot free moves tanks on cores
@@ -66,50 +83,38 @@ moves 4
 """
 
 
-class Fake(Probe):
-    """Answers from a list, and remembers what it was asked."""
-
-    def __init__(self, *answers: bytes) -> None:
-        super().__init__()
-        self.answers = list(answers)
-        self.requests: list[bytes] = []
-
-    def ask(self, request: bytes, length: int) -> bytes:
-        self.requests.append(request)
-        return self.answers.pop(0)
-
-
-class Interrupted(Probe):
-    def ask(self, request: bytes, length: int) -> bytes:
-        raise KeyboardInterrupt
-
-
-def placement(*pairs: tuple[int, int]) -> bytes:
-    rows, on = bytes(row for row, _ in pairs), bytes(core for _, core in pairs)
-    return bytes([len(pairs)]) + rows.ljust(8, b"\0") + on.ljust(8, b"\0")
-
-
 def slot_answer(number: int, time: int, *pairs: tuple[int, int], row: int = 0, late: int = 0) -> bytes:
     """An answer to K over 01's table. The quanta in its state are left 0: nobody looks at them here."""
     state = VALUE + time.to_bytes(8, "little") + bytes(1 + 256) + placement(*pairs)
     return bytes([number, row]) + late.to_bytes(8, "little") + placement(*pairs) + state + bytes(10)
 
 
-def text(input: bytes, probe: Probe) -> str:
-    return "".join(line + "\n" for line in cores.listing(input, probe))
+def done(*pairs: tuple[int, int]) -> Ran:
+    """A slot that the archive ran, with two cores free."""
+    return Ran(0, 0, bytes([2, len(pairs), *(row for row, _ in pairs)]), pairs)
 
 
-def ran(arguments: list[str], probe: Probe, main: Callable[[list[str], Probe], int] = cores.main) -> tuple[int, str, str]:
-    """The exit status of a program of this folder, and what it wrote."""
-    out, error = io.StringIO(), io.StringIO()
-    with contextlib.redirect_stdout(out), contextlib.redirect_stderr(error):
-        status = main(arguments, probe)
-    return status, out.getvalue(), error.getvalue()
+# What two T answer of an input with 01's table: its bytes are no table, since a table's first byte is 1; the table in it is taken.
+INPUT_READ = refused(11), TAKEN
+# The three slots of 01's example.
+EXAMPLE_RUN = done((0, 0), (1, 1)), done((0, 0), (2, 1)), done((1, 0), (2, 1))
 
 
-def as_process(*arguments: str, given: bytes = b"", program: str = PROGRAM) -> tuple[int, bytes, bytes]:
-    run = subprocess.run([sys.executable, program, *arguments], input=given, capture_output=True, cwd="/")
-    return run.returncode, run.stdout, run.stderr
+def text(input: bytes, probe: Probe, archive: Archive) -> str:
+    asked = inputs.split(input)
+    assert asked is not None
+    return "".join(line + "\n" for line in zb.list_slots(asked, True, zb.Desk(probe, archive)))
+
+
+class InFolder(unittest.TestCase):
+    def setUp(self) -> None:
+        folder = tempfile.TemporaryDirectory()
+        self.addCleanup(folder.cleanup)
+        self.folder = Path(folder.name)
+
+    def file(self, name: str, data: bytes) -> str:
+        (self.folder / name).write_bytes(data)
+        return str(self.folder / name)
 
 
 class Splitting(unittest.TestCase):
@@ -130,31 +135,82 @@ class Splitting(unittest.TestCase):
         self.assertIsNotNone(inputs.split(b"\xfa\xff" + bytes(65_530) + bytes(4)))
         self.assertIsNone(inputs.split(b"\xfb\xff" + bytes(65_531) + bytes(4)))
 
+    def test_what_makes_an_input_none(self) -> None:
+        for given, words in [
+            (b"", "it is empty"),
+            (b"\x24", "it has 1 byte, and the table's length alone takes 2"),
+            (THREE_SLOTS[:-1], "the table's length says 36, so the input must have 42 bytes with 0 k values, and has 41"),
+            (bytes.fromhex("0000 0110 0000"), "it asks for 4097 slots, and 4,096 are the most"),
+            (bytes.fromhex("0000 0100 0200 0101"), "it has 2 k values for 1 slot"),
+            (bytes.fromhex("0000 0110 0100"), "the table's length says 0, so the input must have 7 bytes with 1 k value, and has 6; it asks for 4097 slots, and 4,096 are the most"),
+            (bytes(65_537), "it has more than 65,536 bytes"),
+        ]:
+            self.assertEqual(inputs.fault(given), words)
+
     def test_free(self) -> None:
         asked = inputs.Asked(b"", 3, b"\x05\x00")
         self.assertEqual([asked.free(slot, 8) for slot in range(3)], [5, 0, 8])
 
+    def test_parts_make_the_input(self) -> None:
+        self.assertEqual(inputs.Asked(TABLE, 3, b"").input(), THREE_SLOTS)
+        self.assertEqual(inputs.Asked(b"\xaa", 259, b"\x07\xff").input(), bytes.fromhex("0100 AA 0301 0200 07FF"))
 
-class Hex(unittest.TestCase):
+
+class Hex(InFolder):
     def test_digits_white_space_and_comments(self) -> None:
-        self.assertEqual(inputs.unhexed(b"# 11 \xc3\xa9\r\n0aF\t0 # 22\n\n0\n1#33", "f"), b"\x0a\xf0\x01")
-        self.assertEqual(inputs.unhexed(b"", "f"), b"")
+        self.assertEqual(files.unhexed(b"# 11 \xc3\xa9\r\n0aF\t0 # 22\n\n0\n1#33", "f"), b"\x0a\xf0\x01")
+        self.assertEqual(files.unhexed(b"", "f"), b"")
 
     def test_what_is_no_hex(self) -> None:
-        for wrong in [b"0G", b"0x01", b"00;", b"\xc3\xa9", b"012", b"0"]:
-            with self.assertRaisesRegex(Trouble, "^f has "):
-                inputs.unhexed(wrong, "f")
+        for wrong in [b"0G", b"0x01", b"00;", b"\xc3\xa9"]:
+            with self.assertRaisesRegex(Trouble, "^f, line 1, has something else than hex digits, white space and comments$"):
+                files.unhexed(wrong, "f")
+        for wrong in [b"012", b"0"]:
+            with self.assertRaisesRegex(Trouble, "^f has half a byte: "):
+                files.unhexed(wrong, "f")
+
+    def test_the_line_is_named(self) -> None:
+        for wrong, line in [(b"# zz\n01 # zz\n0G\nzz", 3), (b"\r\n\r\n\r\nzz", 4), (b"01\n02\nz", 3)]:
+            with self.assertRaisesRegex(Trouble, f"^f, line {line}, has something else than hex digits"):
+                files.unhexed(wrong, "f")
+        with self.assertRaisesRegex(Trouble, "^standard input, line 1, has "):
+            files.unhexed(b"z", "-")
 
     def test_examples(self) -> None:
-        self.assertEqual(inputs.read(EXAMPLE), THREE_SLOTS)
-        asked = inputs.split(inputs.read(str(ROOT / "examples" / "moves.hex")))
+        self.assertEqual(files.read(EXAMPLE, inputs.INPUT_LIMIT), files.Content(THREE_SLOTS, False))
+        asked = inputs.split(files.read(MOVES, inputs.INPUT_LIMIT).data)
         assert asked is not None
         self.assertEqual((len(asked.table), asked.slots, asked.listed), (47, 8, bytes([4, 2, 1, 4, 3, 0, 4, 4])))
+
+    def test_told_by_the_name(self) -> None:
+        for name in ["a.hex", "a.HEX", "a.Hex"]:
+            self.assertEqual(files.read(self.file(name, b"# 01\n"), 9), files.Content(b"", False))
+            with self.assertRaisesRegex(Trouble, f"{name}, line 1, has something else than hex digits"):
+                files.read(self.file(name, b"cycle"), 9)
+        for name in ["a.csv", "a.TXT", "a.tsv"]:
+            self.assertEqual(files.read(self.file(name, b"01"), 9), files.Content(b"01", True))
+
+    def test_told_by_what_is_there(self) -> None:
+        hexed = Path(EXAMPLE).read_bytes()
+        self.assertEqual(files.read(self.file("a", hexed), 99), files.Content(THREE_SLOTS, False))
+        self.assertEqual(files.read(self.file("b", b"\n 0\r\n1 # one"), 99), files.Content(b"\1", False))
+        with files.opened(self.file("a", hexed)) as file:
+            self.assertEqual(file.read(), THREE_SLOTS)
+        # Bytes, an empty file, a comment alone, whose digits do not count, and a text that begins as hex would.
+        for data, is_text in [(THREE_SLOTS, False), (TABLE, False), (TRACE, False), (b"", False), (b"# 0a\n", True), (b"ab,\n", True)]:
+            self.assertEqual(files.read(self.file("c", data), 99), files.Content(data, is_text))
+            with files.opened(self.file("c", data)) as file:
+                self.assertEqual(file.read(), data)
+
+    def test_no_more_is_read_than_is_asked_for(self) -> None:
+        self.assertEqual(files.read(self.file("a", bytes(100)), 9).data, bytes(10))
+        self.assertEqual(files.read(self.file("a.hex", 100 * b"00"), 9).data, bytes(10))
+        self.assertEqual(files.read("/dev/zero", 9).data, bytes(10))
 
 
 class Requests(unittest.TestCase):
     def test_table(self) -> None:
-        fake = Fake(b"\0" + VALUE)
+        fake = Fake(TAKEN)
         table = fake.read_table(TABLE)
         self.assertEqual(fake.requests, [b"T\x24\0\0\0" + TABLE])
         self.assertEqual((table.number, table.value, table.cores), (0, VALUE, 2))
@@ -163,7 +219,7 @@ class Requests(unittest.TestCase):
     def test_slot(self) -> None:
         zeros = bytes(8 + 1 + 32 * 8 + 17)  # time, mark, quanta and memory of a fresh state
         after = VALUE + bytes.fromhex("0102000000000000 00" + 2 * "0100000000000000") + bytes(30 * 8) + placement((0, 1), (2, 0))
-        fake = Fake(b"\0" + VALUE, b"\x01\x02" + bytes.fromhex("0102000000000000") + placement((0, 1), (2, 0)) + after + bytes(10))
+        fake = Fake(TAKEN, b"\x01\x02" + bytes.fromhex("0102000000000000") + placement((0, 1), (2, 0)) + after + bytes(10))
         answer = fake.run_slot(fake.read_table(TABLE).fresh(), 0x80000003)
         self.assertEqual(fake.requests[1], b"K" + VALUE + zeros + bytes.fromhex("03000080" "0000000000000000" "0A000000") + bytes(10))
         self.assertEqual((answer.number, answer.row, answer.time), (1, 2, 513))
@@ -171,17 +227,107 @@ class Requests(unittest.TestCase):
         self.assertEqual(answer.state, State(after))
         self.assertEqual((answer.state.time, answer.state.memory), (513, answer.placement))
 
+    def test_slots_one_after_the_other(self) -> None:
+        # Each K has the state that the one before gave back: the times are 0, 1 and 2, and in the last the memory is that of slot 1.
+        fake = Fake(TAKEN, slot_answer(0, 1, (0, 0), (1, 1)), slot_answer(0, 2, (0, 0), (2, 1)), slot_answer(0, 3, (1, 0), (2, 1)))
+        self.assertEqual([slot.pairs for slot in SlotBySlot(fake).run(TABLE, b"\2\2\2")], [slot.pairs for slot in EXAMPLE_RUN])
+        self.assertEqual([request[:1] for request in fake.requests], [b"T", b"K", b"K", b"K"])
+        self.assertEqual([request[303:311] for request in fake.requests[1:]], [bytes([time]) + bytes(7) for time in range(3)])
+        self.assertEqual(fake.requests[3][568:585], placement((0, 0), (2, 1)))
+
+    def test_the_cores_of_each_slot(self) -> None:
+        fake = Fake(TAKEN, slot_answer(0, 1), slot_answer(0, 2), slot_answer(1, 3, row=2, late=3))
+        self.assertEqual([slot.number for slot in SlotBySlot(fake).run(TABLE, b"\2\1\x28\0")], [0, 0, 1])
+        self.assertEqual([request[585:589] for request in fake.requests[1:]], [b"\3\0\0\0", b"\1\0\0\0", b"\xff\xff\xff\xff"])
+
     def test_set_of_the_first_cores(self) -> None:
         for k, free in [(0, 0), (1, 1), (2, 3), (8, 0xFF), (9, 0x1FF), (31, 0x7FFFFFFF), (32, 0xFFFFFFFF), (33, 0xFFFFFFFF), (255, 0xFFFFFFFF)]:
-            self.assertEqual(cores.first_cores(k), free)
+            self.assertEqual(first_cores(k), free)
 
-    def test_the_program_stands_beside_this_folder(self) -> None:
+    def test_the_programs_stand_beside_this_folder(self) -> None:
         self.assertEqual(RUN, (str(ROOT / "host" / "run"), "probe"))
+        self.assertEqual(archive.COMMAND, (str(ROOT / "host" / "run"), "desk"))
+
+    def test_a_probe_that_names_more_rows_than_there_are_cores(self) -> None:
+        plain = slot_answer(0, 1)
+        with self.assertRaisesRegex(Trouble, "^the probe names 9 rows in one slot"):
+            Fake(plain[:10] + b"\x09" + plain[11:]).run_slot(State(bytes(584)), 0)
+
+
+class Archives(InFolder):
+    """What the archive's program is asked, and what is made of its answers."""
+
+    def program(self, answers: bytes) -> Archive:
+        """A program that keeps its words and what it is given, and that answers this."""
+        self.file("answers", answers)
+        return Archive(["/bin/sh", "-c", 'cat >"$0/given"; echo "$@" >"$0/words"; cat "$0/answers"', str(self.folder)])
+
+    def asked(self) -> tuple[str, bytes]:
+        return (self.folder / "words").read_text(), (self.folder / "given").read_bytes()
+
+    # An entry has the record (10 bytes), the core of each of its rows (8), the number and the row.
+    FIRST = bytes.fromhex("02 02 00 01 000000000000  00 01 000000000000  00 00")
+    SECOND = bytes.fromhex("01 01 02 00000000000000  01 00000000000000  00 00")
+
+    def test_slots(self) -> None:
+        answered = list(self.program(self.FIRST + self.SECOND).run(TABLE, b"\2\1"))
+        self.assertEqual(answered, [Ran(0, 0, b"\2\2\0\1", ((0, 0), (1, 1))), Ran(0, 0, b"\1\1\2", ((2, 1),))])
+        self.assertEqual([slot.cores for slot in answered], [{0: 0, 1: 1}, {2: 1}])
+        self.assertEqual(self.asked(), ("run 36\n", TABLE + b"\2\1"))
+
+    def test_eight_rows_and_none(self) -> None:
+        full = bytes([8, 8, *range(8)]) + bytes(range(7, -1, -1)) + b"\0\0"
+        pairs = tuple((row, 7 - row) for row in range(8))
+        self.assertEqual(list(self.program(full + bytes(20)).run(b"", b"\x08\0")), [Ran(0, 0, bytes([8, 8, *range(8)]), pairs), Ran(0, 0, b"\0\0", ())])
+        self.assertEqual(self.asked(), ("run 0\n", b"\x08\0"))
+        self.assertEqual(list(self.program(b"").run(TABLE, b"")), [])
+
+    def test_a_slot_after_which_a_row_is_late_is_the_last(self) -> None:
+        late = self.SECOND[:-2] + b"\1\2"
+        answered = list(self.program(self.FIRST + late + self.FIRST).run(TABLE, b"\2\1\2"))
+        self.assertEqual(answered[1:], [Ran(1, 2, b"\1\1\2", ((2, 1),))])
+
+    def test_a_refused_slot_has_no_record(self) -> None:
+        # Its bytes stay as they were, whatever they were.
+        answered = list(self.program(self.FIRST[:-2] + b"\x23\0" + self.FIRST).run(TABLE, b"\x28\2"))
+        self.assertEqual(answered, [Ran(35, 0, b"", ())])
+
+    def test_check(self) -> None:
+        with open(self.file("trace", TRACE), "rb") as trace:
+            self.assertEqual(self.program(bytes.fromhex("2D 02 0102000000000000")).check(TABLE, trace), Check(45, 2, 513))
+        self.assertEqual(self.asked(), ("judge 36\n", TABLE + TRACE))
+
+    def test_a_check_of_what_is_left_of_a_trace(self) -> None:
+        # Longer than what is read at once, 1 MiB.
+        long = TRACE + bytes(3_000_000)
+        with open(self.file("trace", long), "rb") as trace:
+            trace.seek(3)
+            self.assertEqual(self.program(bytes(10)).check(b"\7", trace), Check(0, 0, 0))
+        self.assertEqual(self.asked(), ("judge 1\n", b"\7" + long[3:]))
+
+    def test_answers_that_are_cut(self) -> None:
+        for answers in [b"\0", self.FIRST[:-1], self.FIRST + self.SECOND[:-1]]:
+            with self.assertRaisesRegex(Trouble, "^the archive was cut short$"):
+                list(self.program(answers).run(TABLE, b"\2\2"))
+        for answers in [b"", bytes(9), bytes(11)]:
+            with self.assertRaisesRegex(Trouble, "^the archive was cut short$"), open(self.file("trace", TRACE), "rb") as trace:
+                self.program(answers).check(TABLE, trace)
+
+    def test_an_archive_that_does_not_answer(self) -> None:
+        for command, words in [
+            ([str(HERE / "none")], "^the archive does not start: "),
+            (["/bin/sh", "-c", "echo it is >&2; echo not built >&2; exit 2"], "^it is not built$"),
+            (["/bin/sh", "-c", "exit 3"], "^the archive ended with status 3$"),
+        ]:
+            with as_users_have_it(), self.assertRaisesRegex(Trouble, words):
+                list(Archive(command).run(TABLE, b"\2"))
+            with as_users_have_it(), self.assertRaisesRegex(Trouble, words), open(EXAMPLE, "rb") as trace:
+                Archive(command).check(TABLE, trace)
 
 
 class Moves(unittest.TestCase):
     def count(self, before: dict[int, int], now: dict[int, int]) -> int:
-        return cores.moves(Placement(tuple(before.items())), Placement(tuple(now.items())))
+        return cores.moves(before, now.items())
 
     def test_none(self) -> None:
         self.assertEqual(self.count({}, {0: 0, 1: 1}), 0)
@@ -195,117 +341,254 @@ class Moves(unittest.TestCase):
         self.assertEqual(self.count({1: 1, 2: 2, 3: 3}, {0: 3, 2: 0, 3: 1}), 2)
 
 
-class Listings(unittest.TestCase):
+class OneByOne(FakeArchive):
+    """Has no second slot yet."""
+
+    def run(self, table: bytes, listed: bytes) -> Iterator[Ran]:
+        yield done((0, 0), (1, 1))
+        raise AssertionError("the second slot was asked for")
+
+
+class Listings(InFolder):
     def test_example(self) -> None:
-        fake = Fake(b"\0" + VALUE, slot_answer(0, 1, (0, 0), (1, 1)), slot_answer(0, 2, (0, 0), (2, 1)), slot_answer(0, 3, (1, 0), (2, 1)))
-        self.assertEqual(text(THREE_SLOTS, fake), EXAMPLE_LISTING)
-        self.assertEqual([request[:1] for request in fake.requests], [b"T", b"K", b"K", b"K"])
-        self.assertEqual([request[303:311] for request in fake.requests[1:]], [bytes([time]) + bytes(7) for time in range(3)])
-        self.assertEqual(fake.requests[3][568:585], placement((0, 0), (2, 1)))
+        fake, ours = Fake(TAKEN), FakeArchive(EXAMPLE_RUN)
+        self.assertEqual(text(THREE_SLOTS, fake, ours), EXAMPLE_LISTING)
+        self.assertEqual(fake.requests, [b"T\x24\0\0\0" + TABLE])
+        self.assertEqual(ours.asked, [(TABLE, b"\2\2\2")])
 
     def test_lines_come_one_by_one(self) -> None:
-        fake = Fake(b"\0" + VALUE, slot_answer(0, 1, (0, 0), (1, 1)))
-        lines = cores.listing(THREE_SLOTS, fake)
+        asked = inputs.split(THREE_SLOTS)
+        assert asked is not None
+        lines = zb.list_slots(asked, True, zb.Desk(Fake(TAKEN), OneByOne()))
         self.assertEqual([next(lines), next(lines)], [cores.HEADER, "0 2 0 10@0 11@1"])
 
     def test_late_with_a_move(self) -> None:
-        fake = Fake(b"\0" + VALUE, slot_answer(0, 1, (0, 0), (1, 1)), slot_answer(1, 2, (1, 0), row=2, late=2))
+        ours = FakeArchive([done((0, 0), (1, 1)), Ran(1, 2, b"\1\1\1", ((1, 0),))])
         said = "0 2 0 10@0 11@1\n1 1 1 11@0\nlate 2 20\nmoves 1\n"
-        self.assertEqual(text(THREE_SLOTS[:-2] + b"\2\0\2\1", fake), cores.HEADER + "\n" + said)
-        self.assertEqual([request[585:589] for request in fake.requests[1:]], [b"\3\0\0\0", b"\1\0\0\0"])
+        self.assertEqual(text(THREE_SLOTS[:-2] + b"\2\0\2\1", Fake(TAKEN), ours), cores.HEADER + "\n" + said)
+        self.assertEqual(ours.asked, [(TABLE, b"\2\1\2")])
 
     def test_refused_slot(self) -> None:
-        fake = Fake(b"\0" + VALUE, slot_answer(0, 1), slot_answer(35, 1))
-        self.assertEqual(text(THREE_SLOTS[:-2] + b"\2\0\0\x28", fake), cores.HEADER + "\n0 0 0\nrefused 35\n")
-        self.assertEqual(fake.requests[2][585:589], b"\xff\xff\xff\xff")
+        ours = FakeArchive([Ran(0, 0, b"\0\0", ()), Ran(35, 0, b"", ())])
+        self.assertEqual(text(THREE_SLOTS[:-2] + b"\2\0\0\x28", Fake(TAKEN), ours), cores.HEADER + "\n0 0 0\nrefused 35\n")
+        self.assertEqual(ours.asked, [(TABLE, b"\0\x28\2")])
 
     def test_refused_table(self) -> None:
-        self.assertEqual(text(THREE_SLOTS, Fake(b"\x16" + bytes(302))), "refused 22\n")
-
-    def test_input_asks_nothing(self) -> None:
-        self.assertEqual(text(THREE_SLOTS + b"\0", Fake()), "input\n")
+        ours = FakeArchive()
+        self.assertEqual(text(THREE_SLOTS, Fake(refused(22)), ours), "refused 22\n")
+        self.assertEqual(ours.asked, [])
 
     def test_no_slots(self) -> None:
-        self.assertEqual(text(b"\x24\0" + TABLE + bytes(4), Fake(b"\0" + VALUE)), cores.HEADER + "\nend 0\nmoves 0\n")
+        self.assertEqual(text(b"\x24\0" + TABLE + bytes(4), Fake(TAKEN), FakeArchive()), cores.HEADER + "\nend 0\nmoves 0\n")
+
+    def test_a_row_that_moves_back(self) -> None:
+        # Row 0 goes from core 0 to core 1 and back: two moves. Row 1, which did not run in slot 1, has none.
+        ours = FakeArchive([done((0, 0), (1, 1)), done((0, 1)), done((0, 0), (1, 1))])
+        said = "0 2 0 10@0 11@1\n1 2 1 10@1\n2 2 1 10@0 11@1\nend 3\nmoves 2\n"
+        self.assertEqual(text(THREE_SLOTS, Fake(TAKEN), ours), cores.HEADER + "\n" + said)
 
 
-class Endings(unittest.TestCase):
-    def assert_trouble(self, arguments: list[str], probe: Probe, words: str) -> None:
-        status, out, error = ran(arguments, probe)
-        self.assertEqual((status, out), (2, ""))
-        self.assertRegex(error, f"^cores: .*{words}.*\n$")
+class Command(InFolder):
+    """zb slots FILE --cores: the listing, words on how it ended, and the exit status."""
 
+    def printed(self, input: bytes, probe: Probe, archive: Archive, *options: str) -> tuple[int, str, str]:
+        return ran(["slots", self.file("input", input), "--cores", *options], probe, archive)
+
+    def test_end(self) -> None:
+        fake, ours = Fake(*INPUT_READ), FakeArchive(EXAMPLE_RUN)
+        self.assertEqual(self.printed(THREE_SLOTS, fake, ours), (0, EXAMPLE_LISTING, ""))
+        self.assertEqual(fake.requests, [b"T\x2a\0\0\0" + THREE_SLOTS, b"T\x24\0\0\0" + TABLE])
+        self.assertEqual(ours.asked, [(TABLE, b"\2\2\2")])
+
+    def test_late(self) -> None:
+        ours = FakeArchive([done((0, 0), (1, 1)), Ran(1, 2, b"\1\1\1", ((1, 0),))])
+        status, out, error = self.printed(THREE_SLOTS[:-2] + b"\2\0\2\1", Fake(*INPUT_READ), ours)
+        self.assertEqual((status, out), (1, cores.HEADER + "\n0 2 0 10@0 11@1\n1 1 1 11@0\nlate 2 20\nmoves 1\n"))
+        self.assertRegex(error, "^zb: tank 20 is late at time 2: .*\n$")
+
+    def test_refused_slot(self) -> None:
+        status, out, error = self.printed(THREE_SLOTS[:-2] + b"\1\0\x28", Fake(*INPUT_READ), FakeArchive([Ran(35, 0, b"", ())]))
+        self.assertEqual((status, out), (1, cores.HEADER + "\nrefused 35\n"))
+        self.assertRegex(error, "^zb: 35, a set naming a core not below M, or a printer's k above M: .*\n$")
+
+    def test_refused_table(self) -> None:
+        ours = FakeArchive()
+        status, out, error = self.printed(THREE_SLOTS, Fake(refused(11), refused(22)), ours)
+        self.assertEqual((status, out, ours.asked), (1, "refused 22\n", []))
+        self.assertRegex(error, "^zb: 22, sum above M\\*L: .*\n$")
+
+    def test_input_runs_nothing(self) -> None:
+        fake, ours = Fake(refused(11)), FakeArchive()
+        words = "zb: input: the slot printer prints 4096 slots at most, and not 4097\n"
+        self.assertEqual(self.printed(THREE_SLOTS, fake, ours, "--slots", "4097"), (1, "input\n", words))
+        self.assertEqual(([request[:1] for request in fake.requests], ours.asked), ([b"T"], []))
+
+    def test_what_is_neither_input_nor_table(self) -> None:
+        # One byte too many: no input. The first byte is its length's, 0x24, and a table's is 1, so it was to be an input.
+        fake, ours = Fake(refused(11)), FakeArchive()
+        words = "zb: input: the table's length says 36, so the input must have 42 bytes with 0 k values, and has 43\n"
+        self.assertEqual(self.printed(THREE_SLOTS + b"\0", fake, ours), (1, "input\n", words))
+        self.assertEqual((fake.requests, ours.asked), ([b"T\x2b\0\0\0" + THREE_SLOTS + b"\0"], []))
+
+    def test_a_cut_table_is_a_table(self) -> None:
+        fake, ours = Fake(refused(10), refused(10)), FakeArchive()
+        status, out, error = self.printed(TABLE[:-1], fake, ours)
+        self.assertEqual((status, out, ours.asked), (1, "refused 10\n", []))
+        self.assertRegex(error, "^zb: 10, table ends inside a field or row: .*\n$")
+
+    def test_a_table(self) -> None:
+        # Its cycle has 3 slots, and 2 cores are free in each: these are the slots of 01's example.
+        for data in [TABLE, TABLE.hex().encode()]:
+            fake, ours = Fake(TAKEN, TAKEN), FakeArchive(EXAMPLE_RUN)
+            self.assertEqual(self.printed(data, fake, ours), (0, EXAMPLE_LISTING, ""))
+            self.assertEqual(fake.requests, 2 * [b"T\x24\0\0\0" + TABLE])
+            self.assertEqual(ours.asked, [(TABLE, b"\2\2\2")])
+
+    def test_other_slots_than_the_file_has(self) -> None:
+        ours = FakeArchive([done(), done((0, 1))])
+        said = cores.HEADER + "\n0 0 0\n1 1 0 10@1\nend 2\nmoves 0\n"
+        self.assertEqual(self.printed(THREE_SLOTS, Fake(*INPUT_READ), ours, "--slots", "2", "--free", "0,1,2"), (0, said, ""))
+        self.assertEqual(ours.asked, [(TABLE, b"\0\1")])
+
+
+class Endings(EndingCase):
     def test_wrong_use(self) -> None:
-        for arguments in [[], ["a", "b"], ["--help"]]:
-            self.assert_trouble(arguments, Fake(), "name one input")
+        self.assert_trouble(["slots", "--cores"], Fake(), "FILE .see: zb slots --help.")
+        self.assert_trouble(["slots", "--cores", "a", "b"], Fake(), "unrecognized arguments: b")
+        self.assert_trouble(["slots", "--cores", "-x"], Fake(), "FILE .see: zb slots --help.")
+        self.assert_trouble(["slots", "--cores", "a", "-x"], Fake(), "unrecognized arguments: -x")
+        status, out, error = ran([], Fake())
+        self.assertEqual((status, out), (2, ""))
+        self.assertRegex(error, "^usage: zb ")
+        self.assert_help(["slots"], "zb slots")
 
     def test_a_file_that_cannot_be_read(self) -> None:
-        self.assert_trouble([str(HERE / "none")], Fake(), "cannot be read")
-        self.assert_trouble([str(HERE)], Fake(), "cannot be read")
+        for wrong in [str(HERE / "none"), str(HERE)]:
+            self.assert_trouble(["slots", "--cores", wrong], Fake(), f"{wrong} cannot be read")
 
     def test_bad_hex(self) -> None:
-        with tempfile.NamedTemporaryFile(suffix=".hex") as file:
-            file.write(b"2400 zz")
-            file.flush()
-            self.assert_trouble([file.name], Fake(), "hex digits")
+        for suffix in [".hex", ".HEX"]:
+            with tempfile.NamedTemporaryFile(suffix=suffix) as file:
+                file.write(b"# an input\n2400 zz")
+                file.flush()
+                self.assert_trouble(["slots", "--cores", file.name], Fake(), f"{file.name}, line 2, has something else than hex digits")
 
     def test_a_probe_that_does_not_answer(self) -> None:
-        self.assert_trouble([EXAMPLE], Probe([str(HERE / "none")]), "does not start")
-        self.assert_trouble([EXAMPLE], Probe(["/bin/sh", "-c", "echo it is not built >&2; exit 2"]), "it is not built")
-        self.assert_trouble([EXAMPLE], Probe(["/bin/sh", "-c", "exit 3"]), "status 3")
-        self.assert_trouble([EXAMPLE], Probe(["/bin/sh", "-c", "printf '\\377'"]), "1 bytes answer T, not 303")
+        asked = ["slots", "--cores", EXAMPLE]
+        self.assert_trouble(asked, Probe([str(HERE / "none")]), "does not start")
+        self.assert_trouble(asked, Probe(["/bin/sh", "-c", "echo it is not built >&2; exit 2"]), "it is not built")
+        self.assert_trouble(asked, Probe(["/bin/sh", "-c", "exit 3"]), "status 3")
+        self.assert_trouble(asked, Probe(["/bin/sh", "-c", "printf '\\377'"]), "1 bytes answer T, not 303")
 
-    def test_a_probe_that_names_what_is_not_there(self) -> None:
-        plain = slot_answer(0, 1)
-        nine_rows = plain[:10] + b"\x09" + plain[11:]
-        for wild in [nine_rows, slot_answer(0, 1, (32, 0)), slot_answer(1, 1, row=32, late=1)]:
-            status, _, error = ran([EXAMPLE], Fake(b"\0" + VALUE, wild))
+    def test_an_archive_that_does_not_answer(self) -> None:
+        for command, words in [
+            ([str(HERE / "none")], "the archive does not start"),
+            (["/bin/sh", "-c", "echo it is not built >&2; exit 2"], "it is not built"),
+            (["/bin/sh", "-c", "exit 3"], "status 3"),
+            (["/bin/sh", "-c", "printf '\\377'"], "cut short"),
+        ]:
+            self.assert_trouble(["slots", "--cores", EXAMPLE], Fake(*INPUT_READ), words, Archive(command), cores.HEADER + "\n")
+
+    def test_an_archive_that_names_what_is_not_there(self) -> None:
+        for wild in [done((32, 0)), Ran(1, 32, b"\2\0", ())]:
+            status, _, error = ran(["slots", "--cores", EXAMPLE], Fake(*INPUT_READ), FakeArchive([wild]))
             self.assertEqual(status, 2)
-            self.assertRegex(error, "^cores: the probe names .*\n$")
+            self.assertRegex(error, "^zb: the probe names row 32.*\n$")
 
     def test_interrupted(self) -> None:
-        self.assertEqual(ran([EXAMPLE], Interrupted()), (130, "", ""))
+        self.assertEqual(ran(["slots", "--cores", EXAMPLE], Interrupted()), (130, "", ""))
+        self.assertEqual(ran(["slots", "--cores", EXAMPLE], Fake(*INPUT_READ), InterruptedArchive()), (130, cores.HEADER + "\n", ""))
+
+
+@needs_probe
+class AgainstProbe(unittest.TestCase):
+    """Slots that the probe runs, one after the other."""
+
+    def setUp(self) -> None:
+        self.archive: Archive = SlotBySlot(Probe())
+
+    def assert_listed(self, input: bytes, expected: str) -> None:
+        self.assertEqual(text(input, Probe(), self.archive), expected)
+
+    def test_example(self) -> None:
+        self.assert_listed(THREE_SLOTS, EXAMPLE_LISTING)
+
+    def test_moves(self) -> None:
+        self.assert_listed(files.read(MOVES, inputs.INPUT_LIMIT).data, MOVES_LISTING)
+
+    def test_k_above_the_cores(self) -> None:
+        for k in [3, 9, 32, 255]:
+            self.assert_listed(THREE_SLOTS[:-2] + bytes([2, 0, 2, k]), cores.HEADER + "\n0 2 0 10@0 11@1\nrefused 35\n")
+
+    def test_late(self) -> None:
+        self.assert_listed(files.read(LATE, inputs.INPUT_LIMIT).data, cores.HEADER + "\n0 0 0\n1 0 0\nlate 2 10\nmoves 0\n")
+
+    def test_no_slots(self) -> None:
+        self.assert_listed(b"\x24\0" + TABLE + bytes(4), cores.HEADER + "\nend 0\nmoves 0\n")
+
+    def test_refused_table(self) -> None:
+        self.assert_listed(b"\x23\0" + TABLE[:-1] + b"\3\0\0\0", "refused 10\n")
+
+
+@needs_archive
+class AgainstArchive(AgainstProbe):
+    """The same slots, and others, run by the archive."""
+
+    def setUp(self) -> None:
+        self.archive = Archive()
+
+    def test_as_the_probe(self) -> None:
+        for name in ["three-tanks-slots.hex", "four-cores.hex", "full-box.hex", "moves.hex", "late.hex"]:
+            asked = inputs.split(files.read(str(ROOT / "examples" / name), inputs.INPUT_LIMIT).data)
+            assert asked is not None
+            table = Probe().read_table(asked.table)
+            listed = bytes(asked.free(slot, table.cores) for slot in range(asked.slots))
+            self.assertEqual(list(self.archive.run(asked.table, listed)), list(SlotBySlot(Probe()).run(asked.table, listed)), name)
+
+    def test_command(self) -> None:
+        self.assertEqual(as_process("slots", EXAMPLE, "--cores"), (0, EXAMPLE_LISTING.encode(), ""))
+        self.assertEqual(as_process("slots", str(ROOT / "examples" / "three-tanks.csv"), "--cores"), (0, EXAMPLE_LISTING.encode(), ""))
+        status, out, error = as_process("slots", LATE, "--cores")
+        self.assertEqual((status, out.splitlines()[-2:]), (1, [b"late 2 10", b"moves 0"]))
+        self.assertRegex(error, "^zb: tank 10 is late at time 2: .*\n$")
+
+
+@needs_probe
+class ProgramAgainstProbe(unittest.TestCase):
+    """The command itself, where the table is refused and no slot runs."""
+
+    def assert_refused(self, number: int, words: str, given: bytes, command: str = COMMAND) -> None:
+        status, out, error = as_process("slots", "-", "--cores", given=given, command=command)
+        self.assertEqual((status, out.decode()), (1, f"refused {number}\n"))
+        self.assertRegex(error, f"^zb: {number}, {words}: .*\n$")
+
+    def assert_input(self, words: str, given: bytes, command: str = COMMAND) -> None:
+        self.assertEqual(as_process("slots", "-", "--cores", given=given, command=command), (1, b"input\n", f"zb: input: {words}\n"))
 
     def test_standard_input(self) -> None:
-        self.assertEqual(as_process("-", given=THREE_SLOTS + b"\0"), (0, b"input\n", b""))
-        self.assertEqual(as_process("-", given=bytes(70_000)), (0, b"input\n", b""))
+        self.assert_input("the table's length says 36, so the input must have 42 bytes with 0 k values, and has 43", THREE_SLOTS + b"\0")
+        self.assert_input("it has more than 65,536 bytes", bytes(70_000))
+        self.assert_input("it is empty", b"")
+
+    def test_input(self) -> None:
+        words = "zb: input: the slot printer prints 4096 slots at most, and not 5000\n"
+        self.assertEqual(as_process("slots", "-", "--cores", "--slots", "5000", given=THREE_SLOTS), (1, b"input\n", words))
+
+    def test_cut_table(self) -> None:
+        self.assert_refused(10, "table ends inside a field or row", b"\x23\0" + TABLE[:-1] + bytes(4))
 
     def test_through_a_symlink(self) -> None:
         with tempfile.TemporaryDirectory() as folder:
             link = os.path.join(folder, "link")
-            os.symlink(PROGRAM, link)
-            self.assertEqual(as_process("-", program=link), (0, b"input\n", b""))
+            os.symlink(COMMAND, link)
+            self.assert_input("it is empty", b"", link)
 
     def test_closed_pipe(self) -> None:
         reading, writing = os.pipe()
         os.close(reading)
-        run = subprocess.run([sys.executable, PROGRAM, "-"], input=b"", stdout=writing, stderr=subprocess.PIPE)
+        run = subprocess.run([COMMAND, "slots", "-", "--cores"], input=b"", stdout=writing, stderr=subprocess.PIPE)
         os.close(writing)
         self.assertEqual((run.returncode, run.stderr), (141, b""))
-
-
-@unittest.skipUnless((ROOT / "target" / "bin" / "probe").exists(), "target/bin/probe is not built: rt check probe")
-class AgainstProbe(unittest.TestCase):
-    def test_example(self) -> None:
-        self.assertEqual(as_process(EXAMPLE), (0, EXAMPLE_LISTING.encode(), b""))
-
-    def test_moves(self) -> None:
-        self.assertEqual(text(inputs.read(str(ROOT / "examples" / "moves.hex")), Probe()), MOVES_LISTING)
-
-    def test_k_above_the_cores(self) -> None:
-        for k in [3, 9, 32, 255]:
-            given = THREE_SLOTS[:-2] + bytes([2, 0, 2, k])
-            self.assertEqual(text(given, Probe()), cores.HEADER + "\n0 2 0 10@0 11@1\nrefused 35\n")
-
-    def test_late(self) -> None:
-        said = "0 0 0\n1 0 0\nlate 2 10\nmoves 0\n"
-        self.assertEqual(text(inputs.read(str(ROOT / "examples" / "late.hex")), Probe()), cores.HEADER + "\n" + said)
-
-    def test_input(self) -> None:
-        self.assertEqual(as_process("-", given=THREE_SLOTS + b"\0"), (0, b"input\n", b""))
-
-    def test_cut_table(self) -> None:
-        self.assertEqual(as_process("-", given=b"\x23\0" + TABLE[:-1] + bytes(4)), (0, b"refused 10\n", b""))
 
 
 if __name__ == "__main__":

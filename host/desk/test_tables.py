@@ -1,5 +1,5 @@
-"""The tests of tables as planners type them: python3 host/desk/test_tables.py. What is expected was worked out by hand, from 01 and request Five of
-02; where a class says AgainstProbe, the probe must be built and know how to write a table.
+"""The tests of tables as planners type them, and of zb table: python3 host/desk/test_tables.py. What is expected was worked out by hand, from 01 and
+request Five of 02; where a class says AgainstProbe, the probe must be built and know how to write a table.
 """
 from __future__ import annotations
 
@@ -8,24 +8,24 @@ import resource
 import shlex
 import stat
 import subprocess
-import sys
 import tempfile
 import unittest
 from pathlib import Path
 
+import files
 import inputs
 import table_text
 import tables
-import test_cores
-from probe import Probe, Trouble, Written
+import testing
+from probe import Probe, Written
 from table_text import Fault, Plan, Row, Typed
-from test_cores import HERE, ROOT, TABLE, VALUE, Fake, Interrupted
+from testing import COMMAND, HERE, ROOT, TABLE, TAKEN, THREE_SLOTS, VALUE, EndingCase, Fake, Interrupted, needs_probe, refused
+from trouble import Trouble
 
-PROGRAM = str(HERE / "tables.py")
 THREE_TANKS, FARM = (str(ROOT / "examples" / name) for name in ("three-tanks.csv", "farm.csv"))
 PAGE = ROOT / "docs" / "TABLES.md"
 
-# 01's example, as test_cores has its bytes.
+# 01's example, as testing.py has its bytes.
 THREE = Plan(3, (0, 1), (Row(10, 2, 3, 0, 0), Row(11, 2, 3, 0, 0), Row(20, 2, 3, 0, 0)))
 THREE_TEXT = "cycle,3\nboards,0,1\ntank,cost,period,phase,kind\n10,2,3,0,plain\n11,2,3,0,plain\n20,2,3,0,plain\n"
 THREE_HEX = """\
@@ -56,6 +56,10 @@ def typed(text: str) -> Typed:
     return table_text.read(text.encode())
 
 
+def example(name: str) -> bytes:
+    return files.read(str(ROOT / "examples" / name), inputs.INPUT_LIMIT).data
+
+
 def write_answer(number: int, table: bytes = b"") -> bytes:
     """An answer to P: number, bytes written, and the buffer of 303 bytes."""
     return bytes([number]) + len(table).to_bytes(8, "little") + table.ljust(303, b"\0")
@@ -66,18 +70,17 @@ def refusing(*numbers: int) -> Fake:
     return Fake(b"".join(write_answer(number) for number in numbers))
 
 
-def taking(table: bytes, parts: int) -> Fake:
-    """The same for a table that is taken, and that has so many boards and rows together."""
-    return Fake(write_answer(0, table) + parts * write_answer(0, b"\1"))
+def taking(table: bytes, parts: int, value: bytes = VALUE) -> Fake:
+    """The same for a table that is taken, and that has so many boards and rows together; with this value it is read again."""
+    return Fake(write_answer(0, table) + parts * write_answer(0, b"\1"), b"\0" + value.ljust(302, b"\0"))
 
 
 def ran(arguments: list[str], probe: Probe) -> tuple[int, str, str]:
-    return test_cores.ran(arguments, probe, tables.main)
+    return testing.ran(["table", *arguments], probe)
 
 
-def as_process(*arguments: str, given: bytes = b"", program: str = PROGRAM) -> tuple[int, bytes, str]:
-    status, out, error = test_cores.as_process(*arguments, given=given, program=program)
-    return status, out, error.decode()
+def as_process(*arguments: str, given: bytes = b"", command: str = COMMAND) -> tuple[int, bytes, str]:
+    return testing.as_process("table", *arguments, given=given, command=command)
 
 
 class FaultCase(unittest.TestCase):
@@ -264,7 +267,7 @@ class Spelling(unittest.TestCase):
 
     def test_hex(self) -> None:
         self.assertEqual(tables.hex_text(TABLE, THREE), THREE_HEX)
-        self.assertEqual(inputs.unhexed(THREE_HEX.encode(), "f"), TABLE)
+        self.assertEqual(files.unhexed(THREE_HEX.encode(), "f"), TABLE)
         raw = bytes.fromhex("01 0C000000 01 05 02  6400 0600 0C00 0300 01  6500 0100 0400 0000 01")
         plan = Plan(12, (5,), (Row(100, 6, 12, 3, 1), Row(101, 1, 4, 0, 1)))
         expected = """\
@@ -409,37 +412,68 @@ class InFolder(unittest.TestCase):
 
 class Files(InFolder):
     def test_bytes_and_hex(self) -> None:
-        self.assertEqual(ran(["write", self.text, self.file], taking(TABLE, 5)), (0, "", THREE_SAID))
-        self.assertEqual(Path(self.file).read_bytes(), TABLE)
-        self.assertEqual(ran(["write", self.text, f"{self.file}.hex"], taking(TABLE, 5)), (0, "", THREE_SAID))
-        self.assertEqual(Path(f"{self.file}.hex").read_text(), THREE_HEX)
-        self.assertEqual(self.names(), ["farm.csv", "table", "table.hex"])
+        fake = taking(TABLE, 5)
+        self.assertEqual(ran(["write", self.text, "-o", self.file], fake), (0, "", THREE_SAID))
+        self.assertEqual((Path(self.file).read_bytes(), fake.requests[1:]), (TABLE, [b"T\x24\0\0\0" + TABLE]))
+        for name in ["table.hex", "other.HEX"]:
+            self.assertEqual(ran(["write", self.text, "-o", str(self.folder / name)], taking(TABLE, 5)), (0, "", THREE_SAID))
+            self.assertEqual((self.folder / name).read_text(), THREE_HEX)
+        self.assertEqual(self.names(), ["farm.csv", "other.HEX", "table", "table.hex"])
+
+    def test_from_bytes_to_any_form(self) -> None:
+        Path(self.file).write_bytes(TABLE)
+        for name, data in [("a", TABLE), ("a.hex", THREE_HEX.encode()), ("a.csv", THREE_TEXT.encode()), ("a.TXT", THREE_TEXT.encode())]:
+            fake = Fake(TAKEN)
+            self.assertEqual(ran(["write", self.file, "-o", str(self.folder / name)], fake), (0, "", THREE_SAID))
+            self.assertEqual(((self.folder / name).read_bytes(), fake.requests), (data, [b"T\x24\0\0\0" + TABLE]))
+
+    def test_the_table_of_an_input(self) -> None:
+        # 11: the input itself is no table, since it begins with a length.
+        Path(self.file).write_bytes(THREE_SLOTS)
+        note = f"{self.file} is an input of the slot printer: its table is looked at\n"
+        self.assertEqual(ran(["show", self.file], Fake(refused(11), TAKEN)), (0, THREE_TEXT, note))
+        written = str(self.folder / "written")
+        self.assertEqual(ran(["write", self.file, "-o", written], Fake(refused(11), TAKEN)), (0, "", note + THREE_SAID))
+        self.assertEqual(Path(written).read_bytes(), TABLE)
 
     def test_what_is_said(self) -> None:
         # How many tanks there are, since one behind # is none; and which columns were not read.
         Path(self.text).write_text("cycle,2\nboards,0\nname,tank,cost,period,\x1b\n#1,1,1,2\n2,2,1,2\n")
         row = bytes.fromhex("01 02000000 01 00 01  0200 0100 0200 0000 00")
+        value = bytes.fromhex("02000000 01 0000000000000000 01  0200 0100 0200 0000 00")
         words = "17 bytes, 1 tank; load 1 of 2 quanta in a cycle of 2 slots on 1 core: 1 is left\ncolumns that are not read: 'name', '\\x1b'\n"
-        self.assertEqual(ran(["write", self.text, self.file], taking(row, 2)), (0, "", words))
+        self.assertEqual(ran(["write", self.text, "-o", self.file], taking(row, 2, value)), (0, "", words))
         Path(self.text).write_text("boards,0\ntank,cost,period" + 10 * ",a" + "\n")
+        empty, value = bytes.fromhex("01 01000000 01 00 00"), bytes.fromhex("01000000 01")
         words = "8 bytes, 0 tanks; load 0 of 1 quantum in a cycle of 1 slot on 1 core: 1 is left\ncolumns that are not read: " + ", ".join(8 * ["'a'"]) + " and 2 more\n"
-        self.assertEqual(ran(["write", self.text, self.file], taking(bytes.fromhex("01 01000000 01 00 00"), 1)), (0, "", words))
+        self.assertEqual(ran(["write", self.text, "-o", self.file], taking(empty, 1, value)), (0, "", words))
 
     def test_show(self) -> None:
+        # Hex text by its name, and by what stands in it.
         Path(self.file).write_bytes(TABLE)
-        Path(f"{self.file}.hex").write_text(THREE_HEX)
-        for name in [self.file, f"{self.file}.hex"]:
-            fake = Fake(b"\0" + VALUE)
+        for name in ["table.hex", "table.HEX", "hexed"]:
+            (self.folder / name).write_text(THREE_HEX)
+        # Where 18 is answered for the table cut behind its first row, which is bytes 9 to 17, and so for all that are longer.
+        cuts = b"".join(refused(10 if end < 18 else 18) for end in range(1, 37))
+        for name in [self.file, f"{self.file}.hex", f"{self.file}.HEX", str(self.folder / "hexed")]:
+            fake = Fake(TAKEN)
             self.assertEqual(ran(["show", name], fake), (0, THREE_TEXT, ""))
             self.assertEqual(fake.requests, [b"T\x24\0\0\0" + TABLE])
-            self.assertEqual(ran(["show", name], Fake(b"\x12" + bytes(302))), (1, "", f"{name}: 18, e not below p\n"))
+            fake = Fake(refused(18), cuts)
+            words = f"{name}: 18, e not below p (row 0, tank 10, bytes 9 to 17: cost 2, period 3)\n"
+            self.assertEqual(ran(["show", name], fake), (1, "", words))
+            self.assertEqual(fake.requests[1], b"".join(b"T" + bytes([end, 0, 0, 0]) + TABLE[:end] for end in range(1, 37)))
+
+    def test_a_text_is_shown_as_it_would_be_read(self) -> None:
+        Path(self.text).write_text("boards,0,1\ntank,cost,period\n10,2,3\n11,2,3\n20,2,3\n")
+        self.assertEqual(ran(["show", self.text], taking(TABLE, 5)), (0, THREE_TEXT, ""))
 
     def test_nothing_is_written_if_it_is_refused(self) -> None:
         for old in [None, b"old"]:
             if old:
                 Path(self.file).write_bytes(old)
             words = f"{self.text}: line 4, period: 19, p does not divide L (period 3, cycle 3)\n"
-            self.assertEqual(ran(["write", self.text, self.file], refusing(19, 0, 0, 19, 19, 19)), (1, "", words))
+            self.assertEqual(ran(["write", self.text, "-o", self.file], refusing(19, 0, 0, 19, 19, 19)), (1, "", words))
             self.assertEqual(self.names(), ["farm.csv", "table"] if old else ["farm.csv"])
         self.assertEqual(Path(self.file).read_bytes(), b"old")
 
@@ -449,11 +483,11 @@ class Files(InFolder):
         soft, hard = resource.getrlimit(resource.RLIMIT_FSIZE)
         resource.setrlimit(resource.RLIMIT_FSIZE, (10, hard))
         try:
-            status, out, error = ran(["write", self.text, self.file], taking(TABLE, 5))
+            status, out, error = ran(["write", self.text, "-o", self.file], taking(TABLE, 5))
         finally:
             resource.setrlimit(resource.RLIMIT_FSIZE, (soft, hard))
         self.assertEqual((status, out), (2, ""))
-        self.assertRegex(error, f"^tables: {self.file} cannot be written: .+\n$")
+        self.assertRegex(error, f"^zb: {self.file} cannot be written: .+\n$")
         self.assertEqual((Path(self.file).read_bytes(), self.names()), (b"old", ["farm.csv", "table"]))
 
     def test_a_new_file_in_place_of_the_old(self) -> None:
@@ -461,7 +495,7 @@ class Files(InFolder):
         Path(self.file).write_bytes(b"old")
         os.chmod(self.file, 0o640)
         with open(self.file, "rb") as old:
-            self.assertEqual(ran(["write", self.text, str(self.folder / "link")], taking(TABLE, 5))[0], 0)
+            self.assertEqual(ran(["write", self.text, "-o", str(self.folder / "link")], taking(TABLE, 5))[0], 0)
             self.assertEqual(old.read(), b"old")
         self.assertEqual((Path(self.file).read_bytes(), stat.S_IMODE(os.stat(self.file).st_mode)), (TABLE, 0o640))
         self.assertTrue(os.path.islink(self.folder / "link"))
@@ -469,81 +503,110 @@ class Files(InFolder):
     def test_what_is_no_file_stays_what_it_is(self) -> None:
         os.mkfifo(self.file)
         reading = os.open(self.file, os.O_RDONLY | os.O_NONBLOCK)
-        self.assertEqual(ran(["write", self.text, self.file], taking(TABLE, 5))[0], 0)
+        self.assertEqual(ran(["write", self.text, "-o", self.file], taking(TABLE, 5))[0], 0)
         self.assertEqual((os.read(reading, 1000), stat.S_ISFIFO(os.stat(self.file).st_mode)), (TABLE, True))
         os.close(reading)
-        words = "tables: /dev/full cannot be written: No space left on device\n"
-        self.assertEqual(ran(["write", self.text, "/dev/full"], taking(TABLE, 5)), (2, "", words))
+        words = "zb: /dev/full cannot be written: No space left on device\n"
+        self.assertEqual(ran(["write", self.text, "-o", "/dev/full"], taking(TABLE, 5)), (2, "", words))
 
     def test_the_text_is_not_lost(self) -> None:
         os.symlink("farm.csv", self.folder / "link")
         for name in [self.text, str(self.folder / "link")]:
-            words = f"tables: {self.text} and {name} are one file, and the text in it would be lost\n"
-            self.assertEqual(ran(["write", self.text, name], Fake()), (2, "", words))
+            words = f"zb: {self.text} and {name} are one file, and what it has would be lost\n"
+            self.assertEqual(ran(["write", self.text, "-o", name], Fake()), (2, "", words))
         self.assertEqual(Path(self.text).read_text(), THREE_TEXT)
 
     def test_long_files(self) -> None:
         long = str(self.folder / "long")
         with open(long, "wb") as file:
             file.truncate(300_000_000)
-        words = "the text is longer than 1048576 bytes, and no table needs so many"
-        self.assertEqual(ran(["write", long, self.file], Fake()), (1, "", f"{long}: {words}\n"))
-        # Of a table, 65,537 bytes are enough to tell that it is too long.
-        fake = Fake(b"\x0b" + bytes(302))
-        self.assertEqual(ran(["show", long], fake), (1, "", f"{long}: 11, format is not 1\n"))
-        self.assertEqual(fake.requests, [b"T\x01\0\x01\0" + bytes(65_537)])
-        os.rename(long, f"{long}.hex")
-        words = f"tables: {long}.hex is longer than 1048576 bytes, and no table needs so many\n"
-        self.assertEqual(ran(["show", f"{long}.hex"], Fake()), (2, "", words))
+        # Of a table, 65,537 bytes are enough to tell that it is too long; of its place, the 303 that the longest table has.
+        for arguments in [["show", long], ["write", long, "-o", self.file]]:
+            fake = Fake(refused(11), 303 * refused(11))
+            self.assertEqual(ran(arguments, fake), (1, "", f"{long}: 11, format is not 1 (byte 0: it is 0)\n"))
+            self.assertEqual(fake.requests[0], b"T\x01\0\x01\0" + bytes(65_537))
+        for name, status, words in [
+            ("long.csv", 1, "{}: the text is longer than 1048576 bytes, and no table needs so many\n"),
+            ("long.hex", 2, "zb: {} is hex text of more than 16777216 bytes: name the bytes themselves\n"),
+        ]:
+            long = str(Path(long).rename(self.folder / name))
+            self.assertEqual(ran(["write", long, "-o", self.file], Fake()), (status, "", words.format(long)))
+            self.assertEqual(ran(["show", long], Fake()), (status, "", words.format(long)))
+        self.assertEqual(self.names(), ["farm.csv", "long.hex"])
 
 
-class Endings(InFolder):
-    def assert_trouble(self, arguments: list[str], probe: Probe, text: str) -> None:
-        status, out, error = ran(arguments, probe)
-        self.assertEqual((status, out), (2, ""))
-        self.assertRegex(error, f"^tables: .*{text}.*\n$")
+class Endings(InFolder, EndingCase):
+    def assert_not_done(self, arguments: list[str], probe: Probe, text: str) -> None:
+        self.assert_trouble(["table", *arguments], probe, text)
 
     def test_wrong_use(self) -> None:
-        for arguments in [[], ["write"], ["write", "a"], ["write", "a", "b", "c"], ["show"], ["show", "a", "b"], ["read", "a"], ["--help"], ["show", "-x"]]:
-            self.assert_trouble(arguments, Fake(), "say what to do")
+        for arguments, words in [
+            ([], "required: COMMAND .see: zb table --help."),
+            (["write"], "required: FILE, -o .see: zb table write --help."),
+            (["write", "a"], "required: -o .see: zb table write --help."),
+            (["write", "-o", "a"], "required: FILE .see: zb table write --help."),
+            (["write", "a", "b"], "required: -o .see: zb table write --help."),
+            (["write", "a", "-o", "b", "c"], "unrecognized arguments: c"),
+            (["write", "a", "-o"], "argument -o: expected one argument"),
+            (["show"], "required: FILE .see: zb table show --help."),
+            (["show", "a", "b"], "unrecognized arguments: b"),
+            (["read", "a"], "invalid choice: 'read'"),
+            (["show", "-x"], "required: FILE .see: zb table show --help."),
+            (["show", "a", "-x"], "unrecognized arguments: -x"),
+        ]:
+            self.assert_not_done(arguments, Fake(), words)
+        for word in ["check", "show", "write"]:
+            self.assert_help(["table", word], f"zb table {word}")
+        self.assert_help(["table"], "zb table")
 
     def test_files_that_cannot_be_read_or_written(self) -> None:
         none, folder = str(self.folder / "none"), str(self.folder)
         for wrong in [none, folder]:
-            self.assert_trouble(["write", wrong, self.file], Fake(), f"{wrong} cannot be read")
-            self.assert_trouble(["show", wrong], Fake(), f"{wrong} cannot be read")
+            self.assert_not_done(["write", wrong, "-o", self.file], Fake(), f"{wrong} cannot be read")
+            self.assert_not_done(["show", wrong], Fake(), f"{wrong} cannot be read")
         for wrong in [f"{none}/table", folder]:
-            self.assert_trouble(["write", self.text, wrong], taking(TABLE, 5), f"{wrong} cannot be written")
+            self.assert_not_done(["write", self.text, "-o", wrong], taking(TABLE, 5), f"{wrong} cannot be written")
         self.assertEqual(self.names(), ["farm.csv"])
 
     def test_bad_hex(self) -> None:
-        for text, words in [("zz", "something else than hex digits"), ("012", "half a byte")]:
-            Path(f"{self.file}.hex").write_text(text)
-            self.assert_trouble(["show", f"{self.file}.hex"], Fake(), words)
+        for name, text, words in [
+            ("a.hex", "zz", ", line 1, has something else than hex digits"),
+            ("a.HEX", "# zz\n\n01 # zz\n0g", ", line 4, has something else than hex digits"),
+            ("a.hex", "012", " has half a byte"),
+            ("a", "012", " has half a byte"),
+        ]:
+            (self.folder / name).write_text(text)
+            self.assert_not_done(["show", str(self.folder / name)], Fake(), f"{name}{words}")
 
     def test_a_probe_that_does_not_answer(self) -> None:
-        for arguments in [["write", self.text, self.file], ["show", self.text]]:
-            self.assert_trouble(arguments, Probe([str(HERE / "none")]), "does not start")
-            self.assert_trouble(arguments, Probe(["/bin/sh", "-c", "echo it is not built >&2; exit 2"]), "it is not built")
+        Path(self.file).write_bytes(TABLE)
+        written = str(self.folder / "written")
+        for arguments in [["write", self.text, "-o", written], ["write", self.file, "-o", written], ["show", self.text], ["show", self.file]]:
+            self.assert_not_done(arguments, Probe([str(HERE / "none")]), "does not start")
+            self.assert_not_done(arguments, Probe(["/bin/sh", "-c", "echo it is not built >&2; exit 2"]), "it is not built")
         # One that does not know P, and one that answers only the first of the six: 1 + 8 + 303 bytes each.
-        self.assert_trouble(["write", self.text, self.file], Probe(["/bin/sh", "-c", "printf '\\377'"]), "1 bytes answer P, not 1872")
-        self.assert_trouble(["write", self.text, self.file], Probe(["head", "-c", "312"]), "312 bytes answer P, not 1872")
-        self.assertEqual(self.names(), ["farm.csv"])
+        self.assert_not_done(["write", self.text, "-o", written], Probe(["/bin/sh", "-c", "printf '\\377'"]), "1 bytes answer P, not 1872")
+        self.assert_not_done(["write", self.text, "-o", written], Probe(["head", "-c", "312"]), "312 bytes answer P, not 1872")
+        self.assertEqual(self.names(), ["farm.csv", "table"])
 
     def test_interrupted(self) -> None:
-        self.assertEqual(ran(["write", self.text, self.file], Interrupted()), (130, "", ""))
+        self.assertEqual(ran(["write", self.text, "-o", self.file], Interrupted()), (130, "", ""))
         self.assertEqual(self.names(), ["farm.csv"])
 
     def test_standard_input(self) -> None:
-        self.assertEqual(as_process("write", "-", "-", given=b"cycle,x\n"), (1, b"", f"standard input: line 1, cycle: 'x' {NO_NUMBER}\n"))
+        self.assertEqual(as_process("write", "-", "-o", "-", given=b"cycle,x\n"), (1, b"", f"standard input: line 1, cycle: 'x' {NO_NUMBER}\n"))
         words = "standard input: the text is longer than 1048576 bytes, and no table needs so many\n"
-        self.assertEqual(as_process("write", "-", "-", given=bytes(2_000_000)), (1, b"", words))
+        self.assertEqual(as_process("write", "-", "-o", "-", given=2_000_000 * b"#"), (1, b"", words))
 
     def test_a_text_that_does_not_end(self) -> None:
-        words = "/dev/zero: the text is longer than 1048576 bytes, and no table needs so many\n"
-        self.assertEqual(as_process("write", "/dev/zero", self.file), (1, b"", words))
+        words = b"standard input: the text is longer than 1048576 bytes, and no table needs so many\n"
+        command = f"yes boards,0 | {shlex.join([COMMAND, 'table', 'write', '-', '-o', self.file])}"
+        run = subprocess.run(["/bin/sh", "-c", command], capture_output=True, timeout=60)
+        self.assertEqual((run.returncode, run.stdout, run.stderr), (1, b"", words))
+        self.assertEqual(self.names(), ["farm.csv"])
 
 
+@needs_probe
 class AgainstProbe(unittest.TestCase):
     def assert_written(self, text: str, table: bytes) -> None:
         self.assertEqual(tables.written(typed(text), Probe()), table)
@@ -555,7 +618,7 @@ class AgainstProbe(unittest.TestCase):
         self.assertIn(f"{raised.exception.number}, ", words)
 
     def test_examples(self) -> None:
-        self.assertEqual(inputs.read(str(ROOT / "examples" / "three-tanks.hex")), TABLE)
+        self.assertEqual(example("three-tanks.hex"), TABLE)
         for name, table in [(THREE_TANKS, TABLE), (FARM, FARM_BYTES)]:
             self.assert_written(Path(name).read_text(), table)
 
@@ -575,18 +638,18 @@ class AgainstProbe(unittest.TestCase):
             spelled = table_text.text(plan)
             self.assertEqual(tables.written(typed(spelled), Probe()), table)
             self.assertEqual(table_text.text(plan_of(spelled)), spelled)
-            self.assertEqual(inputs.unhexed(tables.hex_text(table, plan).encode(), "f"), table)
+            self.assertEqual(files.unhexed(tables.hex_text(table, plan).encode(), "f"), table)
 
     def test_bytes_to_text_to_bytes(self) -> None:
-        full = inputs.split(inputs.read(str(ROOT / "examples" / "full-box.hex")))
+        full = inputs.split(example("full-box.hex"))
         assert full is not None
         self.assertEqual(len(full.table), 303)
-        for table in [full.table, TABLE, inputs.read(str(ROOT / "examples" / "tank-14.hex"))]:
+        for table in [full.table, TABLE, example("tank-14.hex")]:
             self.assert_written(table_text.text(tables.taken(table, Probe())), table)
 
     def test_hex_is_spelled_as_in_the_examples(self) -> None:
         example = (ROOT / "examples" / "tank-14.hex").read_text()
-        table = inputs.unhexed(example.encode(), "f")
+        table = files.unhexed(example.encode(), "f")
         self.assertEqual(tables.hex_text(table, tables.taken(table, Probe())), example.split("\n", 1)[1])
 
     def test_cycle(self) -> None:
@@ -643,38 +706,49 @@ class AgainstProbe(unittest.TestCase):
                 tables.taken(table, Probe())
 
 
+@needs_probe
 class ProgramAgainstProbe(InFolder):
     def test_files(self) -> None:
         for name in [self.file, f"{self.file}.hex"]:
-            self.assertEqual(as_process("write", self.text, name), (0, b"", THREE_SAID))
+            self.assertEqual(as_process("write", self.text, "-o", name), (0, b"", THREE_SAID))
             self.assertEqual(as_process("show", name), (0, THREE_TEXT.encode(), ""))
         self.assertEqual((Path(self.file).read_bytes(), Path(f"{self.file}.hex").read_text()), (TABLE, THREE_HEX))
         self.assertEqual(self.names(), ["farm.csv", "table", "table.hex"])
 
     def test_standard_input_and_output(self) -> None:
-        self.assertEqual(as_process("write", "-", "-", given=THREE_TEXT.encode()), (0, TABLE, THREE_SAID))
+        self.assertEqual(as_process("write", "-", "-o", "-", given=THREE_TEXT.encode()), (0, TABLE, THREE_SAID))
         self.assertEqual(as_process("show", "-", given=TABLE), (0, THREE_TEXT.encode(), ""))
-        self.assertEqual(as_process("show", "-", given=TABLE[:-1]), (1, b"", "standard input: 10, table ends inside a field or row\n"))
+        self.assertEqual(as_process("show", "-", given=THREE_HEX.encode()), (0, THREE_TEXT.encode(), ""))
+        # Rows begin at byte 9 and have 9 bytes: 35 bytes end inside the third, which is row 2.
+        words = "standard input: 10, table ends inside a field or row (it ends after 35 bytes, inside row 2)\n"
+        self.assertEqual(as_process("show", "-", given=TABLE[:-1]), (1, b"", words))
+
+    def test_bytes_that_do_not_end(self) -> None:
+        words = "11, format is not 1 (byte 0: it is 0)\n"
+        self.assertEqual(as_process("write", "/dev/zero", "-o", self.file), (1, b"", f"/dev/zero: {words}"))
+        self.assertEqual(as_process("write", "-", "-o", "-", given=bytes(2_000_000)), (1, b"", f"standard input: {words}"))
+        self.assertEqual(self.names(), ["farm.csv"])
 
     def test_nobody_to_read(self) -> None:
         # A reader that has gone, a full disk, and no standard output; nobody to tell is no reason to fail, nor to say it elsewhere.
-        command = shlex.join([sys.executable, PROGRAM, "write", self.text, "-"])
-        full = b"tables: standard output cannot be written: No space left on device\n"
-        closed = b"tables: the table cannot be written: standard output is closed\n"
+        command = shlex.join([COMMAND, "table", "write", self.text, "-o", "-"])
+        full = b"zb: standard output cannot be written: No space left on device\n"
+        closed = b"zb: the table cannot be written: standard output is closed\n"
         for ends, status, out, error in [(">/dev/full", 2, b"", full), (">&-", 2, b"", closed), ("2>&-", 0, TABLE, b""), ("2>/dev/full", 0, TABLE, b"")]:
             run = subprocess.run(["/bin/sh", "-c", f"{command} {ends}"], capture_output=True)
             self.assertEqual((run.returncode, run.stdout, run.stderr), (status, out, error))
         reading, writing = os.pipe()
         os.close(reading)
-        run = subprocess.run([sys.executable, PROGRAM, "write", self.text, "-"], stdout=writing, stderr=subprocess.PIPE)
+        run = subprocess.run([COMMAND, "table", "write", self.text, "-o", "-"], stdout=writing, stderr=subprocess.PIPE)
         os.close(writing)
         self.assertEqual((run.returncode, run.stderr), (141, b""))
 
     def test_through_a_symlink(self) -> None:
-        os.symlink(PROGRAM, self.folder / "link")
-        self.assertEqual(as_process("write", self.text, "-", program=str(self.folder / "link")), (0, TABLE, THREE_SAID))
+        os.symlink(COMMAND, self.folder / "link")
+        self.assertEqual(as_process("write", self.text, "-o", "-", command=str(self.folder / "link")), (0, TABLE, THREE_SAID))
 
 
+@needs_probe
 class ThePage(InFolder):
     """docs/TABLES.md: what it shows is word for word what the program prints, and its example is the file."""
 
@@ -688,21 +762,23 @@ class ThePage(InFolder):
 
     def test_commands(self) -> None:
         # In a folder that looks like this one.
-        for name in ["host", "examples"]:
+        for name in ["zb", "examples"]:
             os.symlink(ROOT / name, self.folder / name)
         os.mkdir(self.folder / "target")
-        [[command, *expected]] = self.blocks("$ ")
-        self.assertEqual(self.printed(command.removeprefix("$ ")), expected)
+        blocks = self.blocks("$ ")
+        self.assertEqual([command.split()[:4] for command, *_ in blocks], [["$", "./zb", "table", "write"], ["$", "./zb", "table", "check"]])
+        for command, *expected in blocks:
+            self.assertEqual(self.printed(command.removeprefix("$ ")), expected)
         self.assertEqual((self.folder / "target" / "farm.table").read_bytes(), FARM_BYTES)
-        show = "python3 host/desk/tables.py show target/farm.table"
+        show = "./zb table show target/farm.table"
         self.assertIn(f"`{show}`", PAGE.read_text())
         rows = ["10,2,3,0,plain", "11,1,4,0,plain", "20,3,12,0,early release", "21,1,6,5,plain"]
         self.assertEqual(self.printed(show), ["cycle,12", "boards,0,1", "tank,cost,period,phase,kind", *rows])
 
     def printed(self, command: str) -> list[str]:
-        python, program, *arguments = shlex.split(command)
-        self.assertEqual((python, program), ("python3", "host/desk/tables.py"))
-        run = subprocess.run([sys.executable, program, *arguments], stdout=subprocess.PIPE, stderr=subprocess.STDOUT, cwd=self.folder)
+        program, word, *arguments = shlex.split(command)
+        self.assertEqual((program, word), ("./zb", "table"))
+        run = subprocess.run([program, word, *arguments], stdout=subprocess.PIPE, stderr=subprocess.STDOUT, cwd=self.folder)
         self.assertEqual(run.returncode, 0)
         return run.stdout.decode().splitlines()
 
@@ -711,9 +787,13 @@ class ThePage(InFolder):
         os.mkdir(self.folder / "examples")
         text = Path(FARM).read_text().replace("boards,", "cycle,12\nboards,").replace("\n11,1,4,", "\n11,1,5,")
         (self.folder / "examples" / "farm.csv").write_text(text)
-        command = [sys.executable, PROGRAM, "write", "examples/farm.csv", "farm.hex"]
+        command = [COMMAND, "table", "write", "examples/farm.csv", "-o", "farm.hex"]
         run = subprocess.run(command, stdout=subprocess.PIPE, stderr=subprocess.STDOUT, cwd=self.folder)
         self.assertEqual(([run.stdout.decode().splitlines()], run.returncode), (self.blocks("examples/"), 1))
+        self.assertEqual(self.names(), ["examples", "farm.csv"])
+
+    def test_no_command_of_old(self) -> None:
+        self.assertNotIn("python3", PAGE.read_text())
 
 
 if __name__ == "__main__":

@@ -1,5 +1,5 @@
-"""The tests of the answer to why a tank waited: python3 host/desk/test_why.py. What is expected was worked out by hand, from 01 and 02; where a
-class says AgainstProbe, the probe must be built and know the question.
+"""The tests of zb why, the answer to why a tank waited: python3 host/desk/test_why.py. What is expected was worked out by hand, from 01 and 02; where a
+class says AgainstProbe or AgainstArchive, these must be built.
 """
 from __future__ import annotations
 
@@ -8,20 +8,39 @@ import os
 import shlex
 import struct
 import subprocess
-import sys
 import tempfile
 import unittest
 from pathlib import Path
+from typing import Sequence
 
-import inputs
-import test_cores
+import files
+import testing
 import traces
+import verdict
 import why
 import words
-from probe import REQUEST_LIMIT, Check, Probe, State, Trouble, Why
-from test_cores import HERE, ROOT, TABLE, VALUE, Fake, Interrupted, placement
+from archive import Archive
+from probe import REQUEST_LIMIT, Check, Probe, State, Why
+from testing import (
+    COMMAND,
+    HERE,
+    ROOT,
+    TABLE,
+    TAKEN,
+    TRACE,
+    VALUE,
+    EndingCase,
+    Fake,
+    FakeArchive,
+    Interrupted,
+    needs_archive,
+    needs_probe,
+    placement,
+    ran,
+    refused,
+)
+from trouble import Trouble
 
-PROGRAM = str(HERE / "why.py")
 EXAMPLE = [str(ROOT / "examples" / "tank-14.hex"), str(ROOT / "examples" / "tank-14-trace.hex")]
 PAGE = ROOT / "docs" / "WHY.md"
 
@@ -29,10 +48,6 @@ NOT_OURS = "This trace is not the dispatcher's for this table: "
 BIT = "its bit (the deadlines are the same, but only tank {} has a window that overlaps its own next one)."
 GROUP = "its later group deadline (the deadlines are the same, and both have the bit)."
 PLACE = "its earlier place in the table (nothing else decides between the two)."
-
-# 01's trace of its example: slot 0 picks rows 0 and 1, slot 1 rows 0 and 2, slot 2 rows 1 and 2.
-TRACE = bytes.fromhex("03000000 02020001 02020002 02020102")
-
 
 def table(cycle: int, cores: int, *rows: tuple[int, int, int, int, int]) -> bytes:
     """The bytes of a table. A row is its tank, cost, period, phase and kind."""
@@ -58,22 +73,15 @@ def check_answer(number: int = 0, row: int = 0, time: int = 0) -> bytes:
     return struct.pack("<BBQ", number, row, time)
 
 
-TAKEN = b"\0" + VALUE  # the answer to T for 01's table
-
-
-def said(table: bytes, trace: bytes, tank: int, slot: int, probe: Probe) -> list[object]:
-    """The sentences, and behind them the exit status."""
-    told = why.said(table, io.BytesIO(trace), tank, slot, probe)
+def said(table: bytes, trace: bytes, tank: int, slot: int, probe: Probe, archive: Archive | None = None) -> list[object]:
+    """The sentences, and behind them the exit status. Without an archive, one that has no answers."""
+    told = why.said(table, io.BytesIO(trace), tank, slot, probe, archive or FakeArchive())
     return [*told.sentences, told.status]
 
 
-def ran(arguments: list[str], probe: Probe) -> tuple[int, str, str]:
-    return test_cores.ran(arguments, probe, why.main)
-
-
-def as_process(*arguments: str, given: bytes = b"", program: str = PROGRAM) -> tuple[int, str, str]:
-    status, out, error = test_cores.as_process(*arguments, given=given, program=program)
-    return status, out.decode(), error.decode()
+def as_process(*arguments: str, given: bytes = b"", command: str = COMMAND) -> tuple[int, str, str]:
+    status, out, error = testing.as_process("why", *arguments, given=given, command=command)
+    return status, out.decode(), error
 
 
 class Requests(unittest.TestCase):
@@ -122,14 +130,17 @@ class Words(unittest.TestCase):
         self.assertEqual(words.of_number(46), "46, bytes after the last record")
         self.assertEqual(words.of_number(99), "99")
 
+    def test_numbers_as_answers(self) -> None:
+        self.assertEqual([words.answer(number) for number in (0, 12, 99)], ["0 done", "12 L outside 1 to 1,000,000", "99"])
+
 
 class Reading(unittest.TestCase):
     def test_counts_and_records(self) -> None:
         # Before slot 2, records 0 and 1 name row 0 twice, row 1 and row 2 once.
         past = traces.read(io.BytesIO(TRACE), 2, 3)
-        self.assertEqual(past, traces.Past(3, TRACE[4:12], (2, 1, 1) + 29 * (0,), TRACE[12:]))
+        self.assertEqual(past, traces.Past(3, 8, (2, 1, 1) + 29 * (0,), TRACE[12:]))
         past = traces.read(io.BytesIO(TRACE), 0, 3)
-        self.assertEqual(past, traces.Past(3, b"", 32 * (0,), TRACE[4:8]))
+        self.assertEqual(past, traces.Past(3, 0, 32 * (0,), TRACE[4:8]))
 
     def test_no_further_than_the_slot(self) -> None:
         file = io.BytesIO(TRACE)
@@ -146,10 +157,19 @@ class Reading(unittest.TestCase):
         self.assertEqual((past.quanta[:3], past.record), ((1, 1, 0), bytes.fromhex("0103020100")))
 
     def test_a_long_past_is_not_kept(self) -> None:
-        # 255 times row 0 in each of 8,200 records of 257 bytes: 2,107,400 bytes, of which those are kept that reach past 1 MiB.
+        # 255 times row 0 in each of 8,200 records of 257 bytes: 2,107,400 bytes, of which only the length is kept.
         past = traces.read(io.BytesIO(struct.pack("<I", 8_201) + 8_200 * (b"\xff\xff" + bytes(255)) + b"\0\0"), 8_200, 1)
-        self.assertEqual((past.quanta[0], past.record), (8_200, b"\0\0"))
-        self.assertTrue(REQUEST_LIMIT < len(past.before) <= REQUEST_LIMIT + 257)
+        self.assertEqual(past, traces.Past(8_201, 2_107_400, (8_200, *31 * (0,)), b"\0\0"))
+
+    def test_the_start_of_a_trace_as_a_trace(self) -> None:
+        # Its own count, and the records of so many bytes; read in any parts, from wherever the file stands.
+        file = io.BytesIO(TRACE)
+        file.seek(9)
+        self.assertEqual(traces.Stretch(file, 2, 8).whole(), b"\2\0\0\0" + TRACE[4:12])
+        self.assertEqual(file.tell(), 12)
+        self.assertEqual(traces.Stretch(file, 0, 0).whole(), bytes(4))
+        parts = traces.Stretch(file, 2, 8)
+        self.assertEqual([parts.read(5) for _ in range(5)], [b"\2\0\0\0", TRACE[4:9], TRACE[9:12], b"", b""])
 
     def test_slots_that_are_not_there(self) -> None:
         for slots, slot, text in [
@@ -278,70 +298,133 @@ class Asking(unittest.TestCase):
             foreign = f"{NOT_OURS}the record of slot 1 names {names}, and the dispatcher picks tanks 10 and 20."
             self.assertEqual(said(TABLE, given, 10, 1, fake), [foreign, "By the dispatcher's rules tank 10 was picked in slot 1.", 1])
 
-    def test_a_past_that_is_too_long_to_be_checked(self) -> None:
-        # 4,081 records of 257 bytes are 1,048,817 bytes, and 1 MiB is 1,048,576.
-        given = struct.pack("<I", 4_082) + 4_081 * (b"\xff\xff" + bytes(255)) + b"\2\2\0\2"
-        fake = Fake(TAKEN, why_answer(0, 1), slot_answer(0, b"\2\2\0\2"))
-        note = "The records before slot 4081 were not checked: they are more than the probe reads."
-        self.assertEqual(said(TABLE, given, 10, 4_081, fake), [note, "Tank 10 was picked in slot 4081.", 0])
-        self.assertEqual([request[:1] for request in fake.requests], [b"T", b"Y", b"K"])
+    def test_a_past_that_is_too_long_for_the_probe(self) -> None:
+        # Then the archive checks it. 4,081 records of 257 bytes are 1,048,817 bytes, and 1 MiB is 1,048,576.
+        records = 4_081 * (b"\xff\xff" + bytes(255))
+        given = struct.pack("<I", 4_082) + records + b"\2\2\0\2"
+        late = f"{NOT_OURS}tank 20 was late at the start of slot 7, and there the dispatcher stops."
+        for found, against in [(Check(0, 0, 0), []), (Check(45, 2, 7), [late])]:
+            fake, archive = Fake(TAKEN, why_answer(0, 1), slot_answer(0, b"\2\2\0\2")), FakeArchive(checks=[found])
+            self.assertEqual(said(TABLE, given, 10, 4_081, fake, archive), [*against, "Tank 10 was picked in slot 4081.", len(against)])
+            self.assertEqual([request[:1] for request in fake.requests], [b"T", b"Y", b"K"])
+            self.assertEqual(archive.asked, [(TABLE, struct.pack("<I", 4_081) + records)])
+
+    def test_the_longest_past_for_the_probe(self) -> None:
+        # Beside the records a request has C, two lengths, the table and the count: 1 + 4 + 36 + 4 + 4 = 49 bytes. 1,048,576 - 49 = 1,048,527 are left,
+        # which are 4,079 records of 257 bytes and one of 224; with one of 225 it is the archive's.
+        for rows, asked in [(222, b"C"), (223, b"")]:
+            records = 4_079 * (b"\xff\xff" + bytes(255)) + bytes([255, rows]) + bytes(rows)
+            answers = [check_answer()] if asked else []
+            fake = Fake(TAKEN, *answers, why_answer(0, 1), slot_answer(0, b"\2\2\0\2"))
+            archive = FakeArchive(checks=[] if asked else [Check(0, 0, 0)])
+            given = struct.pack("<I", 4_081) + records + b"\2\2\0\2"
+            self.assertEqual(said(TABLE, given, 10, 4_080, fake, archive), ["Tank 10 was picked in slot 4080.", 0])
+            self.assertEqual(b"".join(request[:1] for request in fake.requests), b"T" + asked + b"YK")
+            self.assertEqual([table for table, _ in archive.asked], [] if asked else [TABLE])
+            if asked:
+                self.assertEqual(len(fake.requests[1]), REQUEST_LIMIT)
+
+    def test_no_more_is_read_than_is_needed(self) -> None:
+        # Of 01's trace the records of slots 0 and 1, which end at byte 12.
+        for slot, end in [(0, 8), (1, 12)]:
+            file = Guarded(TRACE, end)
+            fake = Fake(TAKEN, check_answer(), why_answer(0, 1), slot_answer(0, TRACE[4 + 4 * slot :][:4]))
+            told = why.said(TABLE, file, 10, slot, fake, FakeArchive())
+            self.assertEqual(told, why.Said((f"Tank 10 was picked in slot {slot}.",), 0))
 
 
-class Endings(unittest.TestCase):
-    def assert_trouble(self, arguments: list[str], probe: Probe, text: str) -> None:
-        status, out, error = ran(arguments, probe)
-        self.assertEqual((status, out), (2, ""))
-        self.assertRegex(error, f"^why: .*{text}.*\n$")
+class Guarded(io.BytesIO):
+    """A file that may be read up to a place."""
+
+    def __init__(self, data: bytes, end: int) -> None:
+        super().__init__(data)
+        self.end = end
+
+    def read(self, length: int | None = -1, /) -> bytes:
+        part = super().read(length)
+        if self.tell() > self.end:
+            raise AssertionError("more was read than is needed")
+        return part
+
+
+class Endings(EndingCase):
+    def assert_no_answer(self, arguments: Sequence[str], probe: Probe, text: str) -> None:
+        self.assert_trouble(["why", *arguments], probe, text)
 
     def test_wrong_use(self) -> None:
-        for arguments in [[], EXAMPLE, [*EXAMPLE, "14"], [*EXAMPLE, "14", "0", "0"], ["--help"], ["-x", EXAMPLE[1], "14", "0"]]:
-            self.assert_trouble(arguments, Fake(), "name a table, a trace, a tank and a slot")
-        self.assert_trouble(["-", "-", "14", "0"], Fake(), "only one")
+        for arguments, missing in [
+            ([], "TABLE, TRACE, TANK, SLOT"),
+            (EXAMPLE, "TANK, SLOT"),
+            ([*EXAMPLE, "14"], "SLOT"),
+            (["-x", EXAMPLE[1], "14", "0"], "SLOT"),
+        ]:
+            self.assert_no_answer(arguments, Fake(), f"required: {missing} .see: zb why --help.")
+        self.assert_no_answer([*EXAMPLE, "14", "0", "0"], Fake(), "unrecognized arguments: 0")
+        self.assert_no_answer([*EXAMPLE, "14", "0", "-x"], Fake(), "unrecognized arguments: -x")
+        self.assert_no_answer(["-", "-", "14", "0"], Fake(), "only one of the two files can be standard input")
+        self.assert_help(["why"], "zb why")
 
     def test_what_is_no_number(self) -> None:
-        for wrong in ["", "-3", "+3", "3.0", "0x3", "1_0", " 3", "3\n", "three", "\u0663", 100 * "1"]:
-            self.assert_trouble([*EXAMPLE, wrong, "0"], Fake(), "TANK is a decimal number")
-            self.assert_trouble([*EXAMPLE, "14", wrong], Fake(), "SLOT is a decimal number")
+        for wrong in ["", "-3", "+3", "3.0", "0x3", "1_0", " 3", "3\n", "three", "\u0663", 19 * "1", 100 * "1"]:
+            self.assert_no_answer([*EXAMPLE, wrong, "0"], Fake(), "argument TANK: a whole number in digits is needed, and not '")
+            self.assert_no_answer([*EXAMPLE, "14", wrong], Fake(), "argument SLOT: a whole number in digits is needed, and not '")
 
     def test_files_that_cannot_be_read(self) -> None:
         for wrong in [str(HERE / "none"), str(HERE)]:
-            self.assert_trouble([wrong, EXAMPLE[1], "14", "0"], Fake(), f"{wrong} cannot be read")
-            self.assert_trouble([EXAMPLE[0], wrong, "14", "0"], Fake(), f"{wrong} cannot be read")
+            self.assert_no_answer([wrong, EXAMPLE[1], "14", "0"], Fake(), f"{wrong} cannot be read")
+            self.assert_no_answer([EXAMPLE[0], wrong, "14", "0"], Fake(), f"{wrong} cannot be read")
 
     def test_bad_hex(self) -> None:
-        for text, words_said in [(b"zz", "something else than hex digits"), (b"012", "half a byte")]:
-            with tempfile.NamedTemporaryFile(suffix=".hex") as file:
+        for text, suffix, words_said in [
+            (b"zz", ".hex", ", line 1, has something else than hex digits"),
+            (b"# a\n01\nzz", ".HEX", ", line 3, has something else than hex digits"),
+            (b"012", ".hex", " has half a byte"),
+            (b"012", "", " has half a byte"),
+        ]:
+            with tempfile.NamedTemporaryFile(suffix=suffix) as file:
                 file.write(text)
                 file.flush()
-                self.assert_trouble([file.name, EXAMPLE[1], "14", "0"], Fake(), words_said)
-                self.assert_trouble([EXAMPLE[0], file.name, "14", "0"], Fake(), words_said)
+                self.assert_no_answer([file.name, EXAMPLE[1], "14", "0"], Fake(), f"{file.name}{words_said}")
+                self.assert_no_answer([EXAMPLE[0], file.name, "14", "0"], Fake(), f"{file.name}{words_said}")
 
     def test_a_probe_that_does_not_answer(self) -> None:
         asked = [*EXAMPLE, "14", "0"]
-        self.assert_trouble(asked, Probe([str(HERE / "none")]), "does not start")
-        self.assert_trouble(asked, Probe(["/bin/sh", "-c", "echo it is not built >&2; exit 2"]), "it is not built")
-        self.assert_trouble(asked, Probe(["/bin/sh", "-c", "printf '\\377'"]), "of another version.* 1 bytes answer T, not 303")
+        self.assert_no_answer(asked, Probe([str(HERE / "none")]), "does not start")
+        self.assert_no_answer(asked, Probe(["/bin/sh", "-c", "echo it is not built >&2; exit 2"]), "it is not built")
+        self.assert_no_answer(asked, Probe(["/bin/sh", "-c", "printf '\\377'"]), "of another version.* 1 bytes answer T, not 303")
 
     def test_interrupted(self) -> None:
-        self.assertEqual(ran([*EXAMPLE, "14", "0"], Interrupted()), (130, "", ""))
+        self.assertEqual(ran(["why", *EXAMPLE, "14", "0"], Interrupted()), (130, "", ""))
+
+    def test_a_refused_table(self) -> None:
+        # The reader answers 18. Of the table cut behind each byte, that is so from behind row 1 on: rows begin at byte 9 and have 9 bytes.
+        cuts = [refused(10 if end < 27 else 18) for end in range(1, 37)]
+        words_said = f"{EXAMPLE[0]}: 18, e not below p (row 1, tank 12, bytes 18 to 26: cost 5, period 6)\n"
+        self.assertEqual(ran(["why", *EXAMPLE, "14", "0"], Fake(refused(18), b"".join(cuts))), (1, "", words_said))
+
+
+@needs_probe
+class EndingsAgainstProbe(unittest.TestCase):
+    """Slot 9 is not in the example's trace: of the probe no more is asked than to read the table."""
 
     def test_closed_pipe_and_full_disk(self) -> None:
         reading, writing = os.pipe()
         os.close(reading)
         with os.fdopen(writing, "wb") as closed, open("/dev/full", "wb") as full:
-            for out, status, text in [(closed, 141, b""), (full, 2, b"why: the answer cannot be written: No space left on device\n")]:
-                run = subprocess.run([sys.executable, PROGRAM, *EXAMPLE, "14", "9"], stdout=out, stderr=subprocess.PIPE)
+            for out, status, text in [(closed, 141, b""), (full, 2, b"zb: the answer cannot be written: No space left on device\n")]:
+                run = subprocess.run([COMMAND, "why", *EXAMPLE, "14", "9"], stdout=out, stderr=subprocess.PIPE)
                 self.assertEqual((run.returncode, run.stderr), (status, text))
 
     def test_nobody_to_tell(self) -> None:
         # No standard output, and no room for what is said of it.
-        words_said = b"why: the answer cannot be written: standard output is closed\n"
+        words_said = b"zb: the answer cannot be written: standard output is closed\n"
         for errors, text in [("", words_said), ("2>/dev/full", b"")]:
-            command = f"{shlex.join([sys.executable, PROGRAM, *EXAMPLE, '14', '9'])} >&- {errors}"
+            command = f"{shlex.join([COMMAND, 'why', *EXAMPLE, '14', '9'])} >&- {errors}"
             run = subprocess.run(["/bin/sh", "-c", command], stderr=subprocess.PIPE)
             self.assertEqual((run.returncode, run.stderr), (2, text))
 
 
+@needs_probe
 class AgainstProbe(unittest.TestCase):
     """The examples, and what 01 says of its own bench. What is passed over meets the last of the picked by 01's order: smaller d; b = 1 before
     b = 0; if both have b = 1, larger D; lower row.
@@ -366,7 +449,7 @@ class AgainstProbe(unittest.TestCase):
     #   7, k = 0: tank 11 has had four and starts again at 8; tanks 12 and 14 are ready. The next d are 10, 9, 10: nobody is late at 8.
     #   8, k = 2: 10 b0, 9, 10 b0: tank 12, then 11, which stands before 14.
     def test_example(self) -> None:
-        table, trace = (inputs.read(name) for name in EXAMPLE)
+        table, trace = (files.read(name, REQUEST_LIMIT).data for name in EXAMPLE)
         one = "but passed over: with 1 core free the one picked was tank"
         passed = "but passed over: with 2 cores free the last in line to be picked was tank"
         for tank, slot, text in [
@@ -488,6 +571,42 @@ class AgainstProbe(unittest.TestCase):
         self.assertEqual(Probe().check(TABLE, bytes(REQUEST_LIMIT - 1 - 4 - len(TABLE) - 4)), Check(46, 0, 0))
 
 
+@needs_archive
+class AgainstArchive(unittest.TestCase):
+    """The archive answers as the probe does, and also for more than the probe reads."""
+
+    def test_as_the_probe(self) -> None:
+        late, early = trace("0000", "0000", "010100"), trace("010100", "010100", "0100")
+        for box, given in [
+            *((TABLE, TRACE[:end]) for end in (0, 3, 5, 7, 16)),
+            (TABLE[:-1], TRACE),
+            (TABLE, TRACE + b"\0"),
+            (TABLE, trace("03020001")),
+            (TABLE, trace("01020001")),
+            (TABLE, trace("02020100")),
+            (TABLE, struct.pack("<I", 1_000_000_001)),
+            (table(2, 1, (14, 1, 2, 0, 0)), late),
+            (table(2, 1, (14, 1, 2, 0, 0)), early),
+        ]:
+            self.assertEqual(Archive().check(box, io.BytesIO(given)), Probe().check(box, given))
+
+    def test_a_past_that_is_too_long_for_the_probe(self) -> None:
+        # One row 1/2 on one core, picked in each even slot, early in its window, which is 2i to 2i + 2: five bytes for two slots. 420,000 slots are
+        # 1,050,000 bytes, and 1 MiB is 1,048,576. In the second trace the last pick is left out: the row is late at 420,000.
+        box = table(2, 1, (14, 1, 2, 0, 0))
+        two = bytes.fromhex("010100 0100")
+        head = struct.pack("<I", 420_001)
+        self.assertEqual(said(box, head + 210_000 * two + b"\1\1\0", 14, 420_000, Probe(), Archive()), ["Tank 14 was picked in slot 420000.", 0])
+        late = f"{NOT_OURS}tank 14 was late at the start of slot 420000, and there the dispatcher stops."
+        given = head + 209_999 * two + bytes.fromhex("0100 0100 0100")
+        self.assertEqual(said(box, given, 14, 420_000, Probe(), Archive()), [late, "So there is no answer for slot 420000.", 1])
+
+    def test_the_whole_of_a_long_trace(self) -> None:
+        box, given = table(2, 1, (14, 1, 2, 0, 0)), struct.pack("<I", 420_000) + 210_000 * bytes.fromhex("010100 0100")
+        self.assertEqual(verdict.check(box, io.BytesIO(given), Probe(), Archive()), Check(0, 0, 0))
+
+
+@needs_probe
 class ProgramAgainstProbe(unittest.TestCase):
     def setUp(self) -> None:
         folder = tempfile.TemporaryDirectory()
@@ -495,12 +614,21 @@ class ProgramAgainstProbe(unittest.TestCase):
         self.table, self.trace, self.link = (os.path.join(folder.name, name) for name in ("table", "trace", "link"))
         Path(self.table).write_bytes(TABLE)
         Path(self.trace).write_bytes(TRACE)
-        os.symlink(PROGRAM, self.link)
+        os.symlink(COMMAND, self.link)
 
     def test_files(self) -> None:
         self.assertEqual(as_process(self.table, self.trace, "10", "1"), (0, "Tank 10 was picked in slot 1.\n", ""))
         text = "Slot 3 is not in the trace, which has slots 0 to 2.\n"
-        self.assertEqual(as_process(self.table, self.trace, "10", "3", program=self.link), (1, text, ""))
+        self.assertEqual(as_process(self.table, self.trace, "10", "3", command=self.link), (1, text, ""))
+
+    def test_other_forms_of_the_files(self) -> None:
+        # A typed table, an input of the slot printer, and hex text that no name tells.
+        picked = (0, "Tank 10 was picked in slot 1.\n", "")
+        for name in ["three-tanks.csv", "three-tanks-slots.hex"]:
+            self.assertEqual(as_process(str(ROOT / "examples" / name), self.trace, "10", "1"), picked)
+        Path(self.table).write_text(f"# 01's table\n{TABLE.hex(' ')}\n")
+        Path(self.trace).write_text(f"{TRACE.hex()} # and its trace")
+        self.assertEqual(as_process(self.table, self.trace, "10", "1"), picked)
 
     def test_standard_input(self) -> None:
         self.assertEqual(as_process("-", self.trace, "10", "1", given=TABLE), (0, "Tank 10 was picked in slot 1.\n", ""))
@@ -509,14 +637,22 @@ class ProgramAgainstProbe(unittest.TestCase):
         text += "By the dispatcher's rules tank 10 was picked in slot 0.\n"
         self.assertEqual(as_process(self.table, "-", "10", "0", given=trace("0200")), (1, text, ""))
 
-    def test_a_trace_that_does_not_end(self) -> None:
-        reading, writing = os.pipe()
-        with os.fdopen(reading, "rb") as given, os.fdopen(writing, "wb", buffering=0) as kept_open:
-            kept_open.write(TRACE[:12])
-            run = subprocess.run([sys.executable, PROGRAM, self.table, "-", "10", "1"], stdin=given, capture_output=True, timeout=60)
-        self.assertEqual((run.returncode, run.stdout, run.stderr), (0, b"Tank 10 was picked in slot 1.\n", b""))
+    def test_a_trace_that_ends_behind_the_slot(self) -> None:
+        # Its count says 3 slots, and two records are there: what follows the slot is not looked at, in a file or from a pipe.
+        picked = (0, "Tank 10 was picked in slot 1.\n", "")
+        Path(self.trace).write_bytes(TRACE[:12])
+        self.assertEqual(as_process(self.table, self.trace, "10", "1"), picked)
+        self.assertEqual(as_process(self.table, "-", "10", "1", given=TRACE[:12]), picked)
+        self.assertEqual(as_process(self.table, "-", "10", "1", given=TRACE[:12] + b"\xff"), picked)
+
+    def test_a_refused_table(self) -> None:
+        # Rows begin at byte 9 and have 9 bytes: 35 bytes end inside the third, which is row 2.
+        Path(self.table).write_bytes(TABLE[:-1])
+        text = f"{self.table}: 10, table ends inside a field or row (it ends after 35 bytes, inside row 2)\n"
+        self.assertEqual(as_process(self.table, self.trace, "10", "0"), (1, "", text))
 
 
+@needs_probe
 class ThePage(unittest.TestCase):
     """docs/WHY.md: every example is word for word what the program prints."""
 
@@ -527,10 +663,13 @@ class ThePage(unittest.TestCase):
             self.assertTrue(any(reason in block for block in examples), reason)
         for block in examples:
             command, *expected = [line.removeprefix("    ") for line in block.rstrip("\n").split("\n")]
-            python, program, *arguments = shlex.split(command.removeprefix("$ "))
-            self.assertEqual((python, program), ("python3", "host/desk/why.py"))
-            run = subprocess.run([sys.executable, program, *arguments], capture_output=True, cwd=ROOT)
+            program, word, *arguments = shlex.split(command.removeprefix("$ "))
+            self.assertEqual((program, word), ("./zb", "why"))
+            run = subprocess.run([program, word, *arguments], capture_output=True, cwd=ROOT)
             self.assertEqual((run.stdout.decode().splitlines(), run.stderr), (expected, b""))
+
+    def test_no_command_of_old(self) -> None:
+        self.assertNotIn("python3", PAGE.read_text())
 
 
 if __name__ == "__main__":

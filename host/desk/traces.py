@@ -1,13 +1,17 @@
-"""A trace (01, 'The trace, in bytes'), read up to the record of one slot and no further. What it holds is counted, not judged; but a row that the
+"""A trace (01, 'The trace, in bytes'), read record by record and no further than is asked. What it holds is counted, not judged; but a row that the
 table has not cannot be counted.
 """
 from __future__ import annotations
 
 from dataclasses import dataclass
-from typing import BinaryIO
+from typing import IO
 
-from probe import REQUEST_LIMIT, ROWS
+import endings
+from probe import ROWS
 from words import NOT_OURS, counted
+
+COUNT = 4  # bytes of the count
+TRACE_LIMIT = 1_000_000_000  # the most slots of a trace; the dispatcher itself runs no slot with this number or a higher one
 
 
 class NoAnswer(Exception):
@@ -16,29 +20,37 @@ class NoAnswer(Exception):
 
 @dataclass(frozen=True)
 class Past:
-    """What a trace says up to a slot: how many slots it has by its own count, the records before the slot (of very many no more than make a request
-    too long), how many of them name each row, and the slot's own record.
+    """What a trace says up to a slot: how many slots it has by its own count, how many bytes the records before the slot have, how many of them name each
+    row, and the slot's own record.
     """
 
     slots: int
-    before: bytes
+    length: int
     quanta: tuple[int, ...]
     record: bytes
 
 
-def read(file: BinaryIO, slot: int, rows: int) -> Past:
+def read(file: IO[bytes], slot: int, rows: int) -> Past:
     """The past of a slot, over a table with so many rows."""
-    slots = int.from_bytes(read_part(file, 4, "its count of slots"), "little")
+    slots = read_count(file)
     if slot >= slots:
         raise NoAnswer(f"Slot {slot} is not in the trace, which has {slots_named(slots)}.")
-    before, quanta = bytearray(), ROWS * [0]
-    for earlier in range(slot):
+    length, quanta = 0, ROWS * [0]
+    for earlier in endings.watched(range(slot), "reading the trace", slot):
         record = read_record(file, earlier, rows)
-        for row in set(record[2:]):  # a quantum is a record that names the row, however often it does
-            quanta[row] += 1
-        if len(before) <= REQUEST_LIMIT:  # a past that is longer by itself makes a request that is not sent, so that the rest need not be kept
-            before += record
-    return Past(slots, bytes(before), tuple(quanta), read_record(file, slot, rows))
+        count(record, quanta)
+        length += len(record)
+    return Past(slots, length, tuple(quanta), read_record(file, slot, rows))
+
+
+def count(record: bytes, quanta: list[int]) -> None:
+    """A quantum is a record that names the row, however often it does."""
+    for row in set(record[2:]):
+        quanta[row] += 1
+
+
+def read_count(file: IO[bytes]) -> int:
+    return int.from_bytes(read_part(file, COUNT, "its count of slots"), "little")
 
 
 def slots_named(slots: int) -> str:
@@ -47,18 +59,45 @@ def slots_named(slots: int) -> str:
     return f"slots 0 to {slots - 1}"
 
 
-def read_record(file: BinaryIO, slot: int, rows: int) -> bytes:
+def read_record(file: IO[bytes], slot: int, rows: int) -> bytes:
     """The next record, which is that of this slot."""
+    record = read_any_record(file, slot)
+    named = record[2:]
+    if named and max(named) >= rows:
+        whose = f"the record of slot {slot}"
+        raise NoAnswer(f"{NOT_OURS}{whose} names row {max(named)}, counted from 0, and the table has {counted(rows, 'row')}.")
+    return record
+
+
+def read_any_record(file: IO[bytes], slot: int) -> bytes:
+    """The same, whatever rows it names."""
     whose = f"the record of slot {slot}"
     head = read_part(file, 2, whose)
-    named = read_part(file, head[1], whose)
-    if named and max(named) >= rows:
-        raise NoAnswer(f"{NOT_OURS}{whose} names row {max(named)}, counted from 0, and the table has {counted(rows, 'row')}.")
-    return head + named
+    return head + read_part(file, head[1], whose)
 
 
-def read_part(file: BinaryIO, length: int, what: str) -> bytes:
+def read_part(file: IO[bytes], length: int, what: str) -> bytes:
     part = file.read(length)
     if len(part) < length:
         raise NoAnswer(f"The trace is cut short: {what} is not wholly there.")
     return part
+
+
+class Stretch:
+    """The start of a trace as a trace of its own: so many slots, whose records have so many bytes. It is read from the file as far as it is asked for."""
+
+    def __init__(self, file: IO[bytes], slots: int, length: int) -> None:
+        self.file, self.head, self.left = file, slots.to_bytes(COUNT, "little"), length
+        file.seek(COUNT)
+
+    def read(self, most: int) -> bytes:
+        """The next part; none at the end."""
+        if self.head:
+            head, self.head = self.head, b""
+            return head
+        part = self.file.read(min(most, self.left))
+        self.left -= len(part)
+        return part
+
+    def whole(self) -> bytes:
+        return b"".join(iter(lambda: self.read(1 << 20), b""))

@@ -1,33 +1,21 @@
-"""Why a tank waited in a slot, or that it was picked, in one sentence (02, 'Why did tank 14 wait?').
-
-    python3 host/desk/why.py TABLE TRACE TANK SLOT
-
-TABLE and TRACE are files, byte for byte, or hex text with comments if the name ends in .hex; one of them may be -, standard input. TANK and SLOT
-are decimal numbers.
+"""Why a tank waited in a slot, or that it was picked, in one sentence (02, 'Why did tank 14 wait?'). docs/WHY.md is the page for support staff.
 
 The state before the slot is the table, with the slot as its time and the quanta that the trace's records before the slot give to each row; the
 slot's own record says how many cores were free. The reason is the probe's answer: no rule of the order stands here. What speaks against the trace
 is said first, a sentence a line, each beginning with the same words.
-
-Exit status: 0 for an answer, where nothing speaks against the trace; 1 if the files were read but the question has no answer for them, or if
-something speaks against the trace; 2 if the program could not do its work, for its arguments, the files or the probe.
 """
 from __future__ import annotations
 
-import re
-import sys
 from dataclasses import dataclass
-from typing import BinaryIO
+from typing import IO
 
-import endings
-import inputs
 import traces
+import verdict
 import words
-from probe import CORES, LATE, Check, Probe, State, Table, Trouble, Why, first_cores
-from traces import NoAnswer, Past
-
-USE = "name a table, a trace, a tank and a slot: python3 host/desk/why.py TABLE TRACE TANK SLOT"
-TRACE_LIMIT = 1_000_000_000  # the most slots of a trace; the dispatcher itself runs no slot with this number or a higher one
+from archive import Archive
+from probe import CORES, LATE, Check, Probe, State, Table, Why, first_cores
+from traces import TRACE_LIMIT, NoAnswer, Past
+from trouble import Trouble
 
 PICKED, NOT_READY, NO_CORE_FREE, PASSED_OVER = 1, 2, 3, 4
 RULES = {
@@ -67,24 +55,23 @@ class Said:
     status: int
 
 
-def said(table: bytes, trace: BinaryIO, tank: int, slot: int, probe: Probe) -> Said:
+def said(table: bytes, trace: IO[bytes], tank: int, slot: int, probe: Probe, archive: Archive) -> Said:
     """What is said of a tank in a slot. Of the trace no more is read than is needed."""
     try:
         case = read_case(table, trace, tank, slot, probe)
     except NoAnswer as none:
         return Said((str(none),), 1)
-    checked = probe.check(table, slot.to_bytes(4, "little") + case.past.before)
-    notes = [] if checked else [f"The records before slot {slot} were not checked: they are more than the probe reads."]
+    checked = verdict.check_start(table, trace, slot, case.past.length, probe, archive)
     against = count_faults(case) + check_faults(checked, case)
     why = probe.why(case.state, case.k, case.row)
     if why.number != 0:
-        return Said((*notes, *against_trace(against), refused(why.number, against, case)), 1)
+        return Said((*against_trace(against), refused(why.number, against, case)), 1)
     picked = dispatched(case, probe)
     against += record_faults(picked, case)
-    return Said((*notes, *against_trace(against), answer(why, picked, case)), 1 if against else 0)
+    return Said((*against_trace(against), answer(why, picked, case)), 1 if against else 0)
 
 
-def read_case(table: bytes, trace: BinaryIO, tank: int, slot: int, probe: Probe) -> Case:
+def read_case(table: bytes, trace: IO[bytes], tank: int, slot: int, probe: Probe) -> Case:
     taken = probe.read_table(table)
     if taken.number != 0:
         raise NoAnswer(f"The table is refused: {words.of_number(taken.number)}.")
@@ -105,9 +92,9 @@ def count_faults(case: Case) -> list[str]:
     return [f"it has {case.past.slots} slots by its count, and {TRACE_LIMIT} is the most"]
 
 
-def check_faults(checked: Check | None, case: Case) -> list[str]:
-    """What the trace check found in the records before the slot, if it could be asked."""
-    if checked is None or checked.number == 0:
+def check_faults(checked: Check, case: Case) -> list[str]:
+    """What the trace check found in the records before the slot."""
+    if checked.number == 0:
         return []
     record, tank = f"a record before slot {case.slot}", f"tank {case.table.tank(checked.row)}"
     found = {
@@ -160,54 +147,25 @@ def tanks_of(record: bytes, case: Case) -> str:
 def answer(why: Why, picked: bytes, case: Case) -> str:
     """The one sentence. Where the record is not the dispatcher's, 'was picked' would say of the box what it did not do."""
     subject = "Tank" if case.past.record == picked else "By the dispatcher's rules tank"
-    return f"{subject} {case.tank} {reason(why, case)}."
+    return f"{subject} {case.tank} {reason(why, case.table, case.slot, case.k)}."
 
 
-def reason(why: Why, case: Case) -> str:
+def reason(why: Why, table: Table, slot: int, k: int) -> str:
+    """What is said of a row in a slot with k cores free."""
     if why.reason == PICKED:
-        return f"was picked in slot {case.slot}"
+        return f"was picked in slot {slot}"
     if why.reason == NOT_READY:
         never = ", past the last" if why.first_slot >= TRACE_LIMIT else ""
-        return f"was not ready in slot {case.slot}: the first slot in which it is ready is {why.first_slot}{never}"
+        return f"was not ready in slot {slot}: the first slot in which it is ready is {why.first_slot}{never}"
     if why.reason == NO_CORE_FREE:
-        return f"was ready in slot {case.slot}, but no core was free"
+        return f"was ready in slot {slot}, but no core was free"
     if why.reason == PASSED_OVER and why.rule in RULES:
-        return f"was ready in slot {case.slot}, but passed over: {ahead(why, case)}"
+        return f"was ready in slot {slot}, but passed over: {ahead(why, table, k)}"
     raise Trouble(f"the probe is of another version: it gives reason {why.reason} with rule {why.rule}")
 
 
-def ahead(why: Why, case: Case) -> str:
+def ahead(why: Why, table: Table, k: int) -> str:
     """'the lowest-ranked picked row and the rule that put it ahead'. Whoever is passed over finds all free cores taken."""
-    last = "the one picked" if case.k == 1 else "the last in line to be picked"
-    tank = case.table.tank(why.row)
-    return f"with {words.counted(case.k, 'core')} free {last} was tank {tank}, which goes ahead by {RULES[why.rule].format(tank=tank)}"
-
-
-def main(arguments: list[str], probe: Probe) -> int:
-    """Prints the answer to the question that the arguments ask, and returns the exit status."""
-    return endings.status("why", lambda: run(arguments, probe))
-
-
-def run(arguments: list[str], probe: Probe) -> int:
-    if len(arguments) != 4 or any(name.startswith("-") and name != "-" for name in arguments[:2]):
-        raise Trouble(USE)
-    if arguments[:2] == ["-", "-"]:
-        raise Trouble(f"only one of the two files can be standard input; {USE}")
-    tank, slot = decimal(arguments[2], "TANK"), decimal(arguments[3], "SLOT")
-    table = inputs.read(arguments[0])
-    with inputs.opened(arguments[1]) as trace:
-        result = said(table, trace, tank, slot, probe)
-    for sentence in result.sentences:
-        endings.show(sentence, "answer")
-    return result.status
-
-
-def decimal(text: str, what: str) -> int:
-    """A number that is written in digits alone, without a sign."""
-    if not re.fullmatch("[0-9]{1,99}", text):  # Python itself does not take any number of digits
-        raise Trouble(f"{what} is a decimal number, of digits alone, and not {text!r}; {USE}")
-    return int(text)
-
-
-if __name__ == "__main__":
-    sys.exit(main(sys.argv[1:], Probe()))
+    last = "the one picked" if k == 1 else "the last in line to be picked"
+    tank = table.tank(why.row)
+    return f"with {words.counted(k, 'core')} free {last} was tank {tank}, which goes ahead by {RULES[why.rule].format(tank=tank)}"

@@ -1,16 +1,25 @@
-"""What the sentences of this folder share."""
+"""What the sentences of this folder share, and the words of the maker's numbers."""
 from __future__ import annotations
 
+import functools
+import re
 from pathlib import Path
-from typing import Sequence
+from typing import NamedTuple, Sequence
 
-import inputs
+from trouble import Trouble
 
 # Said of a trace, always with these words, before what shows it.
 NOT_OURS = "This trace is not the dispatcher's for this table: "
 
-# 01's words for its numbers, in the one place where they are kept.
-NUMBERS = Path(__file__).resolve().parent.parent / "c" / "numbers.txt"
+# The words for each number, and for the words of the slot printer, in the one page where they are kept.
+PAGE = Path(__file__).resolve().parent.parent.parent / "docs" / "NUMBERS.md"
+
+
+class Meaning(NamedTuple):
+    """The maker's words for a number, or for a word of the slot printer, and what they mean at a desk."""
+
+    words: str
+    plain: str
 
 
 def counted(count: int, thing: str) -> str:
@@ -28,10 +37,28 @@ def listed(tanks: Sequence[int]) -> str:
     return f"tanks {', '.join(others)} and {last}"
 
 
+@functools.cache
+def meanings() -> dict[str, Meaning]:
+    """All of the page: what is explained, with its two cells."""
+    try:
+        lines = PAGE.read_text(encoding="utf-8").splitlines()
+    except OSError as error:
+        raise Trouble(f"docs/NUMBERS.md cannot be read: {error.strerror}") from None
+    cells = [re.fullmatch(r"\| (.+?) \| (.+?) \| (.+?) \|", line) for line in lines]
+    heads = {at - 1 for at, line in enumerate(lines) if line.startswith("|---")}  # of a table: names of its columns
+    return {found[1]: Meaning(found[2], found[3]) for at, found in enumerate(cells) if found and at not in heads}
+
+
+def meaning(number: int) -> Meaning | None:
+    return meanings().get(str(number))
+
+
 def of_number(number: int) -> str:
-    """A number with 01's words for it: '18, e not below p'. One that is not among them stands alone."""
-    for line in inputs.read(str(NUMBERS)).decode().splitlines():
-        first, _, words = line.partition(" ")
-        if first == str(number):
-            return f"{number}, {words}"
-    return str(number)
+    """A number with the maker's words for it: '18, e not below p'. One that is not among them stands alone."""
+    known = meaning(number)
+    return f"{number}, {known.words}" if known else str(number)
+
+
+def answer(number: int) -> str:
+    """The same as an answer: '18 e not below p'."""
+    return of_number(number).replace(", ", " ", 1)

@@ -1,0 +1,393 @@
+"""The tests of the command: python3 host/desk/test_zb.py. What is expected was worked out by hand, from 01, 02 and docs/NUMBERS.md. The programs behind it
+must be built: host/build probe slot_printer desk.
+"""
+from __future__ import annotations
+
+import contextlib
+import io
+import os
+import re
+import signal
+import socket
+import subprocess
+import tempfile
+import time
+import unittest
+from pathlib import Path
+
+import files
+import listing
+import zb
+from trouble import Trouble
+
+ROOT = Path(__file__).resolve().parent.parent.parent
+ZB = str(ROOT / "zb")
+EXAMPLES = ROOT / "examples"
+
+TABLE = bytes.fromhex("01 03000000 02 0001 03  0A00 0200 0300 0000 00  0B00 0200 0300 0000 00  1400 0200 0300 0000 00")  # 01's example
+TRACE = bytes.fromhex("03000000 02020001 02020002 02020102")
+LISTING = "slot free tanks\n0 2 10 11\n1 2 10 20\n2 2 11 20\nend 3\n"
+BUILT = all((ROOT / "target" / name).exists() for name in ("bin/probe", "bin/slot_printer", "desk/run"))
+
+
+def ran(*arguments: str) -> tuple[int, str, str]:
+    """The exit status, and what was written, of the command in this process."""
+    out, error = io.StringIO(), io.StringIO()
+    with contextlib.redirect_stdout(out), contextlib.redirect_stderr(error):
+        try:
+            status = zb.main(arguments, zb.Desk())
+        except SystemExit as end:  # of --help and --version
+            status = int(end.code or 0)
+    return status, out.getvalue(), error.getvalue()
+
+
+def process(*arguments: str, given: bytes = b"", program: str = ZB) -> tuple[int, str, str]:
+    run = subprocess.run([program, *arguments], input=given, capture_output=True, cwd="/", timeout=60)
+    return run.returncode, run.stdout.decode(), run.stderr.decode()
+
+
+class WithFiles(unittest.TestCase):
+    def setUp(self) -> None:
+        self.folder = Path(self.enterContext(tempfile.TemporaryDirectory()))  # type: ignore[attr-defined]
+
+    def file(self, name: str, data: bytes | str) -> str:
+        path = self.folder / name
+        path.write_bytes(data if isinstance(data, bytes) else data.encode())
+        return str(path)
+
+
+class Words(unittest.TestCase):
+    """What needs nothing built."""
+
+    def test_help(self) -> None:
+        for command in [[], ["table"], ["table", "check"], ["table", "show"], ["table", "write"], ["slots"], ["trace"], ["trace", "check"], ["trace", "show"],
+                        ["why"], ["draw"], ["stats"], ["window"], ["meaning"]]:  # fmt: skip
+            status, out, error = ran(*command, "--help")
+            self.assertEqual((status, error), (0, ""))
+            self.assertTrue(out.startswith("usage: zb"), out)
+
+    def test_version(self) -> None:
+        self.assertEqual(ran("--version"), (0, f"zb {(ROOT / 'VERSION').read_text().strip()}\n", ""))
+
+    def test_nothing_asked(self) -> None:
+        status, out, error = ran()
+        self.assertEqual((status, out), (2, ""))
+        self.assertIn("COMMAND", error)
+
+    def test_wrong_use(self) -> None:
+        for wrong in [["tabel"], ["table"], ["table", "check"], ["table", "check", "a", "b"], ["table", "write", "a"], ["trace", "check", "a"], ["slots", "a", "--slots", "x"],
+                      ["why", "a", "b", "-1", "0"], ["why", "a", "b", "1", "x"], ["draw", "a", "--slots", "5-2"], ["draw", "a", "--slots", "x"], ["meaning"], ["slots", "a", "--slot", "3"],
+                      ["trace", "check", "-", "-"], ["draw", "a", "-o", "b.png"], ["draw", "a", "b", "--free", "1"], ["meaning", "99"], ["window", "1", "2"]]:  # fmt: skip
+            status, out, error = ran(*wrong)
+            self.assertEqual((status, out), (2, ""), wrong)
+            self.assertRegex(error, r"\Azb: [^\n]+\n\Z")
+
+    def test_meaning(self) -> None:
+        status, out, error = ran("meaning", "22")
+        self.assertEqual((status, out.splitlines()[0], error), (0, "22 sum above M*L", ""))
+        self.assertEqual(ran("meaning", "35")[1].splitlines()[0], "35 a set naming a core not below M, or a printer's k above M")
+        self.assertEqual(ran("meaning", "input")[0], 0)
+        self.assertIn("not answered by this version", ran("meaning", "60")[1])
+
+    def test_files_that_cannot_be_read(self) -> None:
+        for name, words in [("/no/such", "No such file or directory"), ("/", "Is a directory")]:
+            for command in [["table", "check", name], ["slots", name], ["trace", "check", name, name], ["draw", name]]:
+                self.assertEqual(ran(*command), (2, "", f"zb: {name} cannot be read: {words}\n"))
+
+    def test_lists_of_free_cores(self) -> None:
+        self.assertEqual(listing.free_list("2,2,0"), b"\2\2\0")
+        self.assertEqual(listing.free_list("3x0, 1 255"), b"\0\0\0\1\xff")
+        self.assertEqual(listing.free_list(""), b"")
+        for wrong in ["a", "2,-1", "256", "x2", "2x", "1.5", "5000x1"]:
+            with self.assertRaises(Trouble):
+                listing.free_list(wrong)
+
+    def test_spans(self) -> None:
+        self.assertEqual([zb.span(text) for text in ("0-11", "5", "7-", "3-3")], [(0, 12), (5, 6), (7, None), (3, 4)])
+
+
+class Forms(WithFiles):
+    """Bytes, hex text and texts are told apart by name or content."""
+
+    def content(self, name: str, data: bytes) -> files.Content:
+        return files.read(self.file(name, data), 1 << 16)
+
+    def test_bytes(self) -> None:
+        self.assertEqual(self.content("t", TABLE), files.Content(TABLE, False))
+        self.assertEqual(self.content("t", TRACE), files.Content(TRACE, False))
+        self.assertEqual(self.content("t", b""), files.Content(b"", False))
+
+    def test_hex(self) -> None:
+        for name in ("t", "t.hex", "t.HEX", "t.bin"):
+            self.assertEqual(self.content(name, b"# a comment, \xc3\xa9\r\n01 0a\tFF # more\n"), files.Content(b"\x01\x0a\xff", False))
+        self.assertEqual(self.content("t.hex", b""), files.Content(b"", False))
+        self.assertEqual(self.content("t", b"0" * 10_000), files.Content(bytes(5_000), False))
+
+    def test_hex_that_is_none(self) -> None:
+        for data, words in [(b"01\n0G", "line 2, has something else"), (b"012", "half a byte")]:
+            with self.assertRaisesRegex(Trouble, words):
+                self.content("t.hex", data)
+
+    def test_texts(self) -> None:
+        for name, data in [("t", b"boards,0\n"), ("t.csv", b"01"), ("t.TXT", b""), ("t", b"# only a comment\n"), ("t", "boards,0\n".encode("utf-16"))]:
+            self.assertEqual(self.content(name, data), files.Content(data, True))
+
+    def test_no_more_is_read_than_is_needed(self) -> None:
+        with open(self.folder / "large", "wb") as file:
+            file.truncate(300_000_000)
+        self.assertEqual(len(files.read(str(self.folder / "large"), 1_000).data), 1_001)
+
+
+@unittest.skipUnless(BUILT, "not built: host/build probe slot_printer desk")
+class Tables(WithFiles):
+    def test_check(self) -> None:
+        status, out, error = ran("table", "check", self.file("t", TABLE))
+        self.assertEqual((status, error), (0, ""))
+        self.assertEqual(out.splitlines()[:2], ["0 done", "3 tanks; load 6 of 6 quanta in a cycle of 3 slots on 2 cores: nothing is left"])
+        self.assertRegex(out.splitlines()[2], r"\Anever late from a fresh start if all 2 cores are free in every slot .* with 1 core .* refused \(22, sum above M\*L\)\Z")
+
+    def test_fewer_cores_are_enough(self) -> None:
+        # Three rows of 1/3 on four cores: one core is enough. With a fourth row it takes two.
+        rows = [f"{tank},1,3" for tank in range(4)]
+        three = "boards,0,1,2,3\ntank,cost,period\n" + "\n".join(rows[:3]) + "\n"
+        self.assertIn("if at least 1 of the 4 cores are free in every slot (proved)\n", ran("table", "check", self.file("t.csv", three))[1])
+        self.assertIn("if at least 2 of the 4 cores are free in every slot (proved); it needs 2: with 1 core", ran("table", "check", self.file("t.csv", three + rows[3] + "\n"))[1])
+
+    def test_where_a_fault_lies(self) -> None:
+        row = TABLE[9:18]
+        for table, number, words in [
+            (TABLE[:-1], "10 table ends inside a field or row", "it ends after 35 bytes, inside row 2"),
+            (TABLE[:7], "10 table ends inside a field or row", "it ends after 7 bytes, inside its board numbers"),
+            (b"", "10 table ends inside a field or row", "it ends after 0 bytes, before its format"),
+            (b"\x02" + TABLE[1:], "11 format is not 1", "byte 0: it is 2"),
+            (b"\x01\0\0\0\0" + TABLE[5:], "12 L outside 1 to 1,000,000", "byte 4: it is 0"),
+            (TABLE[:5] + b"\x09" + TABLE[6:], "13 M outside 1 to 8", "byte 5: it is 9"),
+            (TABLE[:6] + b"\1\1" + TABLE[8:], "14 board numbers not rising", "byte 7: board 1 after board 1"),
+            (TABLE[:8] + b"\x21" + TABLE[9:], "15 n above 32", "byte 8: it is 33"),
+            (TABLE[:18] + row + TABLE[27:], "16 tanks not rising", "row 1, tank 10, bytes 18 to 26: tank 10 after tank 10"),
+            (TABLE[:11] + b"\0" + TABLE[12:], "17 e = 0", "row 0, tank 10, bytes 9 to 17: cost 0"),
+            (TABLE[:29] + b"\3" + TABLE[30:], "18 e not below p", "row 2, tank 20, bytes 27 to 35: cost 3, period 3"),
+            (TABLE[:22] + b"\4" + TABLE[23:], "19 p does not divide L", "row 1, tank 11, bytes 18 to 26: period 4, cycle 3"),
+            (TABLE[:-1] + b"\2", "20 kind above 1", "row 2, tank 20, bytes 27 to 35: kind 2"),
+            (TABLE + b"\0\0", "21 bytes after the last row", "the last row ends after 36 bytes, and there are 38"),
+            (TABLE[:5] + b"\1\0" + TABLE[8:], "22 sum above M*L", "load 6 of 3 quanta in a cycle of 3 slots on 1 core: 3 too many; it would need 2 cores"),
+        ]:
+            status, out, error = ran("table", "check", self.file("t", table))
+            self.assertEqual((status, out.splitlines()), (1, [number, words]))
+            self.assertRegex(error, r"\Azb: [^\n]*\n\Z")
+
+    def test_a_typed_table_that_is_refused(self) -> None:
+        name = self.file("t.csv", "cycle,12\nboards,0,1\ntank,cost,period\n10,2,5\n")
+        for command in [["table", "check", name], ["table", "show", name], ["table", "write", name, "-o", str(self.folder / "out")], ["slots", name], ["draw", name]]:
+            self.assertEqual(ran(*command), (1, "", f"{name}: line 4, period: 19, p does not divide L (period 5, cycle 12)\n"))
+        self.assertFalse((self.folder / "out").exists())
+
+    def test_to_and_fro(self) -> None:
+        source = self.file("t", TABLE)
+        for name in ("a.hex", "b.csv", "c.table"):
+            out = str(self.folder / name)
+            self.assertEqual(ran("table", "write", source, "-o", out)[0], 0)
+            source = out
+        self.assertEqual(Path(source).read_bytes(), TABLE)
+        self.assertEqual(ran("table", "show", source)[1], "cycle,3\nboards,0,1\ntank,cost,period,phase,kind\n10,2,3,0,plain\n11,2,3,0,plain\n20,2,3,0,plain\n")
+
+    def test_an_input_of_the_printer(self) -> None:
+        status, out, error = ran("table", "check", str(EXAMPLES / "three-tanks-slots.hex"))
+        self.assertEqual((status, out.splitlines()[0]), (0, "0 done"))
+        self.assertIn("is an input of the slot printer", error)
+
+    def test_a_large_file(self) -> None:
+        with open(self.folder / "large", "wb") as file:
+            file.write(TABLE)
+            file.truncate(300_000_000)
+        status, out, _ = ran("table", "check", str(self.folder / "large"))
+        self.assertEqual((status, out.splitlines()[0]), (1, "21 bytes after the last row"))
+
+
+@unittest.skipUnless(BUILT, "not built: host/build probe slot_printer desk")
+class Slots(WithFiles):
+    def test_a_table_and_an_input(self) -> None:
+        for name in [self.file("t", TABLE), self.file("t.csv", "boards,0,1\ntank,cost,period\n10,2,3\n11,2,3\n20,2,3\n"), str(EXAMPLES / "three-tanks-slots.hex"), str(EXAMPLES / "three-tanks.hex")]:
+            self.assertEqual(ran("slots", name), (0, LISTING, ""))
+
+    def test_slots_and_free(self) -> None:
+        name = self.file("t", TABLE)
+        self.assertEqual(ran("slots", name, "--slots", "1"), (0, "slot free tanks\n0 2 10 11\nend 1\n", ""))
+        self.assertEqual(ran("slots", name, "--slots", "0"), (0, "slot free tanks\nend 0\n", ""))
+        status, out, error = ran("slots", name, "--free", "0,0")
+        self.assertEqual((status, out), (1, "slot free tanks\n0 0\n1 0\nlate 2 10\n"))
+        self.assertIn("tank 10 is late at time 2", error)
+        status, out, error = ran("slots", name, "--free", "3")
+        self.assertEqual((status, out), (1, "slot free tanks\nrefused 35\n"))
+        self.assertIn("35, a set naming a core not below M", error)
+
+    def test_refused(self) -> None:
+        status, out, error = ran("slots", self.file("t", TABLE[:-1]))
+        self.assertEqual((status, out), (1, "refused 10\n"))
+        self.assertIn("10, table ends inside a field or row", error)
+
+    def test_more_than_the_printer_prints(self) -> None:
+        status, out, error = ran("slots", self.file("t", TABLE), "--slots", "4097")
+        self.assertEqual((status, out), (1, "input\n"))
+        self.assertIn("4096 slots at most", error)
+
+    def test_a_long_cycle_is_cut(self) -> None:
+        name = self.file("t.csv", "cycle,1000000\nboards,0\ntank,cost,period\n1,1,2\n")
+        status, out, error = ran("slots", name)
+        self.assertEqual((status, out.splitlines()[-1], error), (0, "end 100", "zb: 100 of the cycle's 1000000 slots; --slots N prints others\n"))
+
+    def test_with_cores(self) -> None:
+        self.assertEqual(ran("slots", self.file("t", TABLE), "--cores", "--slots", "2")[:2], (0, "slot free moves tanks on cores\n0 2 0 10@0 11@1\n1 2 0 10@0 20@1\nend 2\nmoves 0\n"))
+        self.assertEqual(ran("slots", self.file("t", TABLE[:-1]), "--cores")[:2], (1, "refused 10\n"))
+        self.assertEqual(ran("slots", str(EXAMPLES / "late.hex"), "--cores")[:2], (1, "slot free moves tanks on cores\n0 0 0\n1 0 0\nlate 2 10\nmoves 0\n"))
+
+
+@unittest.skipUnless(BUILT, "not built: host/build probe slot_printer desk")
+class Traces(WithFiles):
+    def setUp(self) -> None:
+        super().setUp()
+        self.table, self.trace = self.file("table", TABLE), self.file("trace", TRACE)
+
+    def test_check(self) -> None:
+        self.assertEqual(ran("trace", "check", self.table, self.trace), (0, "0 done\n3 slots: every quantum ran in its allowed slots, and no tank was late\n", ""))
+        status, out, error = ran("trace", "check", self.table, self.file("late", bytes.fromhex("02000000 0000 0000")))
+        self.assertEqual((status, out.splitlines()[0]), (1, "45 row late"))
+        self.assertTrue(out.splitlines()[1].startswith("tank 10 (row 0) is late at time 2: "))
+        self.assertTrue(error.startswith("zb: A tank missed a deadline."))
+
+    def test_show(self) -> None:
+        status, out, error = ran("trace", "show", self.table, self.trace, "--slots", "1-2")
+        self.assertEqual((status, out.splitlines()[1:]), (0, ["1 2 10#2 20#1", "2 2 11#2 20#2"]))
+        self.assertIn("0, done", error)
+        status, out, error = ran("trace", "show", self.table, self.file("cut", TRACE[:-1]))
+        self.assertEqual((status, len(out.splitlines())), (1, 3))
+        self.assertIn("40, trace ends inside its count or a record: The trace is cut short: the record of slot 2 is not wholly there", error)
+
+    def test_a_refused_table(self) -> None:
+        table = self.file("bad", TABLE[:-1])
+        for command in [["trace", "check"], ["trace", "show"], ["stats"], ["draw"]]:
+            self.assertEqual(ran(*command, table, self.trace), (1, "", f"{table}: 10, table ends inside a field or row (it ends after 35 bytes, inside row 2)\n"))
+
+    def test_stats(self) -> None:
+        status, out, _ = ran("stats", self.table, self.trace)
+        self.assertEqual((status, out.splitlines()[0]), (0, "3 slots; 6 of 6 free core slots used"))
+        self.assertEqual(ran("stats", self.table, self.trace, "--jobs")[1].splitlines()[0], "tank 10 job 1: released 0, done 2, response 2")
+        self.assertEqual(ran("stats", self.table, self.file("late", bytes.fromhex("02000000 0000 0000")))[0], 1)
+
+    def test_standard_input(self) -> None:
+        self.assertEqual(process("trace", "check", self.table, "-", given=TRACE)[0], 0)
+        self.assertEqual(process("trace", "check", "-", self.trace, given=TABLE.hex().encode())[0], 0)
+        self.assertEqual(process("slots", "-", given=TABLE), (0, LISTING, ""))
+
+
+@unittest.skipUnless(BUILT, "not built: host/build probe slot_printer desk")
+class Drawings(WithFiles):
+    def test_forms(self) -> None:
+        table = self.file("t", TABLE)
+        for name, start in [("a.svg", "<"), ("a.html", "<!"), ("a.txt", "slot ")]:
+            out = self.folder / name
+            self.assertEqual(ran("draw", table, "-o", str(out))[:2], (0, ""))
+            self.assertTrue(out.read_text(encoding="utf-8").startswith(start))
+        self.assertEqual(ran("draw", table)[1], (self.folder / "a.txt").read_text(encoding="utf-8"))
+
+    def test_cut(self) -> None:
+        table = self.file("t", TABLE)
+        self.assertEqual(ran("draw", table, "--slots", "4-5")[1].split("\n")[0].split(), ["slot", "4", "5"])
+        status, _, error = ran("draw", table, "--slots", "0-9999")
+        self.assertEqual(status, 2)
+        self.assertIn("2000 slots at most", error)
+
+    def test_late_and_refused(self) -> None:
+        table = self.file("t", TABLE)
+        self.assertEqual(ran("draw", table, "--free", "0,0,2")[0], 1)
+        status, out, _ = ran("draw", table, "--free", "2,7")
+        self.assertEqual(status, 1)
+        self.assertIn("Slot 1 is refused: 35, a set naming a core not below M, or a printer's k above M.", out)
+
+
+@unittest.skipUnless(BUILT, "not built: host/build probe slot_printer desk")
+class Windows(unittest.TestCase):
+    def test_bench(self) -> None:
+        # 01's bench lines, and that of request Three.
+        for arguments, line in [
+            (["5", "16", "2"], "5/16, i = 2: 3 to 7, b 1, D 0"),
+            (["5/16", "5"], "5/16, i = 5: 12 to 16, b 0, D 0"),
+            (["8", "11", "1"], "8/11, i = 1: 0 to 2, b 1, D 4"),
+            (["1", "2", "1"], "1/2, i = 1: 0 to 2, b 0, D 2"),
+            (["2", "3", "4", "1"], "2/3 with f = 4, i = 1: 4 to 6, b 1, D 7"),
+        ]:
+            self.assertEqual(ran("window", *arguments), (0, line + "\n", ""))
+        self.assertEqual(len(ran("window", "8/11", "1-8")[1].splitlines()), 8)
+
+    def test_refused(self) -> None:
+        for arguments in [["1", "1", "1"], ["0", "0", "1"], ["8", "11", "0"], ["8", "11", "1000000002"]]:
+            status, out, _ = ran("window", *arguments)
+            self.assertEqual(status, 1)
+            self.assertTrue(out.endswith(": 50, window refused\n"))
+
+
+@unittest.skipUnless(BUILT, "not built: host/build probe slot_printer desk")
+class Endings(WithFiles):
+    def test_a_full_disk(self) -> None:
+        for command in [["slots", self.file("t", TABLE)], ["table", "show", self.file("t", TABLE)], ["window", "8/11", "1"], ["draw", self.file("t", TABLE)], ["meaning", "22"]]:
+            with open("/dev/full", "wb") as full:
+                run = subprocess.run([ZB, *command], stdout=full, stderr=subprocess.PIPE)
+            self.assertEqual(run.returncode, 2)
+            self.assertRegex(run.stderr.decode(), r"\Azb: the [a-z]+ cannot be written: No space left on device\n\Z")
+        self.assertEqual(ran("draw", self.file("t", TABLE), "-o", "/dev/full")[0], 2)
+
+    def test_a_closed_pipe(self) -> None:
+        reading, writing = os.pipe()
+        os.close(reading)
+        run = subprocess.run([ZB, "slots", self.file("t", TABLE)], stdout=writing, stderr=subprocess.PIPE)
+        os.close(writing)
+        self.assertEqual((run.returncode, run.stderr), (141, b""))
+
+    def test_no_place_to_write(self) -> None:
+        status, out, error = ran("table", "write", self.file("t", TABLE), "-o", "/no/such/folder/t")
+        self.assertEqual((status, out, error), (2, "", "zb: /no/such/folder/t cannot be written: No such file or directory\n"))
+
+    def test_from_anywhere_and_through_a_symlink(self) -> None:
+        link = self.folder / "link"
+        link.symlink_to(ZB)
+        self.assertEqual(process("slots", "-", given=TABLE, program=str(link)), (0, LISTING, ""))
+        self.assertEqual(os.listdir(self.folder), ["link"])
+
+    def test_a_socket_as_standard_input(self) -> None:
+        ours, theirs = socket.socketpair()
+        with ours, theirs:
+            ours.sendall(TABLE)
+            ours.shutdown(socket.SHUT_WR)
+            run = subprocess.run([ZB, "slots", "-"], stdin=theirs, capture_output=True)
+        self.assertEqual((run.returncode, run.stdout.decode()), (0, LISTING))
+
+    def test_ended_from_outside(self) -> None:
+        """What it has started ends with it."""
+        for number, status in [(signal.SIGTERM, 143), (signal.SIGINT, 130)]:
+            os.mkfifo(self.folder / f"never-{status}")
+            started = subprocess.Popen([ZB, "trace", "check", self.file("t", TABLE), str(self.folder / f"never-{status}")], stderr=subprocess.PIPE)
+            time.sleep(0.3)
+            started.send_signal(number)
+            self.assertEqual((started.wait(timeout=10), started.communicate()[1]), (status, b""))
+
+    def test_no_python_is_said(self) -> None:
+        run = subprocess.run(["/bin/sh", ZB], env={"PATH": str(self.folder)}, capture_output=True)
+        self.assertEqual(run.returncode, 2)
+        self.assertRegex(run.stderr.decode(), "python3|dirname|readlink")
+
+
+class Pages(unittest.TestCase):
+    """What the pages show is what is printed."""
+
+    @unittest.skipUnless(BUILT, "not built: host/build probe slot_printer desk")
+    def test_readme_commands(self) -> None:
+        readme = (ROOT / "README.md").read_text(encoding="utf-8")
+        shown = re.findall(r"^    \$ \./zb ((?:slots|draw|why|table check|trace|stats|window|meaning) .*)\n((?:    .*\n)+)", readme, re.MULTILINE)
+        self.assertGreaterEqual(len(shown), 5)
+        for command, lines in shown:
+            arguments = [str(ROOT / word) if word.startswith("examples/") else word for word in command.split("#")[0].split()]
+            self.assertEqual(ran(*arguments)[1], re.sub("^    ", "", lines, flags=re.MULTILINE))
+
+
+if __name__ == "__main__":
+    unittest.main()
