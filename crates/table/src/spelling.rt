@@ -70,7 +70,7 @@ fn put_row(buffer: &mut [u8], at: usize, row: Row)
     fields::put(buffer, at + 8, 1, row.kind as u64);
 }
 
-// Writes what stands first in a row to place `at`. It is a function of its own, since each call in a function makes the next one dearer to check.
+// Writes what stands first in a row to place `at`.
 fn put_front(buffer: &mut [u8], at: usize, tank: u16, cost: u16, period: u16)
     requires { ⌜ at ≤ 303 ⌝ }
     ensures { λ _. ⌜ now (buffer .exit) ≡ sets (now (buffer .entry)) at (bytesOf 2 tank ++ bytesOf 2 cost ++ bytesOf 2 period) ⌝ }
