@@ -6,12 +6,12 @@
  * with the number that 01, the maker's paper, gives to the bytes of the two. FILE is the one that the number is about: TABLE with 10 to 22,
  * else TRACE. Exit status: 0 if the trace passes, 1 if it or the table is refused, 2 if a file cannot be read or the line not be written.
  */
+#include "bytes.h"
 #include "meaning.h"
 #include "zbrojomir.h"
 
 #include <errno.h>
 #include <stdio.h>
-#include <stdlib.h>
 #include <string.h>
 
 enum status { PASSED = 0, REFUSED = 1, TROUBLE = 2 };
@@ -25,32 +25,7 @@ static enum status unread(const char *name) {
     return trouble(strcmp(name, "-") == 0 ? "standard input" : name, "it cannot be read");
 }
 
-struct bytes {
-    uint8_t *start;
-    size_t length;
-};
-
-/* Reads to the end. Returns 0 if it cannot; then `bytes` has what was read before. */
-static int read_rest(FILE *file, struct bytes *bytes) {
-    size_t room = 0, got;
-
-    do {
-        if (bytes->length == room) {
-            size_t wider = room < 4096 ? 4096 : 2 * room;
-            uint8_t *moved = wider > room ? realloc(bytes->start, wider) : NULL;
-            if (moved == NULL) {
-                return 0;
-            }
-            bytes->start = moved;
-            room = wider;
-        }
-        got = fread(bytes->start + bytes->length, 1, room - bytes->length, file);
-        bytes->length += got;
-    } while (got > 0);
-    return !ferror(file);
-}
-
-/* The whole of a file, since a trace has no longest length that memory could hold beforehand. */
+/* The whole of a file. */
 static int read_file(const char *name, struct bytes *bytes) {
     int standard = strcmp(name, "-") == 0, done;
     FILE *file;

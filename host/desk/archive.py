@@ -11,10 +11,12 @@ from dataclasses import dataclass
 from typing import IO, Iterator, Protocol, Sequence
 
 import building
+import endings
 from probe import CORES, LATE, RECORD, Check
 from trouble import Trouble
 
 ENTRY = struct.Struct(f"<{RECORD}s{CORES}sBB")  # of each slot: its record, the core of each picked row, the number and the row of its answer
+DOES = {"run": "running slots", "judge": "checking the trace"}
 PLACE = struct.Struct("<BBQ")  # number, row, time
 COMMAND = (str(building.HOST / "run"), "desk")
 
@@ -92,11 +94,11 @@ class Archive:
             except OSError as error:
                 raise Trouble(f"there is no room for what the archive is asked: {error.strerror}") from None
             try:
-                run = subprocess.run([*self.command, word, str(len(table))], stdin=asked, stdout=answers, stderr=subprocess.PIPE)
+                run = subprocess.Popen([*self.command, word, str(len(table))], stdin=asked, stdout=answers, stderr=subprocess.PIPE)
             except OSError as error:
                 raise Trouble(f"the archive does not start: {error}") from None
+            said = endings.awaited(run, DOES[word])
             if run.returncode != 0:
-                said = " ".join(run.stderr.decode(errors="replace").split())
-                raise Trouble(said or f"the archive ended with status {run.returncode}")
+                raise Trouble(" ".join(said.split()) or f"the archive ended with status {run.returncode}")
             answers.seek(0)
             yield answers

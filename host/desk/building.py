@@ -16,8 +16,14 @@ BUILD = str(HOST / "build")
 def need(name: str) -> None:
     """Sees that a program is built: probe, slot_printer, or desk, the program behind archive.py."""
     try:
-        built = subprocess.run([BUILD, name], stdin=subprocess.DEVNULL)
+        build = subprocess.Popen([BUILD, name], stdin=subprocess.DEVNULL)
     except OSError as error:
         raise Trouble(f"host/build does not start: {error.strerror}") from None
-    if built.returncode != 0:
+    try:
+        status = build.wait()
+    except BaseException:  # it ends what it has started itself, if it is asked to
+        build.terminate()
+        build.wait()
+        raise
+    if status != 0:
         raise Trouble(f"without the program {name} there is no answer")

@@ -15,7 +15,8 @@ HEADER = "slot free moves tanks on cores"
 def listing(asked: inputs.Asked, table: Table, archive: Archive) -> Iterator[str]:
     """The lines for an input whose table is taken, without their newlines."""
     yield HEADER
-    total, last, slot = 0, dict[int, int](), -1
+    total = 0
+    last: dict[int, int] = {}
     listed = bytes(asked.free(slot, table.cores) for slot in range(asked.slots))
     for slot, ran in enumerate(archive.run(asked.table, listed)):
         if ran.number > LATE:

@@ -4,6 +4,7 @@ from __future__ import annotations
 import contextlib
 import os
 import signal
+import subprocess
 import sys
 import time
 from types import FrameType
@@ -102,6 +103,23 @@ def put_words(text: str) -> None:
         print(text, end="", file=sys.stderr, flush=True)
     except OSError:
         forget(sys.stderr)
+
+
+def awaited(process: subprocess.Popen[bytes], what: str) -> str:
+    """What a process says on standard error, once it has ended. If that takes longer than a moment it is said for how long it has been at it; and if we are
+    ended before, so is it.
+    """
+    began = time.monotonic()
+    try:
+        while True:
+            try:
+                return process.communicate(timeout=QUIET if time.monotonic() - began < 1 else 10)[1].decode(errors="replace")
+            except subprocess.TimeoutExpired:
+                tell(f"{what}: {time.monotonic() - began:.0f} s")
+    except BaseException:
+        process.kill()
+        process.wait()
+        raise
 
 
 def watched(items: Iterable[Item], what: str, count: int | None = None) -> Iterator[Item]:

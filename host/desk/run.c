@@ -7,11 +7,9 @@
  * - for `judge` a trace: the answer is the number (1), the row (1) and the time (8) of its check.
  * Exit status: 0 if all was read and written, else 2.
  */
+#include "../c/bytes.h"
+
 #include <errno.h>
-#include <stddef.h>
-#include <stdint.h>
-#include <stdio.h>
-#include <stdlib.h>
 #include <string.h>
 
 /* The crate desk_run. */
@@ -23,31 +21,6 @@ enum { ENTRY = 20, NUMBER_AT = 18, DONE = 0, TROUBLE = 2 };
 static int trouble(const char *what) {
     fprintf(stderr, "run: %s: %s\n", what, errno != 0 ? strerror(errno) : "no room");
     return TROUBLE;
-}
-
-struct bytes {
-    uint8_t *start;
-    size_t length;
-};
-
-/* All of standard input. Returns 0 if it cannot be read. */
-static int read_all(struct bytes *bytes) {
-    size_t room = 0, got;
-
-    do {
-        if (bytes->length == room) {
-            size_t wider = room < 65536 ? 65536 : 2 * room;
-            uint8_t *moved = wider > room ? realloc(bytes->start, wider) : NULL;
-            if (moved == NULL) {
-                return 0;
-            }
-            bytes->start = moved;
-            room = wider;
-        }
-        got = fread(bytes->start + bytes->length, 1, room - bytes->length, stdin);
-        bytes->length += got;
-    } while (got > 0);
-    return !ferror(stdin);
 }
 
 static int put(const uint8_t *bytes, size_t length) {
@@ -91,7 +64,7 @@ int main(int count, char **words) {
     errno = 0;
     if (count != 3 || (strcmp(words[1], "run") != 0 && strcmp(words[1], "judge") != 0)) {
         fprintf(stderr, "usage: run run|judge LENGTH\n");
-    } else if (!read_all(&input)) {
+    } else if (!read_rest(stdin, &input)) {
         trouble("standard input");
     } else if (length > input.length) {
         fprintf(stderr, "run: the table is not wholly there\n");

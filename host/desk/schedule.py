@@ -23,7 +23,7 @@ def drawn(title: str, taken: Table, course: Course, first: int, end: int, probe:
     rows = tables.plan_of(taken.value).rows
     given, shown = split(course.records, first, end)
     windows = windows_of(rows, given, shown, first, end, probe)
-    waits = waits_of(taken, course, first, shown, given, probe)
+    waits = waits_of(taken, first, shown, given, probe)
     lines = tuple(
         Line(row.tank, row.cost, row.period, row.phase, row.kind == 1, overlapping(windows[at], first, end), quanta_of(at, given[at], windows[at], first, shown, course), waits[at])
         for at, row in enumerate(rows)
@@ -85,10 +85,10 @@ def quanta_of(row: int, given: int, windows: dict[int, Window], first: int, show
     return tuple(quanta)
 
 
-def waits_of(taken: Table, course: Course, first: int, shown: Sequence[bytes], given: Sequence[int], probe: Probe) -> list[dict[int, str]]:
+def waits_of(taken: Table, first: int, shown: Sequence[bytes], given: Sequence[int], probe: Probe) -> list[dict[int, str]]:
     """For each row the slots in which it was ready and did not run, with the reason."""
     asked = [(slot, record, row) for slot, record in enumerate(shown, first) for row in range(len(taken.tanks)) if row not in record[2:]]
-    states = states_of(taken, first, shown, given)
+    states = list(each_state(taken, first, shown, list(given)))
     questions = ((states[slot - first], record[0], row) for slot, record, row in asked)
     waits: list[dict[int, str]] = [{} for _ in taken.tanks]
     answers = endings.watched(probe.whys(questions), "asking why tanks waited", len(asked))
@@ -99,12 +99,8 @@ def waits_of(taken: Table, course: Course, first: int, shown: Sequence[bytes], g
     return waits
 
 
-def states_of(taken: Table, first: int, shown: Sequence[bytes], given: Sequence[int]) -> list[State]:
-    """The state before each slot that is shown."""
-    return list(each_state(taken, first, shown, list(given)))
-
-
 def each_state(taken: Table, first: int, shown: Sequence[bytes], quanta: list[int]) -> Iterator[State]:
+    """The state before each slot that is shown, by the quanta before the first."""
     for slot, record in enumerate(shown, first):
         yield taken.at(slot, quanta)
         for row in record[2:]:

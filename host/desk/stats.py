@@ -3,6 +3,7 @@ the trace says; when a row was ready, and when its jobs were released, are the p
 """
 from __future__ import annotations
 
+import itertools
 from dataclasses import dataclass, field
 from typing import Iterator, NamedTuple, Sequence
 
@@ -71,10 +72,11 @@ def count_waits(found: Sequence[Tank], taken: Table, course: Course, probe: Prob
     """Once a row has had a quantum it is asked when the next can run at the earliest: with no core free it is either not ready, with the first slot in
     which it is, or it is ready.
     """
-    turns = list(each_turn(taken, course))
-    answers = endings.watched(probe.whys((turn.state, 0, turn.row) for turn in turns), "asking when tanks were ready", len(turns))
+    turns, asked = itertools.tee(each_turn(taken, course))  # no more of them are kept than the probe is asked at once: a state has 584 bytes
+    answers = probe.whys((turn.state, 0, turn.row) for turn in asked)
+    total = len(found) + sum(len(tank.slots) for tank in found)
     ran = [iter([*tank.slots, len(course.records)]) for tank in found]
-    for turn, answer in zip(turns, answers):
+    for turn, answer in endings.watched(zip(turns, answers), "asking when tanks were ready", total):
         until = next(ran[turn.row])
         if answer.number != 0:
             continue  # a state that is late has no answer, and nothing runs after it

@@ -2,6 +2,8 @@
 from __future__ import annotations
 
 import io
+import random
+import struct
 import unittest
 from pathlib import Path
 
@@ -14,7 +16,7 @@ import verdict
 import window
 from archive import Archive
 from picture import Late, Window
-from probe import Probe, Table
+from probe import LATE, Probe, Table, first_cores
 from traces import NoAnswer
 from trouble import Trouble
 
@@ -71,9 +73,9 @@ class Verdicts(OverTrace):
         self.assertEqual(self.verdict(bytes(4)), (0, "0 slots: every quantum ran in its allowed slots, and no tank was late", 0))
 
     def test_cut(self) -> None:
-        self.assertEqual(self.verdict(TRACE[:-1]), (40, "The trace is cut short: the record of slot 2 is not wholly there", 2))
-        self.assertEqual(self.verdict(TRACE[:3]), (40, "The trace is cut short: its count of slots is not wholly there", 0))
-        self.assertEqual(self.verdict(b""), (40, "The trace is cut short: its count of slots is not wholly there", 0))
+        self.assertEqual(self.verdict(TRACE[:-1]), (40, "the trace is cut short: the record of slot 2 is not wholly there", 2))
+        self.assertEqual(self.verdict(TRACE[:3]), (40, "the trace is cut short: its count of slots is not wholly there", 0))
+        self.assertEqual(self.verdict(b""), (40, "the trace is cut short: its count of slots is not wholly there", 0))
 
     def test_records(self) -> None:
         for slot_1, number, words in [
@@ -107,7 +109,7 @@ class Verdicts(OverTrace):
         slots = 600_000
         trace = slots.to_bytes(4, "little") + slots * b"\2\0"
         self.assertEqual(self.verdict(trace, NO_ROWS)[::2], (0, slots))
-        self.assertEqual(self.verdict(trace[:-1], NO_ROWS), (40, "The trace is cut short: the record of slot 599999 is not wholly there", slots - 1))
+        self.assertEqual(self.verdict(trace[:-1], NO_ROWS), (40, "the trace is cut short: the record of slot 599999 is not wholly there", slots - 1))
         damaged = trace[:-2] + b"\3\0"
         self.assertEqual(self.verdict(damaged, NO_ROWS), (41, "the record of slot 599999 says that 3 cores were free, and the table has 2", slots - 1))
         self.assertEqual(self.verdict(trace)[::2], (45, 2))
@@ -135,6 +137,25 @@ class Shown(OverTrace):
 
 
 class Courses(OverTrace):
+    def test_the_archive_runs_slots_as_the_probe_does(self) -> None:
+        # Tables of any kind, and any number of free cores, slot by slot: record, cores, number and row.
+        draw = random.Random(24)
+        for _ in range(6):
+            cores = draw.randint(1, 4)
+            rows = [(10 * tank, draw.randint(1, 5), draw.choice([6, 12]), draw.randint(0, 4), draw.randint(0, 1)) for tank in range(draw.randint(1, 5))]
+            table = struct.pack("<BIB", 1, 12, cores) + bytes(range(cores)) + bytes([len(rows)]) + b"".join(struct.pack("<HHHHB", *row) for row in rows)
+            taken = self.probe.read_table(table)
+            if taken.number != 0:
+                continue
+            listed = bytes(draw.choice([cores, cores, draw.randint(0, cores)]) for _ in range(15)) + bytes([cores + 1])
+            state = taken.fresh()
+            for slot, ran in enumerate(self.archive.run(table, listed)):
+                asked = self.probe.run_slot(state, first_cores(listed[slot]))
+                self.assertEqual((ran.number, ran.row, ran.pairs), (asked.number, asked.row, asked.placement.pairs))
+                if ran.number <= LATE:
+                    self.assertEqual(ran.record, asked.record)
+                state = asked.state
+
     def test_ours(self) -> None:
         ran = course.ours(TABLE, self.taken(TABLE), b"\2\2\2", self.archive)
         self.assertEqual(b"".join(ran.records), TRACE[4:])

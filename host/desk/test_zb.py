@@ -10,6 +10,7 @@ import re
 import signal
 import socket
 import subprocess
+import sys
 import tempfile
 import time
 import unittest
@@ -261,7 +262,7 @@ class Traces(WithFiles):
         self.assertIn("0, done", error)
         status, out, error = ran("trace", "show", self.table, self.file("cut", TRACE[:-1]))
         self.assertEqual((status, len(out.splitlines())), (1, 3))
-        self.assertIn("40, trace ends inside its count or a record: The trace is cut short: the record of slot 2 is not wholly there", error)
+        self.assertIn("40, trace ends inside its count or a record: the trace is cut short: the record of slot 2 is not wholly there", error)
 
     def test_a_refused_table(self) -> None:
         table = self.file("bad", TABLE[:-1])
@@ -378,6 +379,18 @@ class Endings(WithFiles):
 
 class Pages(unittest.TestCase):
     """What the pages show is what is printed."""
+
+    @unittest.skipUnless(BUILT, "not built: host/build probe slot_printer desk")
+    def test_the_client_of_the_probe(self) -> None:
+        page = (ROOT / "docs" / "PROBE.md").read_text(encoding="utf-8")
+        [client] = re.findall(r"^```python\n(.*?)^```$", page, re.MULTILINE | re.DOTALL)
+        self.assertLessEqual(len([line for line in client.splitlines() if line]), 20)
+        with tempfile.NamedTemporaryFile() as table:
+            table.write(TABLE)
+            table.flush()
+            run = subprocess.run([sys.executable, "-c", client, table.name], cwd=ROOT, capture_output=True)
+        self.assertEqual(run.stdout.decode(), f"8/11, i = 3: number 0, r 2, d 5, b 1, D 8\n{table.name}: number 0\n")
+        self.assertIn("    8/11, i = 3: number 0, r 2, d 5, b 1, D 8\n", page)
 
     @unittest.skipUnless(BUILT, "not built: host/build probe slot_printer desk")
     def test_readme_commands(self) -> None:

@@ -71,18 +71,23 @@ def whole(checked: Check, trace: IO[bytes]) -> Verdict:
     slot = slots = 0
     try:
         slots = traces.read_count(trace)
+        if checked.number == 0:
+            return Verdict(checked, f"{words.counted(slots, 'slot')}: every quantum ran in its allowed slots, and no tank was late", slots)
         if checked.number == 47:
             return Verdict(checked, f"its count says {slots} slots", 0)
         for slot in endings.watched(range(slots), "looking for the end", slots):
             traces.read_any_record(trace, slot)
     except NoAnswer as cut:
-        return Verdict(checked, str(cut).rstrip('.'), slot)
+        return Verdict(checked, lowered(str(cut)), slot)
     end = trace.tell()
     behind = trace.seek(0, os.SEEK_END) - end
-    if checked.number == 0:
-        return Verdict(checked, f"{words.counted(slots, 'slot')}: every quantum ran in its allowed slots, and no tank was late", slots)
     what = "byte stands" if behind == 1 else "bytes stand"
     return Verdict(checked, f"{behind} {what} behind {f'the record of slot {slots - 1}, the last' if slots else 'its count, which is 0'}", slots)
+
+
+def lowered(sentence: str) -> str:
+    """A sentence as a part of another."""
+    return sentence[0].lower() + sentence[1:].rstrip(".")
 
 
 def misshapen(checked: Check, table: bytes, taken: Table, trace: IO[bytes], probe: Probe) -> Verdict:
