@@ -85,8 +85,8 @@ class Archive:
             building.need("desk")
         # Both go through files that have no name: nobody has to read and write by turns.
         with contextlib.ExitStack() as closed:
-            asked, answers = (closed.enter_context(tempfile.TemporaryFile()) for _ in range(2))
             try:
+                asked, answers = (closed.enter_context(tempfile.TemporaryFile()) for _ in range(2))
                 asked.write(table)
                 for part in parts:
                     asked.write(part)

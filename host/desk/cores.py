@@ -3,7 +3,7 @@ slots are run by the archive, with the first k cores free.
 """
 from __future__ import annotations
 
-from typing import Iterable, Iterator
+from typing import Iterable, Iterator, Mapping
 
 import inputs
 from archive import Archive, Ran
@@ -34,6 +34,11 @@ def listing(asked: inputs.Asked, table: Table, archive: Archive) -> Iterator[str
     yield f"moves {total}"
 
 
-def moves(last: dict[int, int], now: Iterable[tuple[int, int]]) -> int:
-    """How many rows moved: 'a row picked in this slot and the one before, on another core'. `last` has the cores of the slot before."""
-    return sum(last.get(row, core) != core for row, core in now)
+def moves(last: Mapping[int, int], now: Iterable[tuple[int, int]]) -> int:
+    """How many rows moved. `last` has the core of each row in the slot before."""
+    return sum(has_moved(last, row, core) for row, core in now)
+
+
+def has_moved(last: Mapping[int, int], row: int, core: int) -> bool:
+    """'a row picked in this slot and the one before, on another core'"""
+    return last.get(row, core) != core

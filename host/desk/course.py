@@ -17,31 +17,33 @@ MOST = 1_000_000  # slots that are kept in memory, and compared with our own
 
 @dataclass(frozen=True)
 class Course:
-    """The record of each slot, and the core of each of its rows, if they are known. `late` is the row that was late at the end, `refused` the slot that was
-    refused there and its number. The notes say how it ended, and what is not known.
+    """The record of each slot, and the core of each of its rows, if they are known. `number` is how it ended: 0, or the number of lateness or of a refusal.
+    `late` is the row that was late at the end, `refused` the slot that was refused there, if it is one. The notes say how it ended, and what is not known.
     """
 
     records: tuple[bytes, ...]
     cores: tuple[dict[int, int], ...] | None
+    number: int = 0
     late: Late | None = None
-    refused: tuple[int, int] | None = None
+    refused: int | None = None
     notes: tuple[str, ...] = ()
 
     @property
     def fine(self) -> bool:
         """Nobody was late, and nothing was refused."""
-        return self.late is None and self.refused is None
+        return self.number == 0
 
 
 def ours(table: bytes, taken: Table, listed: bytes, archive: Archive) -> Course:
     """Slots of our own, with the first listed[i] cores free in slot i."""
     ran = list(endings.watched(archive.run(table, listed), "running slots", len(listed)))
     done = [slot for slot in ran if slot.number <= LATE]
-    late = Late(ran[-1].row, len(ran)) if ran and ran[-1].number == LATE else None
-    refused = (len(done), ran[-1].number) if len(done) < len(ran) else None
+    number = ran[-1].number if ran else 0
+    late = Late(ran[-1].row, len(ran)) if number == LATE else None
+    refused = len(done) if number > LATE else None
     notes = (f"Tank {taken.tank(late.row)} is late at time {late.time}: there the dispatcher stops.",) if late else ()
-    notes += (f"Slot {refused[0]} is refused: {words.of_number(refused[1])}.",) if refused else ()
-    return Course(tuple(slot.record for slot in done), tuple(slot.cores for slot in done), late, refused, notes)
+    notes += (f"Slot {refused} is refused: {words.of_number(number)}.",) if refused is not None else ()
+    return Course(tuple(slot.record for slot in done), tuple(slot.cores for slot in done), number, late, refused, notes)
 
 
 def of_trace(table: bytes, taken: Table, trace: IO[bytes], probe: Probe, archive: Archive) -> Course:
@@ -51,11 +53,11 @@ def of_trace(table: bytes, taken: Table, trace: IO[bytes], probe: Probe, archive
     trace.seek(0)
     records = read_records(trace, min(slots, MOST))
     late = Late(judged.checked.row, judged.checked.time) if judged.number == 45 else None
-    refused = (judged.sound, judged.number) if judged.number not in (0, 45) else None
     cores, unknown = known_cores(table, taken, records, slots, judged.number, archive)
     notes = (f"The trace check answers {words.of_number(judged.number)}: {judged.sentence}.",) if judged.number else ()
     cut = (f"Only the first {MOST:,} of {slots:,} slots are looked at.",) if slots > MOST else ()
-    return Course(records, cores, late, refused, notes + cut + unknown)
+    refused = judged.refused if slots <= MOST else None
+    return Course(records, cores, judged.number, late, refused, notes + cut + unknown)
 
 
 def read_records(trace: IO[bytes], slots: int) -> tuple[bytes, ...]:
@@ -73,7 +75,7 @@ def known_cores(
         return None, (f"Cores and moves are unknown: the trace has more than {MOST:,} slots.",)
     if number not in (0, 45):
         return None, ("Cores and moves are unknown: the trace does not pass.",)
-    run = list(archive.run(table, bytes(record[0] for record in records)))
+    run = list(endings.watched(archive.run(table, bytes(record[0] for record in records)), "running slots", len(records)))
     for slot, record in enumerate(records):
         if slot >= len(run) or run[slot].record != record:
             return None, (f"Cores and moves are unknown: the record of slot {slot} is not the one that this dispatcher writes.",)

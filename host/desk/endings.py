@@ -2,6 +2,7 @@
 from __future__ import annotations
 
 import contextlib
+import io
 import os
 import signal
 import subprocess
@@ -13,7 +14,7 @@ from typing import Callable, Iterable, Iterator, TextIO, TypeVar
 from trouble import Trouble
 
 FINE, ANSWERED_NO, WRONG_USE = 0, 1, 2  # the exit statuses: fine; the answer is a refusal or lateness; wrong use, or no answer could be had
-QUIET = 2.0  # seconds that something may take before it is said how far it is
+QUIET, PAUSE = 2.0, 5.0  # seconds that something may take before it is said how far it is, and from then on between two lines
 Item = TypeVar("Item")
 
 
@@ -26,19 +27,30 @@ def status(name: str, work: Callable[[], int]) -> int:
     except Trouble as trouble:
         tell(f"{name}: {trouble}")
         return WRONG_USE
+    except BrokenPipeError:
+        return 141  # as a shell says it of a program whose reader has gone
+    except OSError as error:
+        tell(f"{name}: {f'{error.filename}: ' if error.filename else ''}{error.strerror or error}")
+        return WRONG_USE
     except MemoryError:
         tell(f"{name}: there is not enough memory for this")
         return WRONG_USE
     except KeyboardInterrupt:
-        return 130  # as a shell says it of a program that Ctrl-C has ended
+        return 130  # and of one that Ctrl-C has ended
     except Terminated:
         return 143
-    except BrokenPipeError:
-        return 141  # and of one whose reader has gone
 
 
 class Terminated(BaseException):
     """The program was told to end: what it has started is ended on the way out, as after Ctrl-C."""
+
+
+def be_ready() -> None:
+    """What cannot be spelled in the characters of the terminal is replaced, and to be told to end is heeded."""
+    for stream in (sys.stdout, sys.stderr):
+        if isinstance(stream, io.TextIOWrapper):
+            stream.reconfigure(errors="replace")
+    heed_termination()
 
 
 def heed_termination() -> None:
@@ -124,13 +136,13 @@ def awaited(process: subprocess.Popen[bytes], what: str) -> str:
 
 def watched(items: Iterable[Item], what: str, count: int | None = None) -> Iterator[Item]:
     """The items, one after another; once that takes longer than a moment it is said how far it is."""
-    began = said = time.monotonic()
+    began = time.monotonic()
     terminal = sys.stderr is not None and sys.stderr.isatty()
-    wiped = True
+    said, wiped = began - PAUSE, True
     for done, item in enumerate(items):
         yield item
         now = time.monotonic()
-        if now - began > QUIET and now - said > (0.5 if terminal else 5.0):
+        if now - began > QUIET and now - said > (PAUSE / 10 if terminal else PAUSE):
             far = f"{done + 1:,} of {count:,}" if count else f"{done + 1:,}"
             put_words(f"\r{what}: {far} \x1b[K" if terminal else f"{what}: {far}\n")
             said, wiped = now, False

@@ -17,7 +17,7 @@ from typing import IO, Any, Iterator
 
 from trouble import Trouble
 
-SNIFFED = 4096  # bytes from the front by which a text is told
+SNIFFED = 1 << 16  # bytes from the front by which a text is told
 TEXT_MOST = 1 << 24  # bytes of a text that is read whole
 TEXT_NAMES = (".csv", ".txt", ".tsv")
 NOT_TEXT = re.compile(rb"[\x00-\x08\x0e-\x1f]")
@@ -97,16 +97,15 @@ def unjudged(name: str) -> Iterator[tuple[bytes, IO[bytes]]]:
     """A file, whatever it holds, and how it starts. It can be read from its start on, again and again."""
     if name == "-" and sys.stdin is None:
         raise Trouble("standard input cannot be read: it is closed")
-    try:
-        with open(0 if name == "-" else name, "rb", closefd=name != "-") as file, contextlib.ExitStack() as closed:
-            again = file if file.seekable() else closed.enter_context(Kept(file))
+    with contextlib.ExitStack() as closed:
+        try:
+            file = closed.enter_context(open(0 if name == "-" else name, "rb", closefd=name != "-"))
+            again: IO[bytes] = file if file.seekable() else closed.enter_context(Kept(file))
             start = again.read(SNIFFED)
             again.seek(0)
-            yield start, again
-    except BrokenPipeError:  # of what is printed meanwhile
-        raise
-    except OSError as error:
-        raise Trouble(f"{shown(name)} cannot be read: {error.strerror}") from None
+        except OSError as error:
+            raise Trouble(f"{shown(name)} cannot be read: {error.strerror}") from None
+        yield start, again
 
 
 def is_hex(name: str, start: bytes) -> bool:

@@ -9,6 +9,7 @@ import endings
 import tables
 import why
 import words
+from cores import has_moved
 from course import Course
 from picture import Line, Picture, Quantum, Window
 from probe import ROWS, Probe, State, Table
@@ -37,7 +38,7 @@ def drawn(title: str, taken: Table, course: Course, first: int, end: int, probe:
         lines,
         course.cores is not None,
         course.late if course.late and course.late.time <= end else None,
-        (course.refused[0], words.of_number(course.refused[1])) if course.refused and first <= course.refused[0] < end else None,
+        (course.refused, words.of_number(course.number)) if course.refused is not None and first <= course.refused < end else None,
         course.notes,
     )
 
@@ -80,8 +81,8 @@ def quanta_of(row: int, given: int, windows: dict[int, Window], first: int, show
         if row in record[2:]:
             given += 1
             core = course.cores[slot].get(row) if course.cores else None
-            before = course.cores[slot - 1].get(row, core) if course.cores and slot > 0 else core
-            quanta.append(Quantum(windows[given], slot, core, before != core))
+            moved = core is not None and course.cores is not None and slot > 0 and has_moved(course.cores[slot - 1], row, core)
+            quanta.append(Quantum(windows[given], slot, core, moved))
     return tuple(quanta)
 
 

@@ -10,6 +10,7 @@ from typing import Iterator, NamedTuple, Sequence
 import endings
 import tables
 import words
+from cores import has_moved
 from course import Course
 from probe import ROWS, Probe, State, Table
 from table_text import Row
@@ -62,9 +63,11 @@ def counted(taken: Table, course: Course, probe: Probe) -> list[Tank]:
             found[row].slots.append(slot)
     count_waits(found, taken, course, probe)
     count_jobs(found, probe)
-    for slot, now in enumerate(course.cores or ()):
+    before: dict[int, int] = {}
+    for now in course.cores or ():
         for row, core in now.items():
-            found[row].moves += slot > 0 and (course.cores or ())[slot - 1].get(row, core) != core
+            found[row].moves += has_moved(before, row, core)
+        before = now
     return found
 
 
@@ -102,7 +105,7 @@ def count_jobs(found: Sequence[Tank], probe: Probe) -> None:
     """A job is 'e quanta in a row'. It is released where the window of its first quantum begins."""
     done = [(tank, job) for tank in found for job in range(1, 1 + len(tank.slots) // tank.row.cost)]
     firsts = probe.windows((tank.row.cost, tank.row.period, tank.row.phase, 1 + (job - 1) * tank.row.cost) for tank, job in done)
-    for (tank, job), window in zip(done, firsts):
+    for (tank, job), window in endings.watched(zip(done, firsts), "asking when jobs were released", len(done)):
         tank.jobs.append(Job(job, window.start, tank.slots[job * tank.row.cost - 1] + 1))
 
 

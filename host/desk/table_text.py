@@ -56,15 +56,19 @@ class Typed:
 
 
 class Fault(Exception):
-    """What is wrong with a text, or with the table in it, and where; with 01's number, if it is a refusal."""
+    """What is wrong with a text, or with the table in it, and where; with 01's number, and what it is about, if it is a refusal."""
 
-    def __init__(self, words: str, line: int | None = None, column: str | None = None, number: int | None = None) -> None:
+    def __init__(self, words: str, line: int | None = None, column: str | None = None, number: int | None = None, detail: str = "") -> None:
         super().__init__(words)
-        self.words, self.line, self.column, self.number = words, line, column, number
+        self.words, self.line, self.column, self.number, self.detail = words, line, column, number, detail
 
     def __str__(self) -> str:
+        return self.placed(self.words)
+
+    def placed(self, words: str) -> str:
+        """Words, behind the place."""
         place = ", ".join(([f"line {self.line}"] if self.line else []) + ([self.column] if self.column else []))
-        return f"{place}: {self.words}" if place else self.words
+        return f"{place}: {words}" if place else words
 
 
 def read(data: bytes) -> Typed:

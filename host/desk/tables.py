@@ -15,7 +15,7 @@ import files
 import inputs
 import table_text
 import words
-from probe import CORES, LONGEST_TABLE, ROW, ROW_PARTS, ROWS, ROWS_AT, TABLE_HEAD, TABLE_VALUE, Probe
+from probe import CORES, LONGEST_TABLE, ROW, ROW_PARTS, ROWS, ROWS_AT, TABLE_HEAD, TABLE_VALUE, Probe, Table
 from table_text import CYCLE_MOST, TEXT_LIMIT, Fault, Plan, Row, Typed
 from trouble import Trouble
 
@@ -42,12 +42,12 @@ def plan_of(value: bytes) -> Plan:
     return Plan(cycle, tuple(boards[:cores]), tuple(Row(*row) for row in rows))
 
 
-def taken(table: bytes, probe: Probe) -> Plan:
-    """The plan in a table's bytes, or the fault with which the proved reader refuses them."""
+def taken(table: bytes, probe: Probe) -> Table:
+    """A table that the reader takes, or the fault with which it refuses the bytes."""
     read = probe.read_table(table)
     if read.number != 0:
-        raise Fault(words.of_number(read.number), number=read.number)
-    return plan_of(read.value)
+        raise fault(read.number, place(table, read.number, probe))
+    return read
 
 
 def written(typed: Typed, probe: Probe) -> bytes:
@@ -62,11 +62,11 @@ def written(typed: Typed, probe: Probe) -> bytes:
     whole, *parts = probe.write_tables([value_of(asked) for asked in (plan, *boards, *rows)])
     if whole.number != 0:
         numbers = [part.number for part in parts]
-        raise refusal(whole.number, typed, numbers[: len(boards)], numbers[len(boards) :])
+        raise refusal(whole.number, typed, numbers[: len(boards)], numbers[len(boards) :], probe)
     return whole.table
 
 
-def refusal(number: int, typed: Typed, boards: Sequence[int], rows: Sequence[int]) -> Fault:
+def refusal(number: int, typed: Typed, boards: Sequence[int], rows: Sequence[int], probe: Probe) -> Fault:
     """The fault that a number names, with its place. `boards` and `rows` are the numbers for the plan cut behind each board and each row: the first
     cut with the same number has the fault in its last board or row.
     """
@@ -85,12 +85,12 @@ def refusal(number: int, typed: Typed, boards: Sequence[int], rows: Sequence[int
         at = rows.index(number)
         return fault(number, row_words(number, plan, at), typed.row_lines[at], ROW_COLUMNS[number])
     if number == 22:
-        return fault(number, load(plan))
+        return fault(number, f"{load(plan)}; {would_need(plan, probe)}")
     raise Trouble(f"the probe is of another version, or contradicts itself: it refuses a table with number {number}")
 
 
 def fault(number: int, detail: str, line: int | None = None, column: str | None = None) -> Fault:
-    return Fault(f"{words.of_number(number)} ({detail})", line, column, number)
+    return Fault(f"{words.of_number(number)} ({detail})", line, column, number, detail)
 
 
 def cycle_words(typed: Typed) -> str:
@@ -188,9 +188,10 @@ def never_late(table: bytes, plan: Plan, probe: Probe) -> str:
     return f"never late from a fresh start if {enough} free in every slot (proved){fewer}"
 
 
-def would_need(table: bytes, probe: Probe) -> str:
-    """How many cores a table would need that is refused with 22."""
-    needed = cores_needed(table, probe)
+def would_need(plan: Plan, probe: Probe) -> str:
+    """How many cores a table would need that is refused with 22. It has bytes to be asked for if it is taken with all that a box can have."""
+    [most] = probe.write_tables([value_of(replace(plan, boards=tuple(range(CORES))))])
+    needed = cores_needed(most.table, probe) if most.number == 0 else None
     return f"it would need {needed} cores" if needed else f"no box has so many cores: {CORES} are the most"
 
 
@@ -208,7 +209,7 @@ def place(table: bytes, number: int, probe: Probe) -> str:
     if number == 21:
         return f"the last row ends after {7 + len(plan.boards) + ROW * len(plan.rows)} bytes, and there are {len(table)}"
     if number == 22:
-        return f"{load(plan)}; {would_need(table, probe)}"
+        return f"{load(plan)}; {would_need(plan, probe)}"
     cuts = [table[:end] for end in range(1, 1 + min(len(table), LONGEST_TABLE))]
     numbers = [read.number for read in probe.read_tables(cuts)]
     if number not in numbers:
@@ -240,7 +241,10 @@ def inside(table: bytes) -> str:
     for end, part in ends:
         if len(table) < end:
             return part
-    return "before its row count" if len(table) == boards_end else f"inside row {(len(table) - boards_end - 1) // ROW}"
+    if len(table) == boards_end:
+        return "before its row count"
+    row, there = divmod(len(table) - boards_end - 1, ROW)
+    return f"inside row {row}" if there else f"before row {row}"
 
 
 def in_form(table: bytes, plan: Plan, name: str) -> bytes:

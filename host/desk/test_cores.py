@@ -11,6 +11,7 @@ from pathlib import Path
 from typing import Iterator
 
 import archive
+import commands
 import cores
 import files
 import inputs
@@ -103,7 +104,7 @@ EXAMPLE_RUN = done((0, 0), (1, 1)), done((0, 0), (2, 1)), done((1, 0), (2, 1))
 def text(input: bytes, probe: Probe, archive: Archive) -> str:
     asked = inputs.split(input)
     assert asked is not None
-    return "".join(line + "\n" for line in zb.list_slots(asked, True, zb.Desk(probe, archive)))
+    return "".join(line + "\n" for line in commands.list_slots(asked, True, zb.Desk(probe, archive)))
 
 
 class InFolder(unittest.TestCase):
@@ -359,7 +360,7 @@ class Listings(InFolder):
     def test_lines_come_one_by_one(self) -> None:
         asked = inputs.split(THREE_SLOTS)
         assert asked is not None
-        lines = zb.list_slots(asked, True, zb.Desk(Fake(TAKEN), OneByOne()))
+        lines = commands.list_slots(asked, True, zb.Desk(Fake(TAKEN), OneByOne()))
         self.assertEqual([next(lines), next(lines)], [cores.HEADER, "0 2 0 10@0 11@1"])
 
     def test_late_with_a_move(self) -> None:
@@ -447,7 +448,7 @@ class Command(InFolder):
     def test_other_slots_than_the_file_has(self) -> None:
         ours = FakeArchive([done(), done((0, 1))])
         said = cores.HEADER + "\n0 0 0\n1 1 0 10@1\nend 2\nmoves 0\n"
-        self.assertEqual(self.printed(THREE_SLOTS, Fake(*INPUT_READ), ours, "--slots", "2", "--free", "0,1,2"), (0, said, ""))
+        self.assertEqual(self.printed(THREE_SLOTS, Fake(*INPUT_READ), ours, "--slots", "2", "--free", "0,1,2"), (0, said, "zb: of the 3 slots of the list the first 2 are printed\n"))
         self.assertEqual(ours.asked, [(TABLE, b"\0\1")])
 
 
@@ -567,7 +568,8 @@ class ProgramAgainstProbe(unittest.TestCase):
 
     def test_standard_input(self) -> None:
         self.assert_input("the table's length says 36, so the input must have 42 bytes with 0 k values, and has 43", THREE_SLOTS + b"\0")
-        self.assert_input("it has more than 65,536 bytes", bytes(70_000))
+        self.assert_input("it has more than 65,536 bytes", b"\0\0\1" + bytes(70_000))
+        self.assert_refused(11, "format is not 1", bytes(70_000))
         self.assert_input("it is empty", b"")
 
     def test_input(self) -> None:

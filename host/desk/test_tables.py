@@ -83,6 +83,10 @@ def as_process(*arguments: str, given: bytes = b"", command: str = COMMAND) -> t
     return testing.as_process("table", *arguments, given=given, command=command)
 
 
+def read_plan(table: bytes) -> Plan:
+    return tables.plan_of(tables.taken(table, Probe()).value)
+
+
 class FaultCase(unittest.TestCase):
     def assert_faults(self, data: str | bytes, words: str) -> None:
         with self.assertRaises(Fault) as raised:
@@ -338,7 +342,7 @@ class Requests(unittest.TestCase):
                 tables.written(typed(THREE_TEXT), refusing(number, 0, 0, 0, 0, 0))
         for head in ["03000000 09 0001000000000000 03", "03000000 02 0001000000000000 21"]:
             with self.assertRaisesRegex(Trouble, "^the probe takes a table of "):
-                tables.taken(b"", Fake(b"\0" + bytes.fromhex(head).ljust(302, b"\0")))
+                tables.plan_of(tables.taken(b"", Fake(b"\0" + bytes.fromhex(head).ljust(302, b"\0"))).value)
 
 
 class Places(unittest.TestCase):
@@ -388,14 +392,22 @@ class Places(unittest.TestCase):
 
     def test_load(self) -> None:
         # 01: three rows 2/3 on two cores take 6 of 6, and a fourth of 1/3 one more.
-        words = "22, sum above M*L (load 7 of 6 quanta in a cycle of 3 slots on 2 cores: 1 too many)"
-        self.assert_refused(THREE_TEXT + "21,1,3,0,plain\n", [22, 0, 0, 0, 0, 0, 22], words)
+        words = "22, sum above M*L (load 7 of 6 quanta in a cycle of 3 slots on 2 cores: 1 too many; no box has so many cores: 8 are the most)"
+        answers = b"".join(write_answer(number) for number in [22, 0, 0, 0, 0, 0, 22])
+        with self.assertRaises(Fault) as raised:
+            tables.written(typed(THREE_TEXT + "21,1,3,0,plain\n"), Fake(answers, write_answer(22)))  # which refuses it with eight cores too
+        self.assertEqual((str(raised.exception), raised.exception.number), (words, 22))
 
     def test_a_table_that_is_read(self) -> None:
-        for number, words in [(10, "10, table ends inside a field or row"), (18, "18, e not below p"), (99, "99")]:
-            with self.assertRaises(Fault) as raised:
-                tables.taken(TABLE, Fake(bytes([number]) + bytes(302)))
-            self.assertEqual((str(raised.exception), raised.exception.number), (words, number))
+        # Row 1 ends with byte 26: up to there the cuts are answered with 10.
+        cuts = [bytes([number]) + bytes(302) for number in 26 * [10] + 10 * [18]]
+        with self.assertRaises(Fault) as raised:
+            tables.taken(TABLE, Fake(bytes([18]) + bytes(302), b"".join(cuts)))
+        self.assertEqual((str(raised.exception), raised.exception.number), ("18, e not below p (row 1, tank 11, bytes 18 to 26: cost 2, period 3)", 18))
+
+    def test_a_number_that_no_part_has(self) -> None:
+        with self.assertRaisesRegex(Trouble, "contradicts itself"):
+            tables.taken(TABLE, Fake(bytes([99]) + bytes(302), 36 * (bytes([10]) + bytes(302))))
 
 
 class InFolder(unittest.TestCase):
@@ -634,7 +646,7 @@ class AgainstProbe(unittest.TestCase):
         for text in [Path(FARM).read_text(), Path(THREE_TANKS).read_text(), "boards,7\n", "cycle,12\nboards,0,9\ntank,cost,period,phase,kind\n0,3,4,65535,early\n"]:
             plan = plan_of(text)
             table = tables.written(typed(text), Probe())
-            self.assertEqual(tables.taken(table, Probe()), plan)
+            self.assertEqual(read_plan(table), plan)
             spelled = table_text.text(plan)
             self.assertEqual(tables.written(typed(spelled), Probe()), table)
             self.assertEqual(table_text.text(plan_of(spelled)), spelled)
@@ -645,12 +657,12 @@ class AgainstProbe(unittest.TestCase):
         assert full is not None
         self.assertEqual(len(full.table), 303)
         for table in [full.table, TABLE, example("tank-14.hex")]:
-            self.assert_written(table_text.text(tables.taken(table, Probe())), table)
+            self.assert_written(table_text.text(read_plan(table)), table)
 
     def test_hex_is_spelled_as_in_the_examples(self) -> None:
         example = (ROOT / "examples" / "tank-14.hex").read_text()
         table = files.unhexed(example.encode(), "f")
-        self.assertEqual(tables.hex_text(table, tables.taken(table, Probe())), example.split("\n", 1)[1])
+        self.assertEqual(tables.hex_text(table, read_plan(table)), example.split("\n", 1)[1])
 
     def test_cycle(self) -> None:
         words = "12, L outside 1 to 1,000,000"
@@ -695,15 +707,19 @@ class AgainstProbe(unittest.TestCase):
             self.assert_refused(text, f"line 35: 15, n above 32 ({many} rows)")
 
     def test_load(self) -> None:
-        words = "22, sum above M*L (load 7 of 6 quanta in a cycle of 3 slots on 2 cores: 1 too many)"
+        words = "22, sum above M*L (load 7 of 6 quanta in a cycle of 3 slots on 2 cores: 1 too many; it would need 3 cores)"
         self.assert_refused(THREE_TEXT + "21,1,3,0,plain\n", words)
         # Three rows of 2/3 on one core, 6 of 3, and the last of them has a fault, which comes before the sum.
         self.assert_refused("boards,0\ntank,cost,period,kind\n1,2,3\n2,2,3\n3,2,3,9\n", "line 5, kind: 20, kind above 1 (kind 9)")
 
     def test_tables_that_are_refused(self) -> None:
-        for table, words in [(TABLE[:-1], "10, table ends inside a field or row"), (TABLE + b"\0", "21, bytes after the last row")]:
-            with self.assertRaisesRegex(Fault, f"^{words}$"):
+        for table, words in [
+            (TABLE[:-1], "10, table ends inside a field or row (it ends after 35 bytes, inside row 2)"),
+            (TABLE + b"\0", "21, bytes after the last row (the last row ends after 36 bytes, and there are 37)"),
+        ]:
+            with self.assertRaises(Fault) as raised:
                 tables.taken(table, Probe())
+            self.assertEqual(str(raised.exception), words)
 
 
 @needs_probe

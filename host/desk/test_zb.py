@@ -7,15 +7,20 @@ import contextlib
 import io
 import os
 import re
+import shutil
 import signal
 import socket
 import subprocess
 import sys
 import tempfile
+import threading
 import time
 import unittest
 from pathlib import Path
+from unittest import mock
 
+import building
+import endings
 import files
 import listing
 import zb
@@ -87,7 +92,10 @@ class Words(unittest.TestCase):
         status, out, error = ran("meaning", "22")
         self.assertEqual((status, out.splitlines()[0], error), (0, "22 sum above M*L", ""))
         self.assertEqual(ran("meaning", "35")[1].splitlines()[0], "35 a set naming a core not below M, or a printer's k above M")
-        self.assertEqual(ran("meaning", "input")[0], 0)
+        for word in ("input", "late", "refused", "end", "022"):
+            self.assertEqual(ran("meaning", word)[0], 0)
+        for word in ("36,", "number", "", "3", "N"):
+            self.assertEqual(ran("meaning", word)[0], 2)
         self.assertIn("not answered by this version", ran("meaning", "60")[1])
 
     def test_files_that_cannot_be_read(self) -> None:
@@ -159,6 +167,8 @@ class Tables(WithFiles):
         for table, number, words in [
             (TABLE[:-1], "10 table ends inside a field or row", "it ends after 35 bytes, inside row 2"),
             (TABLE[:7], "10 table ends inside a field or row", "it ends after 7 bytes, inside its board numbers"),
+            (TABLE[:8], "10 table ends inside a field or row", "it ends after 8 bytes, before its row count"),
+            (TABLE[:18], "10 table ends inside a field or row", "it ends after 18 bytes, before row 1"),
             (b"", "10 table ends inside a field or row", "it ends after 0 bytes, before its format"),
             (b"\x02" + TABLE[1:], "11 format is not 1", "byte 0: it is 2"),
             (b"\x01\0\0\0\0" + TABLE[5:], "12 L outside 1 to 1,000,000", "byte 4: it is 0"),
@@ -179,9 +189,23 @@ class Tables(WithFiles):
 
     def test_a_typed_table_that_is_refused(self) -> None:
         name = self.file("t.csv", "cycle,12\nboards,0,1\ntank,cost,period\n10,2,5\n")
-        for command in [["table", "check", name], ["table", "show", name], ["table", "write", name, "-o", str(self.folder / "out")], ["slots", name], ["draw", name]]:
-            self.assertEqual(ran(*command), (1, "", f"{name}: line 4, period: 19, p does not divide L (period 5, cycle 12)\n"))
+        self.assertEqual(ran("table", "check", name)[:2], (1, "19 p does not divide L\nline 4, period: period 5, cycle 12\n"))
+        words = f"{name}: line 4, period: 19, p does not divide L (period 5, cycle 12)\n"
+        for command in [["table", "show", name], ["table", "write", name, "-o", str(self.folder / "out")], ["draw", name]]:
+            self.assertEqual(ran(*command), (1, "", words))
+        self.assertEqual(ran("slots", name), (1, "refused 19\n", words))
         self.assertFalse((self.folder / "out").exists())
+
+    def test_what_is_no_table_has_no_number(self) -> None:
+        name = self.file("t.csv", "boards,0\ntank,cost,period\n10,ten,5\n")
+        self.assertEqual(ran("table", "check", name), (1, "", f"{name}: line 3, cost: 'ten' is not a whole number written in digits\n"))
+
+    def test_how_many_cores_a_typed_table_would_need(self) -> None:
+        three = "boards,0\ntank,cost,period\n10,2,3\n11,2,3\n20,2,3\n"
+        words = "load 6 of 3 quanta in a cycle of 3 slots on 1 core: 3 too many; it would need 2 cores"
+        self.assertEqual(ran("table", "check", self.file("t.csv", three))[:2], (1, f"22 sum above M*L\n{words}\n"))
+        many = "boards,0\ntank,cost,period\n" + "".join(f"{tank},2,3\n" for tank in range(13))  # 26 of 3, and 8 cores give 24
+        self.assertTrue(ran("table", "check", self.file("t.csv", many))[1].endswith("23 too many; no box has so many cores: 8 are the most\n"))
 
     def test_to_and_fro(self) -> None:
         source = self.file("t", TABLE)
@@ -232,6 +256,23 @@ class Slots(WithFiles):
         self.assertEqual((status, out), (1, "input\n"))
         self.assertIn("4096 slots at most", error)
 
+    def test_what_is_no_input_and_no_table(self) -> None:
+        example = files.read(str(EXAMPLES / "three-tanks-slots.hex"), 1_000).data
+        status, out, error = ran("slots", self.file("t", example[:-1]))
+        self.assertEqual((status, out, error), (1, "input\n", "zb: input: the table's length says 36, so the input must have 42 bytes with 0 k values, and has 41\n"))
+        for data in (b"\2" + TABLE[1:], TRACE):
+            self.assertEqual(ran("slots", self.file("t", data))[:2], (1, "refused 11\n"))
+
+    def test_cores_are_listed_for_the_same_slots(self) -> None:
+        # Past the list the printer decides how many cores are free: the listing with cores has the same numbers, in both of its columns.
+        name = self.file("t", TABLE)
+        for arguments in [["--slots", "5"], ["--slots", "5", "--free", "2,1"], ["--free", "2,2,2,2,2,2,2,2"]]:
+            plain, with_cores = (ran("slots", name, *arguments, *more)[1].splitlines() for more in ([], ["--cores"]))
+            self.assertEqual([line.split()[:2] for line in plain[1:]], [line.split()[:2] for line in with_cores[1:-1]])
+
+    def test_a_list_that_is_too_long(self) -> None:
+        self.assertEqual(ran("slots", self.file("t", TABLE), "--slots", "1", "--free", "2,2")[2], "zb: of the 2 slots of the list the first 1 are printed\n")
+
     def test_a_long_cycle_is_cut(self) -> None:
         name = self.file("t.csv", "cycle,1000000\nboards,0\ntank,cost,period\n1,1,2\n")
         status, out, error = ran("slots", name)
@@ -266,8 +307,9 @@ class Traces(WithFiles):
 
     def test_a_refused_table(self) -> None:
         table = self.file("bad", TABLE[:-1])
-        for command in [["trace", "check"], ["trace", "show"], ["stats"], ["draw"]]:
-            self.assertEqual(ran(*command, table, self.trace), (1, "", f"{table}: 10, table ends inside a field or row (it ends after 35 bytes, inside row 2)\n"))
+        self.assertEqual(ran("trace", "check", table, self.trace)[:2], (1, "10 table ends inside a field or row\nit ends after 35 bytes, inside row 2\n"))
+        for command in [["trace", "show", table, self.trace], ["stats", table, self.trace], ["draw", table, self.trace], ["why", table, self.trace, "10", "0"]]:
+            self.assertEqual(ran(*command), (1, "", f"{table}: 10, table ends inside a field or row (it ends after 35 bytes, inside row 2)\n"))
 
     def test_stats(self) -> None:
         status, out, _ = ran("stats", self.table, self.trace)
@@ -297,6 +339,20 @@ class Drawings(WithFiles):
         status, _, error = ran("draw", table, "--slots", "0-9999")
         self.assertEqual(status, 2)
         self.assertIn("2000 slots at most", error)
+
+    def test_what_is_cut_is_said(self) -> None:
+        name = self.file("t.csv", "cycle,1000\nboards,0\ntank,cost,period\n1,1,2\n")
+        self.assertEqual(ran("draw", name)[2], "zb: slots 0 to 47 of 1000; --slots A-B draws others\n")
+        table, trace = self.file("t", TABLE), self.file("u", TRACE)
+        self.assertIn("zb: the trace goes up to slot 2\n", ran("draw", table, trace, "--slots", "5-9")[2])
+        self.assertIn("zb: the trace goes up to slot 2\n", ran("trace", "show", table, trace, "--slots", "5-9")[2])
+
+    def test_what_is_late_is_seen(self) -> None:
+        # 01's rows for 300 slots, and then no core for two: late at time 302.
+        trace = (302).to_bytes(4, "little") + 100 * TRACE[4:] + bytes(4)
+        status, out, _ = ran("draw", self.file("t", TABLE), self.file("u", trace))
+        self.assertEqual(status, 1)
+        self.assertIn("  late at 302", out)
 
     def test_late_and_refused(self) -> None:
         table = self.file("t", TABLE)
@@ -367,18 +423,90 @@ class Endings(WithFiles):
         for number, status in [(signal.SIGTERM, 143), (signal.SIGINT, 130)]:
             os.mkfifo(self.folder / f"never-{status}")
             started = subprocess.Popen([ZB, "trace", "check", self.file("t", TABLE), str(self.folder / f"never-{status}")], stderr=subprocess.PIPE)
-            time.sleep(0.3)
-            started.send_signal(number)
-            self.assertEqual((started.wait(timeout=10), started.communicate()[1]), (status, b""))
+            with open(self.folder / f"never-{status}", "wb"):  # once it is opened there too
+                started.send_signal(number)
+                started.wait(timeout=30)
+            self.assertEqual((started.returncode, started.communicate()[1]), (status, b""))
 
     def test_no_python_is_said(self) -> None:
+        for name in ("dirname", "readlink"):
+            found = shutil.which(name)
+            assert found is not None
+            (self.folder / name).symlink_to(found)
         run = subprocess.run(["/bin/sh", ZB], env={"PATH": str(self.folder)}, capture_output=True)
-        self.assertEqual(run.returncode, 2)
-        self.assertRegex(run.stderr.decode(), "python3|dirname|readlink")
+        self.assertEqual((run.returncode, run.stderr.decode()), (2, "zb: Python 3 is not here: on Debian it is the package python3\n"))
+
+    def test_letters_that_the_terminal_has_not(self) -> None:
+        run = subprocess.run([ZB, "draw", self.file("t", TABLE)], capture_output=True, env={**os.environ, "PYTHONIOENCODING": "latin-1"})
+        self.assertEqual((run.returncode, run.stderr), (0, b""))
+
+    def test_no_room_for_what_is_kept(self) -> None:
+        for command, given in [(["draw", self.file("t", TABLE)], b""), (["trace", "check", self.file("t", TABLE), "-"], TRACE)]:
+            run = subprocess.run([ZB, *command], input=given, capture_output=True, env={**os.environ, "TMPDIR": "/no/such"}, cwd="/proc")
+            self.assertIn(run.returncode, (0, 2))
+            self.assertNotIn("Traceback", run.stderr.decode())
+
+    def test_no_file_is_lost(self) -> None:
+        table, trace = self.file("t", TABLE), self.file("u", TRACE)
+        for command in [["draw", table, "-o", table], ["draw", table, trace, "-o", trace], ["draw", table, trace, "-o", table], ["table", "write", table, "-o", table]]:
+            status, out, error = ran(*command)
+            self.assertEqual((status, out), (2, ""))
+            self.assertIn("are one file, and what it has would be lost", error)
+        self.assertEqual((Path(table).read_bytes(), Path(trace).read_bytes()), (TABLE, TRACE))
+
+
+class Progress(unittest.TestCase):
+    def test_what_takes_long_is_said(self) -> None:
+        error = io.StringIO()
+        with contextlib.redirect_stderr(error), mock.patch.object(endings, "QUIET", -1.0):
+            self.assertEqual(list(endings.watched(range(3), "counting", 3)), [0, 1, 2])
+        self.assertEqual(error.getvalue(), "counting: 1 of 3\n")
+
+    def test_what_is_quick_is_not(self) -> None:
+        error = io.StringIO()
+        with contextlib.redirect_stderr(error):
+            list(endings.watched(range(3), "counting"))
+        self.assertEqual(error.getvalue(), "")
+
+    def test_a_process_that_takes_long(self) -> None:
+        error = io.StringIO()
+        with contextlib.redirect_stderr(error), mock.patch.object(endings, "QUIET", 0.05):
+            process = subprocess.Popen(["/bin/sh", "-c", "sleep 0.3; echo words >&2"], stderr=subprocess.PIPE)
+            self.assertEqual(endings.awaited(process, "waiting"), "words\n")
+        self.assertTrue(error.getvalue().startswith("waiting: "))
+
+    def test_a_build_ends_with_the_command(self) -> None:
+        """host/build is asked to end, and waited for: so it can end what it has started."""
+        with tempfile.TemporaryDirectory() as folder:
+            script = Path(folder) / "build"
+            script.write_text("#!/bin/sh\ntrap 'echo ended >\"$0.said\"; exit 2' TERM\n: >\"$0.begun\"\nwhile :; do sleep 0.05; done\n")
+            script.chmod(0o755)
+
+            def interrupt() -> None:
+                while not script.with_name("build.begun").exists():
+                    time.sleep(0.01)
+                os.kill(os.getpid(), signal.SIGINT)
+
+            with mock.patch.object(building, "BUILD", str(script)), self.assertRaises(KeyboardInterrupt):
+                threading.Thread(target=interrupt).start()
+                building.need.__wrapped__("probe")
+            self.assertEqual(script.with_name("build.said").read_text(), "ended\n")
 
 
 class Pages(unittest.TestCase):
     """What the pages show is what is printed."""
+
+    @unittest.skipUnless(BUILT, "not built: host/build probe slot_printer desk")
+    def test_the_late_farm(self) -> None:
+        page = (ROOT / "docs" / "NEVER-LATE.md").read_text(encoding="utf-8")
+        farm = (EXAMPLES / "farm.csv").read_text(encoding="utf-8").replace("boards,0,1\n", "boards,0,1,2\n")
+        with tempfile.NamedTemporaryFile(suffix=".csv") as table:
+            table.write(farm.encode())
+            table.flush()
+            status, out, _ = ran("slots", table.name, "--free", "12x1")
+            self.assertEqual(ran("slots", table.name, "--slots", "4096", "--free", "7x1,4089x2")[1].splitlines()[-1], "end 4096")
+        self.assertEqual(status, 1)
+        self.assertIn("".join(f"    {line}\n" for line in out.splitlines()), page)
 
     @unittest.skipUnless(BUILT, "not built: host/build probe slot_printer desk")
     def test_the_client_of_the_probe(self) -> None:

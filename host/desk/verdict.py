@@ -22,12 +22,13 @@ ASKED_AT_ONCE = 4096  # records
 @dataclass(frozen=True)
 class Verdict:
     """The answer of the check, where and what it is in a sentence, and how many slots from the front nothing speaks against: a slot with a quantum that
-    came too early is the first that is not among them.
+    came too early is the first that is not among them. `refused` is the slot whose record is no record.
     """
 
     checked: Check
     sentence: str
     sound: int
+    refused: int | None = None
 
     @property
     def number(self) -> int:
@@ -69,6 +70,7 @@ def of(table: bytes, taken: Table, trace: IO[bytes], probe: Probe, archive: Arch
 def whole(checked: Check, trace: IO[bytes]) -> Verdict:
     """The verdict on a trace in whose records nothing was found: where it ends, and what stands behind it."""
     slot = slots = 0
+    refused: int | None = None
     try:
         slots = traces.read_count(trace)
         if checked.number == 0:
@@ -76,9 +78,10 @@ def whole(checked: Check, trace: IO[bytes]) -> Verdict:
         if checked.number == 47:
             return Verdict(checked, f"its count says {slots} slots", 0)
         for slot in endings.watched(range(slots), "looking for the end", slots):
+            refused = slot
             traces.read_any_record(trace, slot)
     except NoAnswer as cut:
-        return Verdict(checked, lowered(str(cut)), slot)
+        return Verdict(checked, lowered(str(cut)), slot, refused)
     end = trace.tell()
     behind = trace.seek(0, os.SEEK_END) - end
     what = "byte stands" if behind == 1 else "bytes stand"
@@ -96,7 +99,7 @@ def misshapen(checked: Check, table: bytes, taken: Table, trace: IO[bytes], prob
         answers = probe.checks((table, b"\1\0\0\0" + record) for record in records)
         for (record, slot), answer in zip(records.items(), answers):
             if answer.number == checked.number:
-                return Verdict(checked, f"the record of slot {slot} {record_words(checked.number, record, taken)}", slot)
+                return Verdict(checked, f"the record of slot {slot} {record_words(checked.number, record, taken)}", slot, slot)
     return Verdict(checked, "which slot it is was not found", 0)
 
 

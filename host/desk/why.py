@@ -55,10 +55,10 @@ class Said:
     status: int
 
 
-def said(table: bytes, trace: IO[bytes], tank: int, slot: int, probe: Probe, archive: Archive) -> Said:
-    """What is said of a tank in a slot. Of the trace no more is read than is needed."""
+def said(table: bytes, taken: Table, trace: IO[bytes], tank: int, slot: int, probe: Probe, archive: Archive) -> Said:
+    """What is said of a tank in a slot, over a table that is taken. Of the trace no more is read than is needed."""
     try:
-        case = read_case(table, trace, tank, slot, probe)
+        case = read_case(taken, trace, tank, slot)
     except NoAnswer as none:
         return Said((str(none),), 1)
     checked = verdict.check_start(table, trace, slot, case.past.length, probe, archive)
@@ -71,10 +71,7 @@ def said(table: bytes, trace: IO[bytes], tank: int, slot: int, probe: Probe, arc
     return Said((*against_trace(against), answer(why, picked, case)), 1 if against else 0)
 
 
-def read_case(table: bytes, trace: IO[bytes], tank: int, slot: int, probe: Probe) -> Case:
-    taken = probe.read_table(table)
-    if taken.number != 0:
-        raise NoAnswer(f"The table is refused: {words.of_number(taken.number)}.")
+def read_case(taken: Table, trace: IO[bytes], tank: int, slot: int) -> Case:
     if tank not in taken.tanks:
         raise NoAnswer(f"Tank {tank} is not in the table, which has {words.listed(taken.tanks)}.")
     past = traces.read(trace, slot, len(taken.tanks))

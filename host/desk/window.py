@@ -32,6 +32,8 @@ def spread(text: str) -> range:
     low, dash, high = text.partition("-")
     first = natural(low, "a subtask", SUBTASK_MOST)
     last = natural(high, "a subtask", SUBTASK_MOST) if dash else first
+    if last < first:
+        raise Trouble(f"subtasks rise, and {text} does not: {USE}")
     if last - first >= LINES_MOST:
         raise Trouble(f"at most {LINES_MOST} subtasks are shown at once")
     return range(first, last + 1)

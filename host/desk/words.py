@@ -49,6 +49,13 @@ def meanings() -> dict[str, Meaning]:
     return {found[1]: Meaning(found[2], found[3]) for at, found in enumerate(cells) if found and at not in heads}
 
 
+def found(asked: str) -> str | None:
+    """What is explained of the page under a number, or under the first word of a line that the slot printer prints."""
+    if asked.isascii() and asked.isdigit():
+        asked = asked.lstrip("0") or "0"
+    return next((name for name in meanings() if asked in (name, name.split()[0]) and (name == asked or not name[0].isdigit())), None)
+
+
 def meaning(number: int) -> Meaning | None:
     return meanings().get(str(number))
 

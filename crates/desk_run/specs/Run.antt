@@ -25,7 +25,7 @@ pub record Left : Type 0 where
   pub state : State
   pub bytes : List ℕ
 
--- The first m slots: slot i with the first `byte list i` cores free, its entry at 20 * i.
+-- The first m entries: entry i stands at 20 * i, and has the first `byte list i` cores free. A slot that is refused leaves the state as it is.
 unfoldable pub runFrom : State → List ℕ → List ℕ → ℕ → Left
 runFrom s list bytes zero = record { state = s; bytes = bytes }
 runFrom s list bytes (suc m) =

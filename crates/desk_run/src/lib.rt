@@ -20,8 +20,9 @@ struct Named {
     time: u64,
 }
 
-// As many slots as the list has numbers and the buffer has room for, from a fresh state over the table on, slot i with the first list[i] cores free; the
-// time at the end. Each slot's entry stands behind the one before, and what is past the last entry stays as it was.
+// As many slots as the list has numbers and the buffer has room for, from a fresh state over the table on, entry i with the first list[i] cores free; the
+// time at the end. Each slot's entry stands behind the one before, and what is past the last entry stays as it was. A slot that is refused leaves the
+// state as it is, and the next entry is tried from there.
 #[no_mangle]
 pub extern "C" fn zb_run(table: &[u8], list: &[u8], entries: &mut [u8]) -> u64
     ensures { λ r. ⌜ r ≡ timeOf (ran (now (table .entry)) (now (list .entry)) (now (entries .entry)) .state) ⌝ }
