@@ -15,11 +15,14 @@ from trouble import Trouble
 
 FINE, ANSWERED_NO, WRONG_USE = 0, 1, 2  # the exit statuses: fine; the answer is a refusal or lateness; wrong use, or no answer could be had
 QUIET, PAUSE = 2.0, 5.0  # seconds that something may take before it is said how far it is, and from then on between two lines
+began = time.monotonic()  # of the command, which may do one thing after another
 Item = TypeVar("Item")
 
 
 def status(name: str, work: Callable[[], int]) -> int:
     """The exit status of the program that has this name: that of its work, or of what has stopped it."""
+    global began
+    began = time.monotonic()
     try:
         done = work()
         put("", "text")  # what argparse prints is not written before
@@ -121,13 +124,13 @@ def awaited(process: subprocess.Popen[bytes], what: str) -> str:
     """What a process says on standard error, once it has ended. If that takes longer than a moment it is said for how long it has been at it; and if we are
     ended before, so is it.
     """
-    began = time.monotonic()
+    here = time.monotonic()
     try:
         while True:
             try:
-                return process.communicate(timeout=QUIET if time.monotonic() - began < 1 else 10)[1].decode(errors="replace")
+                return process.communicate(timeout=QUIET if time.monotonic() - here < QUIET else PAUSE)[1].decode(errors="replace")
             except subprocess.TimeoutExpired:
-                tell(f"{what}: {time.monotonic() - began:.0f} s")
+                tell(f"{what}: {time.monotonic() - here:.0f} s")
     except BaseException:
         process.kill()
         process.wait()
@@ -135,14 +138,14 @@ def awaited(process: subprocess.Popen[bytes], what: str) -> str:
 
 
 def watched(items: Iterable[Item], what: str, count: int | None = None) -> Iterator[Item]:
-    """The items, one after another; once that takes longer than a moment it is said how far it is."""
-    began = time.monotonic()
+    """The items, one after another; once the command takes longer than a moment it is said how far it is."""
+    here = time.monotonic()
     terminal = sys.stderr is not None and sys.stderr.isatty()
-    said, wiped = began - PAUSE, True
+    said, wiped = -PAUSE, True
     for done, item in enumerate(items):
         yield item
         now = time.monotonic()
-        if now - began > QUIET and now - said > (PAUSE / 10 if terminal else PAUSE):
+        if now - began > QUIET and now - here > QUIET / 4 and now - said > (PAUSE / 10 if terminal else PAUSE):
             far = f"{done + 1:,} of {count:,}" if count else f"{done + 1:,}"
             put_words(f"\r{what}: {far} \x1b[K" if terminal else f"{what}: {far}\n")
             said, wiped = now, False

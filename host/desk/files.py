@@ -44,7 +44,11 @@ class Taken(io.RawIOBase):
     """What was taken from a pipe so far, and behind that the pipe."""
 
     def __init__(self, pipe: IO[bytes]) -> None:
-        self.pipe, self.kept = pipe, tempfile.TemporaryFile()
+        self.pipe, self.ended = pipe, False
+        try:
+            self.kept = tempfile.TemporaryFile()
+        except OSError as error:
+            raise Trouble(f"there is no place for what comes through a pipe: {error.strerror or error}") from None
 
     def readable(self) -> bool:
         return True
@@ -54,17 +58,26 @@ class Taken(io.RawIOBase):
 
     def readinto(self, room: Any) -> int:
         got = self.kept.readinto(room)  # type: ignore[attr-defined]
-        if got == 0:
+        if got == 0 and not self.ended:  # a terminal would go on behind its end
             part = self.pipe.read1(len(room))  # type: ignore[attr-defined]
-            got = len(part)
+            got, self.ended = len(part), not part
             room[:got] = part
-            self.kept.write(part)
+            self.keep(part)
         return int(got)
+
+    def keep(self, part: bytes) -> None:
+        try:
+            self.kept.write(part)
+        except OSError as error:
+            raise Trouble(f"there is no room for what comes through a pipe: {error.strerror}") from None
 
     def seek(self, place: int, whence: int = os.SEEK_SET) -> int:
         if whence == os.SEEK_END:
             self.kept.seek(0, os.SEEK_END)
-            shutil.copyfileobj(self.pipe, self.kept, 1 << 20)
+            while not self.ended:
+                part = self.pipe.read(1 << 20)
+                self.ended = not part
+                self.keep(part)
         return self.kept.seek(place, whence)
 
     def close(self) -> None:
@@ -110,11 +123,9 @@ def unjudged(name: str) -> Iterator[tuple[bytes, IO[bytes]]]:
 
 def is_hex(name: str, start: bytes) -> bool:
     """Hex text: its name says so, or there is nothing but hex digits, white space and comments, and a digit. (Bytes of a table, a trace or a printer's
-    input have others: a format of 1, a count, a length.)
+    input have others: a format of 1, a count, a length. A typed table has names of columns.)
     """
-    if name.lower().endswith((".hex", *TEXT_NAMES)):
-        return name.lower().endswith(".hex")
-    return HEX_TEXT.match(start) is not None and HEX_DIGIT.search(start) is not None
+    return name.lower().endswith(".hex") or (HEX_TEXT.match(start) is not None and HEX_DIGIT.search(start) is not None)
 
 
 def is_text(name: str, start: bytes) -> bool:

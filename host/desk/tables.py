@@ -183,7 +183,7 @@ def never_late(table: bytes, plan: Plan, probe: Probe) -> str:
     needed, cores = cores_needed(table, probe), len(plan.boards)
     if needed is None or needed > cores:
         raise Trouble("the probe contradicts itself: it takes a table, and not with fewer cores than it has, nor with as many")
-    enough = f"at least {needed} of the {cores} cores are" if needed < cores else ("the core is" if cores == 1 else f"all {cores} cores are")
+    enough = f"at least {needed} of the {cores} cores {'is' if needed == 1 else 'are'}" if needed < cores else ("the core is" if cores == 1 else f"all {cores} cores are")
     fewer = f"; it needs {needed}: with {words.counted(needed - 1, 'core')} the same table is refused ({words.of_number(22)})" if needed > 1 else ""
     return f"never late from a fresh start if {enough} free in every slot (proved){fewer}"
 
@@ -207,7 +207,8 @@ def place(table: bytes, number: int, probe: Probe) -> str:
     if number == 10:
         return f"it ends after {words.counted(len(table), 'byte')}, {inside(table)}"
     if number == 21:
-        return f"the last row ends after {7 + len(plan.boards) + ROW * len(plan.rows)} bytes, and there are {len(table)}"
+        there = str(len(table)) if len(table) <= inputs.INPUT_LIMIT else f"more than {inputs.INPUT_LIMIT}"
+        return f"the last row ends after {7 + len(plan.boards) + ROW * len(plan.rows)} bytes, and there are {there}"
     if number == 22:
         return f"{load(plan)}; {would_need(plan, probe)}"
     cuts = [table[:end] for end in range(1, 1 + min(len(table), LONGEST_TABLE))]

@@ -188,8 +188,9 @@ class Hex(InFolder):
             self.assertEqual(files.read(self.file(name, b"# 01\n"), 9), files.Content(b"", False))
             with self.assertRaisesRegex(Trouble, f"{name}, line 1, has something else than hex digits"):
                 files.read(self.file(name, b"cycle"), 9)
-        for name in ["a.csv", "a.TXT", "a.tsv"]:
-            self.assertEqual(files.read(self.file(name, b"01"), 9), files.Content(b"01", True))
+        for name in ["a.csv", "a.TXT", "a.tsv"]:  # but nothing but hex digits is hex, since a typed table has names of columns
+            self.assertEqual(files.read(self.file(name, b"\1"), 9), files.Content(b"\1", True))
+            self.assertEqual(files.read(self.file(name, b"01"), 9), files.Content(b"\1", False))
 
     def test_told_by_what_is_there(self) -> None:
         hexed = Path(EXAMPLE).read_bytes()

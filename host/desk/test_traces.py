@@ -85,6 +85,17 @@ class Verdicts(OverTrace):
             trace = bytes.fromhex("02000000 02020001" + slot_1)
             self.assertEqual(self.verdict(trace), (number, f"the record of slot 1 {words}", 1))
 
+    def test_a_record_that_says_too_much_and_is_cut(self) -> None:
+        # 41 and 42 are tested before the rows are looked for.
+        self.assertEqual(self.verdict(bytes.fromhex("02000000 02020001 FFFF")), (41, "the record of slot 1 says that 255 cores were free, and the table has 2", 1))
+        self.assertEqual(self.verdict(bytes.fromhex("02000000 02020001 02FF00")), (42, "the record of slot 1 names 255 rows, and 2 cores were free", 1))
+        self.assertEqual(self.verdict(bytes.fromhex("02000000 02020001 02")), (40, "the trace is cut short: the record of slot 1 is not wholly there", 1))
+
+    def test_what_does_not_end(self) -> None:
+        with open("/dev/zero", "rb") as endless:
+            judged = verdict.of(TABLE, self.taken(TABLE), endless, self.probe, self.archive)
+        self.assertEqual((judged.number, judged.sentence), (46, "bytes stand behind its count, which is 0"))
+
     def test_early(self) -> None:
         # Tank 10 runs in slots 0, 1 and 2, and its third window begins at 3. The others have one quantum each by time 2, and two are due by 3.
         trace = bytes.fromhex("03000000 02020002 02020001 02020001")
@@ -95,8 +106,8 @@ class Verdicts(OverTrace):
         self.assertEqual(self.verdict(bytes.fromhex("02000000 0000 0000")), (45, words, 2))
 
     def test_behind_the_last(self) -> None:
-        self.assertEqual(self.verdict(TRACE + b"\0"), (46, "1 byte stands behind the record of slot 2, the last", 3))
-        self.assertEqual(self.verdict(bytes(6)), (46, "2 bytes stand behind its count, which is 0", 0))
+        self.assertEqual(self.verdict(TRACE + b"\0"), (46, "bytes stand behind the record of slot 2, the last", 3))
+        self.assertEqual(self.verdict(bytes(6)), (46, "bytes stand behind its count, which is 0", 0))
 
     def test_count(self) -> None:
         self.assertEqual(self.verdict(bytes.fromhex("01CA9A3B")), (47, "its count says 1000000001 slots", 0))

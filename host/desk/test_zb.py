@@ -127,7 +127,7 @@ class Forms(WithFiles):
         self.assertEqual(self.content("t", b""), files.Content(b"", False))
 
     def test_hex(self) -> None:
-        for name in ("t", "t.hex", "t.HEX", "t.bin"):
+        for name in ("t", "t.hex", "t.HEX", "t.bin", "t.txt"):
             self.assertEqual(self.content(name, b"# a comment, \xc3\xa9\r\n01 0a\tFF # more\n"), files.Content(b"\x01\x0a\xff", False))
         self.assertEqual(self.content("t.hex", b""), files.Content(b"", False))
         self.assertEqual(self.content("t", b"0" * 10_000), files.Content(bytes(5_000), False))
@@ -138,7 +138,7 @@ class Forms(WithFiles):
                 self.content("t.hex", data)
 
     def test_texts(self) -> None:
-        for name, data in [("t", b"boards,0\n"), ("t.csv", b"01"), ("t.TXT", b""), ("t", b"# only a comment\n"), ("t", "boards,0\n".encode("utf-16"))]:
+        for name, data in [("t", b"boards,0\n"), ("t.csv", b"boards"), ("t.TXT", b""), ("t", b"# only a comment\n"), ("t", "boards,0\n".encode("utf-16"))]:
             self.assertEqual(self.content(name, data), files.Content(data, True))
 
     def test_no_more_is_read_than_is_needed(self) -> None:
@@ -159,7 +159,7 @@ class Tables(WithFiles):
         # Three rows of 1/3 on four cores: one core is enough. With a fourth row it takes two.
         rows = [f"{tank},1,3" for tank in range(4)]
         three = "boards,0,1,2,3\ntank,cost,period\n" + "\n".join(rows[:3]) + "\n"
-        self.assertIn("if at least 1 of the 4 cores are free in every slot (proved)\n", ran("table", "check", self.file("t.csv", three))[1])
+        self.assertIn("if at least 1 of the 4 cores is free in every slot (proved)\n", ran("table", "check", self.file("t.csv", three))[1])
         self.assertIn("if at least 2 of the 4 cores are free in every slot (proved); it needs 2: with 1 core", ran("table", "check", self.file("t.csv", three + rows[3] + "\n"))[1])
 
     def test_where_a_fault_lies(self) -> None:
@@ -422,7 +422,8 @@ class Endings(WithFiles):
         """What it has started ends with it."""
         for number, status in [(signal.SIGTERM, 143), (signal.SIGINT, 130)]:
             os.mkfifo(self.folder / f"never-{status}")
-            started = subprocess.Popen([ZB, "trace", "check", self.file("t", TABLE), str(self.folder / f"never-{status}")], stderr=subprocess.PIPE)
+            command = ["env", "--default-signal=INT", ZB, "trace", "check", self.file("t", TABLE), str(self.folder / f"never-{status}")]
+            started = subprocess.Popen(command, stderr=subprocess.PIPE)  # a shell's background may ignore Ctrl-C
             with open(self.folder / f"never-{status}", "wb"):  # once it is opened there too
                 started.send_signal(number)
                 started.wait(timeout=30)
@@ -487,6 +488,8 @@ class Progress(unittest.TestCase):
                     time.sleep(0.01)
                 os.kill(os.getpid(), signal.SIGINT)
 
+            heeded = signal.signal(signal.SIGINT, signal.default_int_handler)
+            self.addCleanup(signal.signal, signal.SIGINT, heeded)
             with mock.patch.object(building, "BUILD", str(script)), self.assertRaises(KeyboardInterrupt):
                 threading.Thread(target=interrupt).start()
                 building.need.__wrapped__("probe")

@@ -10,7 +10,7 @@ import endings
 from probe import ROWS
 from words import NOT_OURS, counted
 
-COUNT = 4  # bytes of the count
+COUNT, LONGEST_RECORD = 4, 2 + 0xFF  # bytes of the count, and of a record with as many rows as its field for them can say
 TRACE_LIMIT = 1_000_000_000  # the most slots of a trace; the dispatcher itself runs no slot with this number or a higher one
 
 
@@ -74,6 +74,12 @@ def read_any_record(file: IO[bytes], slot: int) -> bytes:
     whose = f"the record of slot {slot}"
     head = read_part(file, 2, whose)
     return head + read_part(file, head[1], whose)
+
+
+def read_rest(file: IO[bytes]) -> bytes:
+    """The next record, or what is left of it where the trace is cut."""
+    head = file.read(2)
+    return head + file.read(head[1]) if len(head) == 2 else head
 
 
 def read_part(file: IO[bytes], length: int, what: str) -> bytes:

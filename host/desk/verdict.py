@@ -3,8 +3,6 @@ much, else the archive's. Where the check names no slot, it is found by asking f
 """
 from __future__ import annotations
 
-import contextlib
-import os
 from dataclasses import dataclass
 from typing import IO, Iterator
 
@@ -14,7 +12,7 @@ import traces
 import words
 from archive import Archive
 from probe import REQUEST_LIMIT, ROWS, Check, Probe, Table
-from traces import NoAnswer, Stretch
+from traces import COUNT, LONGEST_RECORD, NoAnswer, Stretch
 
 ASKED_AT_ONCE = 4096  # records
 
@@ -37,21 +35,19 @@ class Verdict:
 
 def check(table: bytes, trace: IO[bytes], probe: Probe, archive: Archive) -> Check:
     """The answer for a trace, of which the file is read from its front to its end."""
-    start = trace.read(REQUEST_LIMIT)
-    checked = probe.check(table, start)
-    if checked is not None:
-        return checked
-    trace.seek(0)
-    return archive.check(table, trace)
+    count = trace.read(COUNT)
+    if len(count) < COUNT:
+        return probe.checks([(table, count)])[0]
+    slots = int.from_bytes(count, "little")
+    # One byte more than its records can have tells that there are too many, so that a stream need not end.
+    return check_start(table, trace, slots, LONGEST_RECORD * slots + 1, probe, archive)
 
 
 def check_start(table: bytes, trace: IO[bytes], slots: int, length: int, probe: Probe, archive: Archive) -> Check:
-    """The same for the start of a trace, so many slots whose records have so many bytes, as if it had no others."""
-    if length <= REQUEST_LIMIT:
-        checked = probe.check(table, Stretch(trace, slots, length).whole())
-        if checked is not None:
-            return checked
-    return archive.check(table, Stretch(trace, slots, length))
+    """The same for the start of a trace, so many slots whose records have at most so many bytes, as if it had no others."""
+    start = Stretch(trace, slots, min(length, REQUEST_LIMIT)).whole()
+    checked = probe.check(table, start)
+    return checked if checked is not None else archive.check(table, Stretch(trace, slots, length))
 
 
 def of(table: bytes, taken: Table, trace: IO[bytes], probe: Probe, archive: Archive) -> Verdict:
@@ -82,10 +78,7 @@ def whole(checked: Check, trace: IO[bytes]) -> Verdict:
             traces.read_any_record(trace, slot)
     except NoAnswer as cut:
         return Verdict(checked, lowered(str(cut)), slot, refused)
-    end = trace.tell()
-    behind = trace.seek(0, os.SEEK_END) - end
-    what = "byte stands" if behind == 1 else "bytes stand"
-    return Verdict(checked, f"{behind} {what} behind {f'the record of slot {slots - 1}, the last' if slots else 'its count, which is 0'}", slots)
+    return Verdict(checked, f"bytes stand behind {f'the record of slot {slots - 1}, the last' if slots else 'its count, which is 0'}", slots)
 
 
 def lowered(sentence: str) -> str:
@@ -108,16 +101,15 @@ def first_slots(trace: IO[bytes]) -> Iterator[dict[bytes, int]]:
     slots = traces.read_count(trace)
     seen: set[bytes] = set()
     some: dict[bytes, int] = {}
-    with contextlib.suppress(NoAnswer):  # it is cut behind the record that is looked for
-        for slot in endings.watched(range(slots), "looking for the record", slots):
-            record = traces.read_any_record(trace, slot)
-            if record in seen:
-                continue
-            seen.add(record)
-            some[record] = slot
-            if len(some) == ASKED_AT_ONCE:
-                yield some
-                some = {}
+    for slot in endings.watched(range(slots), "looking for the record", slots):
+        record = traces.read_rest(trace)  # one that is cut in its rows may still say too much in its head
+        if record in seen:
+            continue
+        seen.add(record)
+        some[record] = slot
+        if len(some) == ASKED_AT_ONCE or len(record) < 2 or len(record) < 2 + record[1]:
+            yield some
+            some = {}
     yield some
 
 
@@ -127,7 +119,7 @@ def record_words(number: int, record: bytes, taken: Table) -> str:
     if number == 41:
         return f"says that {words.counted(k, 'core')} were free, and the table has {taken.cores}"
     if number == 42:
-        return f"names {words.counted(len(rows), 'row')}, and {words.counted(k, 'core')} {'was' if k == 1 else 'were'} free"
+        return f"names {words.counted(record[1], 'row')}, and {words.counted(k, 'core')} {'was' if k == 1 else 'were'} free"
     return f"names the rows {', '.join(map(str, rows))}: they must rise, and the table has {words.counted(len(taken.tanks), 'row')}, counted from 0"
 
 

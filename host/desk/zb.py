@@ -31,8 +31,10 @@ def span(text: str) -> tuple[int, int | None]:
 
 def natural(text: str) -> int:
     """A number that is written in digits alone, without a sign."""
-    if not re.fullmatch("[0-9]{1,18}", text):
+    if not re.fullmatch("[0-9]+", text):
         raise argparse.ArgumentTypeError(f"a whole number in digits is needed, and not {text!r}")
+    if len(text) > 18:
+        raise argparse.ArgumentTypeError(f"a whole number in digits is needed, and not {text[:18] + '..'!r}, which is more than there can be")
     return int(text)
 
 
