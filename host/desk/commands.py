@@ -24,6 +24,7 @@ import stats
 import table_text
 import tables
 import trace_lines
+import traces
 import verdict
 import why
 import window
@@ -34,7 +35,7 @@ from picture import Picture
 from probe import LONGEST_TABLE, Probe, Table
 from table_text import Fault, Plan
 from tables import Source
-from traces import COUNT, NoAnswer
+from traces import NoAnswer
 from trouble import Trouble
 
 ROOT = Path(__file__).resolve().parent.parent.parent
@@ -209,10 +210,10 @@ def trace_show(asked: Words, desk: Desk) -> int:
 def show_trace(source: Source, table: Table, trace: IO[bytes], asked: Words, desk: Desk) -> int:
     first, end = asked.slots or (0, None)
     cut: NoAnswer | None = None
-    slots = int.from_bytes(trace.read(COUNT), "little")
+    slots = int.from_bytes(trace.read(traces.COUNT), "little")
     trace.seek(0)
-    if first >= slots > 0:
-        tell(f"zb: the trace goes up to slot {slots - 1}")
+    if first >= slots:
+        tell(f"zb: the trace has {traces.slots_named(slots)}")
     try:
         show_all(trace_lines.shown(trace, table, first, end), "trace")
     except NoAnswer as none:  # the verdict says so too, with its number
@@ -289,8 +290,8 @@ def draw_trace(source: Source, table: Table, trace: IO[bytes], asked: Words, des
     there = len(ran.records) + (ran.refused is not None)
     # what is wrong must be seen
     first, end = within(asked.slots, 0, min(there, DRAWN_SLOTS), there) if ran.fine else within(asked.slots, max(0, there - DRAWN_SLOTS), there, there)
-    if first >= there > 0 or end > there:
-        tell(f"zb: the trace goes up to slot {there - 1}")
+    if first >= there or end > there:
+        tell(f"zb: of the trace {traces.slots_named(there)} can be drawn")
     picture = schedule.drawn(title(source.name, asked.trace), table, ran, first, end, desk.probe)
     return put_drawing(picture, ran, drawing_form(asked.output), asked.output)
 

@@ -344,8 +344,9 @@ class Drawings(WithFiles):
         name = self.file("t.csv", "cycle,1000\nboards,0\ntank,cost,period\n1,1,2\n")
         self.assertEqual(ran("draw", name)[2], "zb: slots 0 to 47 of 1000; --slots A-B draws others\n")
         table, trace = self.file("t", TABLE), self.file("u", TRACE)
-        self.assertIn("zb: the trace goes up to slot 2\n", ran("draw", table, trace, "--slots", "5-9")[2])
-        self.assertIn("zb: the trace goes up to slot 2\n", ran("trace", "show", table, trace, "--slots", "5-9")[2])
+        self.assertIn("zb: of the trace slots 0 to 2 can be drawn\n", ran("draw", table, trace, "--slots", "5-9")[2])
+        self.assertIn("zb: the trace has slots 0 to 2\n", ran("trace", "show", table, trace, "--slots", "5-9")[2])
+        self.assertIn("zb: of the trace no slots can be drawn\n", ran("draw", table, self.file("v", bytes(4)))[2])
 
     def test_what_is_late_is_seen(self) -> None:
         # 01's rows for 300 slots, and then no core for two: late at time 302.
