@@ -17,7 +17,7 @@ static const char *meaning(uint8_t number) {
     case ZB_TABLE_ROWS: return "n above 32";
     case ZB_TABLE_TANKS: return "tanks not rising";
     case ZB_TABLE_NO_COST: return "e = 0";
-    case ZB_TABLE_COST: return "e not below p";
+    case ZB_TABLE_COST: return "e above p";
     case ZB_TABLE_PERIOD: return "p does not divide L";
     case ZB_TABLE_KIND: return "kind above 1";
     case ZB_TABLE_LONG: return "bytes after the last row";

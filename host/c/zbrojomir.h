@@ -36,7 +36,7 @@ enum zb_number {
     ZB_TABLE_ROWS = 15,     /* n above 32 */
     ZB_TABLE_TANKS = 16,    /* tanks not rising */
     ZB_TABLE_NO_COST = 17,  /* e = 0 */
-    ZB_TABLE_COST = 18,     /* e not below p */
+    ZB_TABLE_COST = 18,     /* e above p */
     ZB_TABLE_PERIOD = 19,   /* p does not divide L */
     ZB_TABLE_KIND = 20,     /* kind above 1 */
     ZB_TABLE_LONG = 21,     /* bytes after the last row */
@@ -67,7 +67,7 @@ enum zb_number {
  *     n rows, each:                                            9 bytes
  *         tank, rising strictly from row to row                2 bytes
  *         cost e, from 1                                       2 bytes
- *         period p, above e, a divisor of L                    2 bytes
+ *         period p, not below e, a divisor of L                2 bytes
  *         phase f                                              2 bytes
  *         kind, 0 plain or 1 early release                     1 byte
  * and nothing after the last row. The sum of e * (L / p) over the rows is at most M * L; a full box, where they are equal, is taken.

@@ -17,5 +17,6 @@ pub mod spoil;
 pub mod states;
 pub mod values;
 pub mod weight;
+pub mod whole_core;
 pub mod why_seen;
 pub mod written;

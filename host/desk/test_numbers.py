@@ -42,7 +42,7 @@ REQUESTS = {
     35: slot(state(VALUE, 0), 4),
     36: b"Y" + state(VALUE, 0) + b"\x02\x03",
     37: b"P" + VALUE + b"\x23\0\0\0" + bytes(35),
-    50: b"W" + bytes.fromhex("0100 0100 0000 0100000000000000"),
+    50: b"W" + bytes.fromhex("0200 0100 0000 0100000000000000"),
 }
 
 
@@ -81,8 +81,8 @@ class Page(unittest.TestCase):
         self.assertNotIn("number", words.meanings())
 
     def test_an_answer(self) -> None:
-        self.assertEqual(words.of_number(18), "18, e not below p")
-        self.assertEqual(words.answer(18), "18 e not below p")
+        self.assertEqual(words.of_number(18), "18, e above p")
+        self.assertEqual(words.answer(18), "18 e above p")
         self.assertEqual((words.of_number(99), words.answer(99)), ("99", "99"))
 
 

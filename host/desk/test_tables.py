@@ -22,7 +22,7 @@ from table_text import Fault, Plan, Row, Typed
 from testing import COMMAND, HERE, ROOT, TABLE, TAKEN, THREE_SLOTS, VALUE, EndingCase, Fake, Interrupted, needs_probe, refused
 from trouble import Trouble
 
-THREE_TANKS, FARM = (str(ROOT / "examples" / name) for name in ("three-tanks.csv", "farm.csv"))
+THREE_TANKS, FARM, CAMERA = (str(ROOT / "examples" / name) for name in ("three-tanks.csv", "farm.csv", "camera.csv"))
 PAGE = ROOT / "docs" / "TABLES.md"
 
 # 01's example, as testing.py has its bytes.
@@ -43,6 +43,9 @@ THREE_SAID = "36 bytes, 3 tanks; load 6 of 6 quanta in a cycle of 3 slots on 2 c
 FARM_BYTES = bytes.fromhex(
     "01 0C000000 02 0001 04  0A00 0200 0300 0000 00  0B00 0100 0400 0000 00  1400 0300 0C00 0000 01  1500 0100 0600 0500 00"
 )
+
+# examples/camera.csv. A cost equal to the period (02, Six). Periods 1 and 3.
+CAMERA_BYTES = bytes.fromhex("01 03000000 02 0001 02  0700 0100 0100 0000 00  0900 0200 0300 0000 00")
 
 NO_NUMBER = "is not a whole number written in digits"
 HEAD = "boards,0,1\ntank,cost,period,phase,kind,name\n"  # two lines: the first row stands in line 3
@@ -375,7 +378,7 @@ class Places(unittest.TestCase):
         for number, place, words, detail in [
             (16, "tank", "tanks not rising", "tank 9 after tank 10"),
             (17, "cost", "e = 0", "cost 4"),
-            (18, "cost", "e not below p", "cost 4, period 5"),
+            (18, "cost", "e above p", "cost 4, period 5"),
             (19, "period", "p does not divide L", "period 5, cycle 12"),
             (20, "kind", "kind above 1", "kind 7"),
         ]:
@@ -403,7 +406,7 @@ class Places(unittest.TestCase):
         cuts = [bytes([number]) + bytes(302) for number in 26 * [10] + 10 * [18]]
         with self.assertRaises(Fault) as raised:
             tables.taken(TABLE, Fake(bytes([18]) + bytes(302), b"".join(cuts)))
-        self.assertEqual((str(raised.exception), raised.exception.number), ("18, e not below p (row 1, tank 11, bytes 18 to 26: cost 2, period 3)", 18))
+        self.assertEqual((str(raised.exception), raised.exception.number), ("18, e above p (row 1, tank 11, bytes 18 to 26: cost 2, period 3)", 18))
 
     def test_a_number_that_no_part_has(self) -> None:
         with self.assertRaisesRegex(Trouble, "contradicts itself"):
@@ -472,7 +475,7 @@ class Files(InFolder):
             self.assertEqual(ran(["show", name], fake), (0, THREE_TEXT, ""))
             self.assertEqual(fake.requests, [b"T\x24\0\0\0" + TABLE])
             fake = Fake(refused(18), cuts)
-            words = f"{name}: 18, e not below p (row 0, tank 10, bytes 9 to 17: cost 2, period 3)\n"
+            words = f"{name}: 18, e above p (row 0, tank 10, bytes 9 to 17: cost 2, period 3)\n"
             self.assertEqual(ran(["show", name], fake), (1, "", words))
             self.assertEqual(fake.requests[1], b"".join(b"T" + bytes([end, 0, 0, 0]) + TABLE[:end] for end in range(1, 37)))
 
@@ -631,7 +634,7 @@ class AgainstProbe(unittest.TestCase):
 
     def test_examples(self) -> None:
         self.assertEqual(example("three-tanks.hex"), TABLE)
-        for name, table in [(THREE_TANKS, TABLE), (FARM, FARM_BYTES)]:
+        for name, table in [(THREE_TANKS, TABLE), (FARM, FARM_BYTES), (CAMERA, CAMERA_BYTES)]:
             self.assert_written(Path(name).read_text(), table)
 
     def test_smallest_and_largest(self) -> None:
@@ -643,7 +646,7 @@ class AgainstProbe(unittest.TestCase):
         self.assert_written(text, bytes.fromhex(f"01 04000000 08 0001020304050607 20 {rows}"))
 
     def test_text_to_bytes_to_text(self) -> None:
-        for text in [Path(FARM).read_text(), Path(THREE_TANKS).read_text(), "boards,7\n", "cycle,12\nboards,0,9\ntank,cost,period,phase,kind\n0,3,4,65535,early\n"]:
+        for text in [Path(FARM).read_text(), Path(THREE_TANKS).read_text(), Path(CAMERA).read_text(), "boards,7\n", "cycle,12\nboards,0,9\ntank,cost,period,phase,kind\n0,3,4,65535,early\n"]:
             plan = plan_of(text)
             table = tables.written(typed(text), Probe())
             self.assertEqual(read_plan(table), plan)
@@ -689,13 +692,13 @@ class AgainstProbe(unittest.TestCase):
             ("0,1,2\n11,1,2\n9,1,2\n", "line 5, tank: 16, tanks not rising (tank 9 after tank 11)"),
             ("10,1,2\n\n11,0,2\n", "line 5, cost: 17, e = 0 (cost 0)"),
             ("10,0,0\n", "line 3, cost: 17, e = 0 (cost 0)"),
-            ("10,3,2\n", "line 3, cost: 18, e not below p (cost 3, period 2)"),
-            ("10,1,4\n11,2,0\n", "line 4, cost: 18, e not below p (cost 2, period 0)"),
+            ("10,3,2\n", "line 3, cost: 18, e above p (cost 3, period 2)"),
+            ("10,1,4\n11,2,0\n", "line 4, cost: 18, e above p (cost 2, period 0)"),
             ("10,1,2,0,2\n", "line 3, kind: 20, kind above 1 (kind 2)"),
             ("10,1,2,0,255\n", "line 3, kind: 20, kind above 1 (kind 255)"),
             # The order in which a row is tested, and the first of two faulty rows.
             ("10,1,2\n10,0,2\n", "line 4, tank: 16, tanks not rising (tank 10 after tank 10)"),
-            ("10,3,2,0,2\n11,0,2\n", "line 3, cost: 18, e not below p (cost 3, period 2)"),
+            ("10,3,2,0,2\n11,0,2\n", "line 3, cost: 18, e above p (cost 3, period 2)"),
         ]:
             self.assert_refused(HEAD + rows, words)
         words = "line 5, period: 19, p does not divide L (period 7, cycle 12)"

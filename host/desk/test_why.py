@@ -126,7 +126,7 @@ class Words(unittest.TestCase):
         self.assertEqual([words.counted(count, "core") for count in (0, 1, 2, 255)], ["0 cores", "1 core", "2 cores", "255 cores"])
 
     def test_numbers(self) -> None:
-        self.assertEqual(words.of_number(18), "18, e not below p")
+        self.assertEqual(words.of_number(18), "18, e above p")
         self.assertEqual(words.of_number(46), "46, bytes after the last record")
         self.assertEqual(words.of_number(99), "99")
 
@@ -395,7 +395,7 @@ class Endings(EndingCase):
     def test_a_refused_table(self) -> None:
         # The reader answers 18. Of the table cut behind each byte, that is so from behind row 1 on: rows begin at byte 9 and have 9 bytes.
         cuts = [refused(10 if end < 27 else 18) for end in range(1, 37)]
-        words_said = f"{EXAMPLE[0]}: 18, e not below p (row 1, tank 12, bytes 18 to 26: cost 5, period 6)\n"
+        words_said = f"{EXAMPLE[0]}: 18, e above p (row 1, tank 12, bytes 18 to 26: cost 5, period 6)\n"
         self.assertEqual(ran(["why", *EXAMPLE, "14", "0"], Fake(refused(18), b"".join(cuts))), (1, "", words_said))
 
 

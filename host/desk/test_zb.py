@@ -177,7 +177,7 @@ class Tables(WithFiles):
             (TABLE[:8] + b"\x21" + TABLE[9:], "15 n above 32", "byte 8: it is 33"),
             (TABLE[:18] + row + TABLE[27:], "16 tanks not rising", "row 1, tank 10, bytes 18 to 26: tank 10 after tank 10"),
             (TABLE[:11] + b"\0" + TABLE[12:], "17 e = 0", "row 0, tank 10, bytes 9 to 17: cost 0"),
-            (TABLE[:29] + b"\3" + TABLE[30:], "18 e not below p", "row 2, tank 20, bytes 27 to 35: cost 3, period 3"),
+            (TABLE[:29] + b"\4" + TABLE[30:], "18 e above p", "row 2, tank 20, bytes 27 to 35: cost 4, period 3"),
             (TABLE[:22] + b"\4" + TABLE[23:], "19 p does not divide L", "row 1, tank 11, bytes 18 to 26: period 4, cycle 3"),
             (TABLE[:-1] + b"\2", "20 kind above 1", "row 2, tank 20, bytes 27 to 35: kind 2"),
             (TABLE + b"\0\0", "21 bytes after the last row", "the last row ends after 36 bytes, and there are 38"),
@@ -325,6 +325,18 @@ class Traces(WithFiles):
 
 @unittest.skipUnless(BUILT, "not built: host/build probe slot_printer desk")
 class Drawings(WithFiles):
+    def test_windows_of_one_slot(self) -> None:
+        # A cost equal to the period (02, Six): the windows 0 to 1, 1 to 2, 2 to 3 side by side, each with its quantum.
+        drawn = [
+            "slot            0   1   2",
+            "free            2   2   2",
+            "tank 7     1/1  ├█0┤    ├█0┤",
+            "                    ├█0┤",
+            "tank 9     2/3  ├█1────┤",
+            "                    ├█1────┤",
+        ]
+        self.assertEqual(ran("draw", str(EXAMPLES / "camera.csv"))[1].splitlines(), drawn)
+
     def test_forms(self) -> None:
         table = self.file("t", TABLE)
         for name, start in [("a.svg", "<"), ("a.html", "<!"), ("a.txt", "slot ")]:
@@ -373,12 +385,14 @@ class Windows(unittest.TestCase):
             (["8", "11", "1"], "8/11, i = 1: 0 to 2, b 1, D 4"),
             (["1", "2", "1"], "1/2, i = 1: 0 to 2, b 0, D 2"),
             (["2", "3", "4", "1"], "2/3 with f = 4, i = 1: 4 to 6, b 1, D 7"),
+            (["1", "1", "1"], "1/1, i = 1: 0 to 1, b 0, D 1"),  # 02, Six: one slot, b = 0, D = d
+            (["5/5", "2", "3"], "5/5 with f = 2, i = 3: 4 to 5, b 0, D 5"),
         ]:
             self.assertEqual(ran("window", *arguments), (0, line + "\n", ""))
         self.assertEqual(len(ran("window", "8/11", "1-8")[1].splitlines()), 8)
 
     def test_refused(self) -> None:
-        for arguments in [["1", "1", "1"], ["0", "0", "1"], ["8", "11", "0"], ["8", "11", "1000000002"]]:
+        for arguments in [["2", "1", "1"], ["0", "0", "1"], ["8", "11", "0"], ["8", "11", "1000000002"]]:
             status, out, _ = ran("window", *arguments)
             self.assertEqual(status, 1)
             self.assertTrue(out.endswith(": 50, window refused\n"))
@@ -511,6 +525,16 @@ class Pages(unittest.TestCase):
             self.assertEqual(ran("slots", table.name, "--slots", "4096", "--free", "7x1,4089x2")[1].splitlines()[-1], "end 4096")
         self.assertEqual(status, 1)
         self.assertIn("".join(f"    {line}\n" for line in out.splitlines()), page)
+
+    @unittest.skipUnless(BUILT, "not built: host/build probe slot_printer desk")
+    def test_the_late_camera(self) -> None:
+        # Tank 7 has a cost equal to its period, so b = 0; tank 9, of 2 in 3, is due with it at 2 and has b = 1.
+        page = (ROOT / "docs" / "NEVER-LATE.md").read_text(encoding="utf-8")
+        camera = str(EXAMPLES / "camera.csv")
+        listing = "slot free tanks\n0 1 7\n1 1 9\nlate 2 7\n"
+        self.assertEqual(ran("slots", camera, "--free", "2x1")[:2], (1, listing))
+        self.assertIn("".join(f"    {line}\n" for line in listing.splitlines()), page)
+        self.assertEqual(ran("slots", camera, "--slots", "4096")[1].splitlines()[-1], "end 4096")
 
     @unittest.skipUnless(BUILT, "not built: host/build probe slot_printer desk")
     def test_the_client_of_the_probe(self) -> None:

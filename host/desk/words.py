@@ -61,11 +61,11 @@ def meaning(number: int) -> Meaning | None:
 
 
 def of_number(number: int) -> str:
-    """A number with the maker's words for it: '18, e not below p'. One that is not among them stands alone."""
+    """A number with the maker's words for it: '18, e above p'. One that is not among them stands alone."""
     known = meaning(number)
     return f"{number}, {known.words}" if known else str(number)
 
 
 def answer(number: int) -> str:
-    """The same as an answer: '18 e not below p'."""
+    """The same as an answer: '18 e above p'."""
     return of_number(number).replace(", ", " ", 1)

@@ -27,6 +27,8 @@ fn all_boxes() -> Vec<Vec<u8>> {
         boxes::equal(32, 5, 21, false),
         boxes::equal(32, 5, 21, true),
         boxes::worst(),
+        boxes::equal(8, 1, 1, false),
+        boxes::equal(8, 5, 5, true),
     ];
     for number in 0..RANDOM_BOXES {
         let cycle = random.pick(&CYCLES);

@@ -16,6 +16,7 @@ use Rattle.demands.proofs.Why.{why}
 use Rattle.demands.proofs.HalfIsHeavy.{half-is-heavy}
 use Rattle.demands.proofs.LongWalk.{long-walk}
 use Rattle.demands.proofs.WritingTables.{writing-tables}
+use Rattle.demands.proofs.WholeCore.{whole-core}
 
 pub all : All
 all =
@@ -36,4 +37,5 @@ all =
       half-is-heavy = half-is-heavy;
       long-walk = long-walk;
       writing-tables = writing-tables;
+      whole-core = whole-core;
     }

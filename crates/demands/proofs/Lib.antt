@@ -18,4 +18,5 @@ pub mod Why
 pub mod HalfIsHeavy
 pub mod LongWalk
 pub mod WritingTables
+pub mod WholeCore
 pub mod All

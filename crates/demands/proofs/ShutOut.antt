@@ -1,7 +1,7 @@
--- What is shut out: each by 01's example, computed. Assumes nothing.
-use Prim.Native.Nat.{ℕ, _+_, _-_, _*_, _/_}
+-- What is shut out: each by an example, computed. Assumes nothing.
+use Prim.Native.Nat.{ℕ, _+_, _-_, _*_, _/_, _<_}
 use mathlib.Core.Path.{_≡_, refl, sym, ap, _∙_}
-use mathlib.Core.List.{List, [], _∷_, flatMap}
+use mathlib.Core.List.{List, [], _∷_, _++_, flatMap}
 use mathlib.Core.Bool.{Bool, true, false, _&&_, true≢false}
 use native.Mathlib.Omega.{arith}
 use lib.ListN.{length, getD, take, replicate}
@@ -19,7 +19,7 @@ use Rattle.windows.specs.Group.{heavy, stops, stopTime, groupDeadline}
 use Rattle.windows.specs.Question.{windowReply}
 use Rattle.windows.specs.Formula.{gaps, formula}
 use Rattle.table.specs.Causes.{load}
-use Rattle.table.specs.Value.{faultOf}
+use Rattle.table.specs.Value.{faultOf, rowsOf}
 use Rattle.table.specs.Bytes.{tableNumber, tableIn, reading}
 use Rattle.table.specs.Example.{example}
 use Rattle.table.specs.Fits.{rowsFit}
@@ -28,7 +28,7 @@ use Rattle.pd2.specs.Ready.{ready, late}
 use Rattle.pd2.specs.Share.{lower, upper}
 use Rattle.pd2.specs.Order.{before}
 use Rattle.pd2.specs.Picks.{picked}
-use Rattle.pd2.specs.Choice.{given}
+use Rattle.pd2.specs.Choice.{rowAt, given}
 use Rattle.trace.specs.Record.{marked, withFront, withRecord}
 use Rattle.trace.specs.Records.{placeOf, rowsAt, names}
 use Rattle.trace.specs.Said.{bare, named}
@@ -51,7 +51,8 @@ use Rattle.why.specs.Why.{readyFrom, reasonOf, whyOf}
 use Rattle.checker.specs.Causes.{badRows}
 use Rattle.checker.specs.Check.{recordsFindings, traceSaid, checkOf}
 use Rattle.demands.specs.Bench.{exampleTrace, threeCores, box}
-use Rattle.demands.specs.LawInputs.{stateOf}
+use Rattle.demands.specs.LawInputs.{stateOf, front, rowBytes}
+use Rattle.demands.specs.WholeCore.{oneCamera}
 use Rattle.demands.specs.Inputs.{Bytes, CanAskWindow, Possible, CanAsk, CanWrite}
 use Rattle.demands.specs.ShutOut.{Dispatcher, IsDispatcher, numberOf, rowsWritten, GivesAsRecorded, ShutOutOf, Explainer, IsExplainer, ShutOutOfWhy, Answerer, IsAnswerer, ShutOutOfWindow, ShutOut, Writer, IsWriter, ShutOutOfWriting}
 use Rattle.demands.proofs.Two.{picks-are-pd2s}
@@ -133,6 +134,24 @@ computed =
       can1 = record { table = record { numbers = refl; boards = refl; rows = refl }; quanta = refl; counts = refl; last-rows = refl; last-cores = refl; remembered = refl; marks = refl; bytes = refl };
       can-again = record { table = record { numbers = refl; boards = refl; rows = refl }; quanta = refl; counts = refl; last-rows = refl; last-cores = refl; remembered = refl; marks = refl; bytes = refl };
     }
+
+-- "e = 1, p = 1" is taken (02, Six), and e = 2, p = 1 is not.
+abbrev aboveOne : List ℕ
+aboveOne = front 1 (0 ∷ []) ++ (1 ∷ rowBytes 0 2 1 0 0)
+
+record Cameras : Type 0 where
+  bytes : Bytes oneCamera
+  taken : tableNumber oneCamera ≡ 0
+  read : reading oneCamera .number ≡ 0
+  has-row : 0 < length (rowsOf (tableIn oneCamera))
+  whole : rowAt (rowsOf (tableIn oneCamera)) 0 .cost ≡ rowAt (rowsOf (tableIn oneCamera)) 0 .period
+  above-bytes : Bytes aboveOne
+  above-refused : tableNumber aboveOne ≡ 18
+  above-read : reading aboveOne .number ≡ 18
+
+cameras : Cameras
+unfolding allBelow bytesOf firstFound rising places padded load tableNumber reading
+cameras = record { bytes = refl; taken = refl; read = refl; has-row = omega arith; whole = refl; above-bytes = refl; above-refused = refl; above-read = refl }
 
 -- A dispatcher answers and writes in the example's slots 0 and 1 what the definition says.
 module _ (slot : Dispatcher) (is : IsDispatcher slot) where
@@ -247,7 +266,7 @@ shut-out-of-why explain is =
       says-now = λ h. let z : _≡_ {A = ℕ} 3 2 = h (stateOf (tableIn example) 2 false (2 ∷ 1 ∷ 1 ∷ [])) 2 0 (record { 0 = 3 }) (c .can-ask-later) later in omega arith;
     }
 
--- Three windows: "1/2, i = 1 has D 2"; 2/3 with phase 4, i = 1, has 7; 8/11, i = 3, has 8.
+-- Four windows: "1/2, i = 1 has D 2"; 2/3 with phase 4, i = 1, has 7; 8/11, i = 3, has 8; 1/1, i = 1, has 1.
 abbrev nth : ℕ → Subtask
 nth i = record { 0 = i }
 
@@ -259,6 +278,8 @@ record Asked : Type 0 where
   by-whole-d : formula 2 3 4 6 ≡ 10
   can-ask-own : CanAskWindow 8 11 0 (nth 3)
   own : windowReply 8 11 0 3 ≡ record { number = 0; r = 2; d = 5; b = 1; D = 8 }
+  can-ask-whole : CanAskWindow 1 1 0 (nth 1)
+  whole : windowReply 1 1 0 1 ≡ record { number = 0; r = 0; d = 1; b = 0; D = 1 }
 
 asked : Asked
 unfolding allBelow ceilDiv atFirst start deadline bit windowLength heavy stops stopTime groupDeadline windowReply gaps formula
@@ -271,6 +292,8 @@ asked =
       by-whole-d = refl;
       can-ask-own = refl;
       own = refl;
+      can-ask-whole = refl;
+      whole = refl;
     }
 
 shut-out-of-window : (window : Answerer) → IsAnswerer window → ShutOutOfWindow window
@@ -278,18 +301,21 @@ shut-out-of-window window is =
     let half = is 1 2 0 (nth 1) (asked .can-ask-half) ∙ asked .half in
     let phase = is 2 3 4 (nth 1) (asked .can-ask-phase) ∙ asked .phase in
     let own = is 8 11 0 (nth 3) (asked .can-ask-own) ∙ asked .own in
+    let whole = is 1 1 0 (nth 1) (asked .can-ask-whole) ∙ asked .whole in
     record {
       half-is-light = λ h. omega (arith, ap (λ reply. reply .D) half, h 1 0 (nth 1) (asked .can-ask-half));
       phase-left-in = λ h.
-          let wrong = h 2 3 4 (nth 1) (asked .can-ask-phase) (omega arith) (ap (λ reply. reply .number) phase) ∙ ap (λ reply. formula 2 3 4 (reply .d)) phase in
+          let wrong = h 2 3 4 (nth 1) (asked .can-ask-phase) (omega arith) (omega arith) (ap (λ reply. reply .number) phase) ∙ ap (λ reply. formula 2 3 4 (reply .d)) phase in
           omega (arith, ap (λ reply. reply .D) phase, wrong, asked .by-whole-d);
       rounds-down = λ h.
-          let wrong = h 2 3 4 (nth 1) (asked .can-ask-phase) (omega arith) (ap (λ reply. reply .number) phase) ∙ ap (λ reply. 4 + (reply .d - 4) * (3 - 2) / 3 * 3 / (3 - 2)) phase in
+          let wrong = h 2 3 4 (nth 1) (asked .can-ask-phase) (omega arith) (omega arith) (ap (λ reply. reply .number) phase) ∙ ap (λ reply. 4 + (reply .d - 4) * (3 - 2) / 3 * 3 / (3 - 2)) phase in
           omega (arith, ap (λ reply. reply .D) phase, wrong);
       own-window-counts = λ h.
           let long : _ ≡ _ = ap (λ reply. reply .d) own ∙ sym (ap (λ reply. reply .r + 3) own) in
-          let wrong = h 8 11 0 (nth 3) (asked .can-ask-own) (omega arith) (ap (λ reply. reply .number) own) long in
+          let wrong = h 8 11 0 (nth 3) (asked .can-ask-own) (omega arith) (omega arith) (ap (λ reply. reply .number) own) long in
           omega (arith, ap (λ reply. reply .D) own, ap (λ reply. reply .d) own, wrong);
+      whole-core-refused = λ h. omega (arith, ap (λ reply. reply .number) whole, h 1 0 (nth 1) (asked .can-ask-whole));
+      whole-core-is-light = λ h. omega (arith, ap (λ reply. reply .D) whole, h 1 0 (nth 1) (asked .can-ask-whole));
     }
 
 -- 01's example is written into 40 bytes and into 36, and not into 35; a value whose cycle is 0 is refused.
@@ -367,6 +393,8 @@ shut-out =
     let l = computed .late-bytes in
     record {
       reader = λ read is none. none example b (ap (λ r. r .number) (is example b) ∙ computed .read);
+      takes-no-whole-core = λ read is none. none oneCamera (cameras .bytes) 0 (cameras .has-row) (cameras .whole) (ap (λ r. r .number) (is oneCamera (cameras .bytes)) ∙ cameras .read);
+      takes-any-cost = λ read is none. none aboveOne (cameras .above-bytes) (ap (λ r. r .number) (is aboveOne (cameras .above-bytes)) ∙ cameras .above-read);
       dispatcher = shut-out-of;
       why = shut-out-of-why;
       window = shut-out-of-window;
@@ -374,6 +402,8 @@ shut-out =
       always-passes = λ check is always. is-late (ap (λ x. x .number) (is example lateTrace b l)) (always example lateTrace b l (computed .taken));
       never-passes = λ check is never. never example exampleTrace b t (passes (ap (λ x. x .number) (is example exampleTrace b t)));
       board-takes-none = λ check is none. none example b (takes (is example b));
+      board-takes-no-whole-core = λ check is none. none oneCamera (cameras .bytes) 0 (cameras .has-row) (cameras .whole) (is oneCamera (cameras .bytes) ∙ cameras .taken);
+      board-takes-any-cost = λ check is none. none aboveOne (cameras .above-bytes) (is aboveOne (cameras .above-bytes) ∙ cameras .above-refused);
       board-always-passes = λ check is always. is-late (is example lateTrace b l) (always example lateTrace b l (computed .taken));
       board-never-passes = λ check is never. never example exampleTrace b t (passes (is example exampleTrace b t));
     }

@@ -16,6 +16,7 @@ use Rattle.demands.specs.Why.{Why}
 use Rattle.demands.specs.HalfIsHeavy.{HalfIsHeavy}
 use Rattle.demands.specs.LongWalk.{LongWalk}
 use Rattle.demands.specs.WritingTables.{WritingTables}
+use Rattle.demands.specs.WholeCore.{WholeCore}
 
 pub record All : Type 0 where
   -- "any two results allowed are equal", of every public function
@@ -47,3 +48,5 @@ pub record All : Type 0 where
   pub long-walk : LongWalk
   -- "write the table bytes into a lent buffer"
   pub writing-tables : WritingTables
+  -- "Such a row has windows of one slot, b = 0, and D = d": a row with e = p has a core in every slot
+  pub whole-core : WholeCore

@@ -51,6 +51,10 @@ setOf cores = map (names cores) (places 0 1 setLimit)
 abbrev pub halfAndThird : Table
 halfAndThird = box 6 2 (plainRow 0 1 2 ∷ plainRow 1 1 3 ∷ [])
 
+-- two cores; row 0 has e = p, and row 1, of 2/3, has its first deadline where row 0 has its second, with b = 1
+abbrev pub cameraAndOther : Table
+cameraAndOther = box 3 2 (plainRow 0 1 1 ∷ plainRow 1 2 3 ∷ [])
+
 -- one core and no rows
 abbrev pub noRows : Table
 noRows = box 1 1 []

@@ -13,13 +13,14 @@ use Rattle.demands.specs.WhyLaws.{whyLaws}
 use Rattle.demands.specs.TraceLaws.{partLaws, traceLaws}
 use Rattle.demands.specs.PrinterLaws.{printerLaws}
 
--- "A window may be asked for alone .. It is refused if e = 0, if e is not below p, or if i is not in 1 to 1,000,000,001; then r, d, b and D come back as 0."
+-- "A window may be asked for alone .. It is refused if e = 0", if "e above p" (02, Six), "or if i is not in 1 to 1,000,000,001; then r, d, b and D come back as 0."
 -- e, p, f, i; then the number, r, d, b and D
 abbrev pub windowLaws : List Law
 windowLaws =
     window 0 3 0 1 50 0 0 0 0
-    ∷ window 3 3 0 1 50 0 0 0 0
     ∷ window 4 3 0 1 50 0 0 0 0
+    ∷ window 1 0 0 1 50 0 0 0 0
+    ∷ window 0 0 0 1 50 0 0 0 0
     ∷ window 2 3 0 0 50 0 0 0 0
     ∷ window 2 3 7 1 0 7 9 1 10
     ∷ window 2 3 0 1_000_000_001 0 1_500_000_000 1_500_000_002 1 1_500_000_003
@@ -34,6 +35,12 @@ windowLaws =
     ∷ window 32_767 65_534 0 1 0 0 2 0 2
     ∷ window 32_767 65_535 0 1 0 0 3 1 0
     ∷ window 32_768 65_535 0 1 0 0 2 1 3
+    -- "windows of one slot, b = 0, and D = d" (02, Six)
+    ∷ window 1 1 0 1 0 0 1 0 1
+    ∷ window 3 3 0 1 0 0 1 0 1
+    ∷ window 5 5 2 3 0 4 5 0 5
+    ∷ window 65_535 65_535 65_535 1_000_000_001 0 1_000_065_535 1_000_065_536 0 1_000_065_536
+    ∷ window 65_535 65_535 0 1_000_000_002 50 0 0 0 0
     -- "one less than the deadline of a subtask of this row whose window is 3 slots long": also far out
     ∷ window 8 11 0 1_000_000_001 0 1_375_000_000 1_375_000_002 1 1_375_000_004
     ∷ window 9 13 0 2 0 1 3 1 4

@@ -16,7 +16,7 @@ OneAnswer =
 pub record LongWalk : Type 0 where
   -- "D is f + ceil(g·p/(p-e)) where g = ceil(d·(p-e)/p)": of every heavy row below weight one that is what the walk gives,
   pub formula-gives-walk : FormulaGivesWalk
-  -- and so the D of every window that is answered.
+  -- and so the D of every window of such a row that is answered: "The formula of request Four is used only below weight one" (02, Six).
   pub answers-by-formula : AnswersByFormula
   pub one-answer : OneAnswer
   -- "A row of 65,534 in 65,535 makes the group deadline walk a whole job": from its first subtask over 65,534 windows;

@@ -35,7 +35,7 @@ use Rattle.checker.specs.Causes.{RisingExactly}
 use Rattle.checker.specs.Check.{traceFindings, checkOf}
 use Rattle.demands.specs.Limits.{InLimits}
 
--- "with one of the refusals in document 01, given exactly when that paper says", of a window: 50 exactly if e = 0, e is not below p, or i is not in 1
+-- "with one of the refusals in document 01, given exactly when that paper says", of a window: 50 exactly if e = 0, e is above p (02, Six), or i is not in 1
 -- to 1,000,000,001, and else the window;
 pub record Windows : Type 0 where
   pub answered : WindowsAreAnswered
@@ -46,7 +46,7 @@ pub record Windows : Type 0 where
   pub light : LightHasNone
 
 -- of the questions about one row that our own functions answer and 01 does not name (`windows::next_due` and its like, `pd2::ready`, `late`, `within`): they say `Unanswered` to
--- wild numbers, but never within 01's limits and one past them, nor where e = p, which 01 does not allow yet. A time of the next subtask (`of` is `start`, `jobStart` or
+-- wild numbers, but never within 01's limits and one past them. A time of the next subtask (`of` is `start`, `jobStart` or
 -- `groupDeadline`), or its deadline and bit, is that of subtask q + 1;
 pub record NextIs (e p f q : ℕ) : Type 0 where
   pub time : (of : ℕ → ℕ → ℕ → ℕ → ℕ) → next of e p f q ≡ moment.At (record { 0 = of e p f (q + 1) })

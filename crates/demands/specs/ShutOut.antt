@@ -14,9 +14,10 @@ use Rattle.windows.specs.Formula.{formula}
 use Rattle.table.specs.declared.Table.{Table}
 use Rattle.table.specs.declared.Reading.{Reading}
 use Rattle.table.specs.declared.Writing.{Writing}
-use Rattle.table.specs.Bytes.{tableNumber}
+use Rattle.table.specs.Value.{rowsOf}
+use Rattle.table.specs.Bytes.{tableNumber, tableIn}
 use Rattle.table.specs.Written.{bytesNeeded}
-use Rattle.pd2.specs.Choice.{quantaAt}
+use Rattle.pd2.specs.Choice.{rowAt, quantaAt}
 use Rattle.trace.specs.Record.{marked}
 use Rattle.trace.specs.Records.{rowsAt, names}
 use Rattle.cores.specs.Placement.{coresPlaced}
@@ -46,6 +47,14 @@ IsTableCheck check = (bytes : List ℕ) → Bytes bytes → firmware·zb-table-c
 -- "a reader that takes no table": by the number that it answers
 abbrev pub TakesNoTable : (List ℕ → ℕ) → Type 0
 TakesNoTable number = (bytes : List ℕ) → Bytes bytes → number bytes ≡ 0 → ⊥
+
+-- one that takes none with a row of e = p, and one that never says 18 (02, Six)
+abbrev pub TakesNoWholeCore : (List ℕ → ℕ) → Type 0
+TakesNoWholeCore number =
+    (bytes : List ℕ) → Bytes bytes → (i : ℕ) → i < length (rowsOf (tableIn bytes)) → rowAt (rowsOf (tableIn bytes)) i .cost ≡ rowAt (rowsOf (tableIn bytes)) i .period → number bytes ≡ 0 → ⊥
+
+abbrev pub TakesAnyCost : (List ℕ → ℕ) → Type 0
+TakesAnyCost number = (bytes : List ℕ) → Bytes bytes → number bytes ≡ 18 → ⊥
 
 -- A dispatcher keeps the promise of `slot`; it gives back the outcome and the buffer.
 abbrev pub Dispatcher : Type 0
@@ -164,8 +173,8 @@ pub record ShutOutOfWhy (explain : Explainer) : Type 0 where
   pub says-now : SaysNow explain → ⊥
 
 -- Who answers the window question keeps the promise of `window`, which is that of `window_by_walk` too. Shut out is one that answers D 0 whenever the weight is exactly
--- one half (02, Three). Of heavy rows (02, Four) so are one that puts d into the formula as it is, not counted from the phase, one that rounds the formula's divisions down,
--- and one whose walk stops at the window of i itself if that is 3 slots long.
+-- one half (02, Three). Of heavy rows below weight one (02, Four) so are one that puts d into the formula as it is, not counted from the phase, one that rounds the formula's
+-- divisions down, and one whose walk stops at the window of i itself if that is 3 slots long. Where e = p (02, Six), so are one that refuses, and one that answers D 0.
 abbrev pub Answerer : Type 0
 Answerer = ℕ → ℕ → ℕ → Subtask → Window
 
@@ -175,10 +184,10 @@ IsAnswerer window = (e p f : ℕ) (i : Subtask) → CanAskWindow e p f i → win
 abbrev pub HalfIsLight : Answerer → Type 0
 HalfIsLight window = (e f : ℕ) (i : Subtask) → CanAskWindow e (2 * e) f i → replyOf (window e (2 * e) f i) .D ≡ 0
 
--- so of every window of a heavy row that is answered
+-- so of every window of a heavy row below weight one that is answered
 abbrev pub OfHeavyRows : Answerer → (ℕ → ℕ → ℕ → Reply → Type 0) → Type 0
 OfHeavyRows window wrong =
-    (e p f : ℕ) (i : Subtask) → CanAskWindow e p f i → p ≤ 2 * e → replyOf (window e p f i) .number ≡ 0 → wrong e p f (replyOf (window e p f i))
+    (e p f : ℕ) (i : Subtask) → CanAskWindow e p f i → e < p → p ≤ 2 * e → replyOf (window e p f i) .number ≡ 0 → wrong e p f (replyOf (window e p f i))
 
 abbrev pub PhaseLeftIn : Answerer → Type 0
 PhaseLeftIn window = OfHeavyRows window (λ e p f reply. reply .D ≡ formula e p f (reply .d))
@@ -189,11 +198,19 @@ RoundsDown window = OfHeavyRows window (λ e p f reply. reply .D ≡ f + (reply 
 abbrev pub OwnWindowCounts : Answerer → Type 0
 OwnWindowCounts window = OfHeavyRows window (λ e p f reply. reply .d ≡ reply .r + 3 → reply .D + 1 ≡ reply .d)
 
+abbrev pub WholeCoreRefused : Answerer → Type 0
+WholeCoreRefused window = (p f : ℕ) (i : Subtask) → CanAskWindow p p f i → replyOf (window p p f i) .number ≡ 50
+
+abbrev pub WholeCoreIsLight : Answerer → Type 0
+WholeCoreIsLight window = (p f : ℕ) (i : Subtask) → CanAskWindow p p f i → replyOf (window p p f i) .D ≡ 0
+
 pub record ShutOutOfWindow (window : Answerer) : Type 0 where
   pub half-is-light : HalfIsLight window → ⊥
   pub phase-left-in : PhaseLeftIn window → ⊥
   pub rounds-down : RoundsDown window → ⊥
   pub own-window-counts : OwnWindowCounts window → ⊥
+  pub whole-core-refused : WholeCoreRefused window → ⊥
+  pub whole-core-is-light : WholeCoreIsLight window → ⊥
 
 -- A writer keeps the promise of `write` (02, Five); it gives back the answer and the buffer. Shut out are one that refuses all, one that judges nothing and
 -- writes wherever there is room, one that says 0 and leaves the buffer as it was, one that fills the buffer past the bytes with 0, one that asks for a byte more than is
@@ -251,6 +268,8 @@ NeverPasses number = (bytes s : List ℕ) → Bytes bytes → Bytes s → number
 
 pub record ShutOut : Type 0 where
   pub reader : (read : List ℕ → Reading) → IsReader read → TakesNoTable (λ bytes. read bytes .number) → ⊥
+  pub takes-no-whole-core : (read : List ℕ → Reading) → IsReader read → TakesNoWholeCore (λ bytes. read bytes .number) → ⊥
+  pub takes-any-cost : (read : List ℕ → Reading) → IsReader read → TakesAnyCost (λ bytes. read bytes .number) → ⊥
   pub dispatcher : (slot : Dispatcher) → IsDispatcher slot → ShutOutOf slot
   pub why : (explain : Explainer) → IsExplainer explain → ShutOutOfWhy explain
   pub window : (window : Answerer) → IsAnswerer window → ShutOutOfWindow window
@@ -259,5 +278,7 @@ pub record ShutOut : Type 0 where
   pub never-passes : (check : List ℕ → List ℕ → Checked) → IsChecker check → NeverPasses (numberChecked check) → ⊥
   -- the same of what the board calls
   pub board-takes-none : (check : List ℕ → ℕ) → IsTableCheck check → TakesNoTable check → ⊥
+  pub board-takes-no-whole-core : (check : List ℕ → ℕ) → IsTableCheck check → TakesNoWholeCore check → ⊥
+  pub board-takes-any-cost : (check : List ℕ → ℕ) → IsTableCheck check → TakesAnyCost check → ⊥
   pub board-always-passes : (check : List ℕ → List ℕ → ℕ) → IsTraceCheck check → AlwaysPasses check → ⊥
   pub board-never-passes : (check : List ℕ → List ℕ → ℕ) → IsTraceCheck check → NeverPasses check → ⊥

@@ -7,7 +7,7 @@ use Rattle.table.specs.declared.Table.{Table}
 use Rattle.trace.specs.Said.{bare, named}
 use Rattle.demands.specs.Bench.{plainRow, earlyRelease, box}
 use Rattle.demands.specs.Law.{Law, slot, leaves}
-use Rattle.demands.specs.LawInputs.{risingRows, stateOf, halfAndThird, noRows}
+use Rattle.demands.specs.LawInputs.{risingRows, stateOf, halfAndThird, cameraAndOther, noRows}
 
 -- a row of phase 4 and one of early release
 abbrev pub laterAndEarly : Table
@@ -79,11 +79,17 @@ slotLaws =
     ∷ leaves (stateOf (box 4 2 (plainRow 0 3 4 ∷ record { tank = 1; cost = 3; period = 4; phase = 1; kind = 0 } ∷ [])) 1 false (1 ∷ [])) 1 3 0 (1 ∷ 1 ∷ 1 ∷ []) 2 false (1 ∷ 1 ∷ [])
     -- "if both have b = 1": of two with b = 0 and d 4 the lower row number, though row 1, of weight one half, has D 4 and row 0 has 0
     ∷ leaves (stateOf (box 4 1 (plainRow 0 1 4 ∷ plainRow 1 2 4 ∷ [])) 2 false (0 ∷ 1 ∷ [])) 1 3 0 (1 ∷ 1 ∷ 0 ∷ []) 3 false (1 ∷ 1 ∷ [])
+    -- a row with e = p (02, Six) has b = 0: of two with d 2 the other goes first, by "b = 1 before b = 0", and the row is late
+    ∷ leaves (stateOf cameraAndOther 1 false (1 ∷ 0 ∷ [])) 1 3 0 (1 ∷ 1 ∷ 1 ∷ []) 2 true (1 ∷ 1 ∷ [])
+    ∷ slot (stateOf cameraAndOther 1 false (1 ∷ 0 ∷ [])) 1 3 0 (named 1 0 2)
+    ∷ leaves (stateOf cameraAndOther 1 false (1 ∷ 0 ∷ [])) 2 4 0 (2 ∷ 2 ∷ 0 ∷ 1 ∷ []) 2 false (2 ∷ 1 ∷ [])
     -- "Places past row n, and board numbers past M, are ignored and returned as they came."
     ∷ leaves (stateOf wildPast 0 false (0 ∷ 77 ∷ [])) 1 3 0 (1 ∷ 1 ∷ 0 ∷ []) 1 false (1 ∷ 77 ∷ 0 ∷ [])
     -- 30: "if its table has a fault",
     ∷ slot (stateOf (box 6 2 (plainRow 0 0 3 ∷ [])) 0 false []) 1 9 0 (bare 30)
     ∷ slot (stateOf (box 6 1 (plainRow 0 2 3 ∷ plainRow 1 1 2 ∷ [])) 1 false (1 ∷ [])) 1 9 0 (bare 30)
+    ∷ slot (stateOf (box 6 2 (plainRow 0 4 3 ∷ [])) 0 false []) 1 9 0 (bare 30)
+    ∷ slot (stateOf (box 6 2 (plainRow 0 3 3 ∷ [])) 0 false []) 1 9 0 (bare 0)
     -- "if time is above 1,000,000,000", and 32, "time is already 1,000,000,000"
     ∷ slot (stateOf noRows 1_000_000_001 false []) 1 9 0 (bare 30)
     ∷ slot (stateOf noRows 1_000_000_001 true []) 1 9 0 (bare 30)
@@ -105,6 +111,9 @@ slotLaws =
     ∷ slot (stateOf (box 6 1 (earlyRelease 0 3 6 ∷ [])) 7 false (4 ∷ [])) 1 9 0 (bare 0)
     ∷ slot (stateOf (box 6 1 (earlyRelease 0 3 6 ∷ [])) 4 false (3 ∷ [])) 1 9 0 (bare 0)
     ∷ slot (stateOf (box 6 1 (earlyRelease 0 3 6 ∷ [])) 4 false (4 ∷ [])) 1 9 0 (bare 30)
+    ∷ slot (stateOf (box 6 1 (plainRow 0 3 3 ∷ [])) 4 false (3 ∷ [])) 1 9 0 (bare 30)
+    ∷ slot (stateOf (box 6 1 (plainRow 0 3 3 ∷ [])) 4 false (4 ∷ [])) 1 9 0 (bare 0)
+    ∷ slot (stateOf (box 6 1 (earlyRelease 0 3 3 ∷ [])) 4 false (3 ∷ [])) 1 9 0 (bare 30)
     -- 31, "state stopped by an earlier 1": also outside its share
     ∷ slot (stateOf halfAndThird 4 true (1 ∷ 1 ∷ [])) 1 9 0 (bare 31)
     -- 35, "a set naming a core not below M" (02, One): the first k cores, where k is above M

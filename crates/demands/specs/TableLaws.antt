@@ -54,11 +54,14 @@ tableLaws =
     ∷ reads (front 6 (0 ∷ []) ++ (1 ∷ rowBytes 0 0 3 0 0)) 17
     ∷ reads (front 6 (0 ∷ []) ++ (2 ∷ rowBytes 0 1 3 0 0 ++ rowBytes 1 0 3 0 0)) 17
     ∷ reads (front 1_000 (0 ∷ []) ++ (1 ∷ rowBytes 0 256 1_000 0 0)) 0
-    -- 18, "e not below p"
-    ∷ reads (front 6 (0 ∷ []) ++ (1 ∷ rowBytes 0 1 1 0 0)) 18
-    ∷ reads (front 6 (0 ∷ []) ++ (1 ∷ rowBytes 0 3 3 0 0)) 18
+    -- 18, "e above p" (02, Six): e = p is taken
+    ∷ reads (front 6 (0 ∷ []) ++ (1 ∷ rowBytes 0 1 1 0 0)) 0
+    ∷ reads (front 6 (0 ∷ []) ++ (1 ∷ rowBytes 0 3 3 0 0)) 0
     ∷ reads (front 6 (0 ∷ []) ++ (1 ∷ rowBytes 0 4 3 0 0)) 18
-    ∷ reads (front 6 (0 ∷ 1 ∷ []) ++ (2 ∷ rowBytes 0 1 3 0 0 ++ rowBytes 1 3 3 0 0)) 18
+    ∷ reads (front 6 (0 ∷ []) ++ (1 ∷ rowBytes 0 1 0 0 0)) 18
+    ∷ reads (front 6 (0 ∷ []) ++ (1 ∷ rowBytes 0 65_535 1 0 0)) 18
+    ∷ reads (front 6 (0 ∷ 1 ∷ []) ++ (2 ∷ rowBytes 0 1 3 0 0 ++ rowBytes 1 3 3 0 0)) 0
+    ∷ reads (front 6 (0 ∷ 1 ∷ []) ++ (2 ∷ rowBytes 0 1 3 0 0 ++ rowBytes 1 4 3 0 0)) 18
     ∷ reads (front 6 (0 ∷ []) ++ (1 ∷ rowBytes 0 2 3 0 0)) 0
     -- 19, "p does not divide L"
     ∷ reads (front 6 (0 ∷ []) ++ (1 ∷ rowBytes 0 1 4 0 0)) 19
@@ -70,7 +73,7 @@ tableLaws =
     ∷ reads (front 6 (0 ∷ []) ++ (1 ∷ rowBytes 0 1 3 0 1)) 0
     -- 17 to 20 in a third row
     ∷ reads (threeRows (rowBytes 2 0 6 0 0)) 17
-    ∷ reads (threeRows (rowBytes 2 6 6 0 0)) 18
+    ∷ reads (threeRows (rowBytes 2 7 6 0 0)) 18
     ∷ reads (threeRows (rowBytes 2 1 4 0 0)) 19
     ∷ reads (threeRows (rowBytes 2 1 6 0 2)) 20
     ∷ has-row (threeRows (rowBytes 2 1 6 7 1)) 2 (record { tank = 2; cost = 1; period = 6; phase = 7; kind = 1 })
@@ -81,6 +84,10 @@ tableLaws =
     ∷ reads (front 6 (0 ∷ []) ++ (2 ∷ rowBytes 0 2 3 0 0 ++ rowBytes 1 1 2 0 0)) 22
     ∷ reads (front 6 (0 ∷ []) ++ (2 ∷ rowBytes 0 2 3 5 1 ++ rowBytes 1 1 3 4 1)) 0
     ∷ reads (front 3 (0 ∷ 1 ∷ []) ++ (4 ∷ rowBytes 0 2 3 0 0 ++ rowBytes 1 2 3 0 0 ++ rowBytes 2 2 3 0 0 ++ rowBytes 3 1 3 0 0)) 22
+    ∷ reads (threeRows (rowBytes 2 6 6 0 0)) 22
+    ∷ reads (front 6 (0 ∷ []) ++ (2 ∷ rowBytes 0 6 6 0 0 ++ rowBytes 1 1 6 0 0)) 22
+    ∷ reads (front 1 (0 ∷ 1 ∷ 2 ∷ 3 ∷ 4 ∷ 5 ∷ 6 ∷ 7 ∷ []) ++ (8 ∷ alikeRows 1 0 8)) 0
+    ∷ reads (front 1 (0 ∷ 1 ∷ 2 ∷ 3 ∷ 4 ∷ 5 ∷ 6 ∷ 7 ∷ []) ++ (9 ∷ alikeRows 1 0 9)) 22
     ∷ reads (front 2 (0 ∷ 1 ∷ 2 ∷ 3 ∷ 4 ∷ 5 ∷ 6 ∷ 7 ∷ []) ++ (16 ∷ alikeRows 2 0 16)) 0
     ∷ reads (front 2 (0 ∷ 1 ∷ 2 ∷ 3 ∷ 4 ∷ 5 ∷ 6 ∷ 7 ∷ []) ++ (17 ∷ alikeRows 2 0 17)) 22
     -- "tank (2 ..), e (2), p (2), f (2 ..), kind (1 ..)": each in its place, the low byte first

@@ -6,7 +6,7 @@ use Rattle.table.specs.declared.Table.{Table}
 use Rattle.table.specs.Causes.{zeroRow}
 use Rattle.demands.specs.Bench.{plainRow, box}
 use Rattle.demands.specs.Law.{Law, writes, noSuchRow}
-use Rattle.demands.specs.LawInputs.{front, alikeRows, halfAndThird, halfAndThirdBytes}
+use Rattle.demands.specs.LawInputs.{front, rowBytes, alikeRows, halfAndThird, halfAndThirdBytes}
 
 -- 8 cores and 32 rows 1/64
 abbrev pub fullBox : Table
@@ -35,11 +35,13 @@ writeLaws =
     ∷ writes (record { cycle = 6; cores = 2; boards = 4 ∷ 5 ∷ 0 ∷ 0 ∷ 0 ∷ 0 ∷ 0 ∷ 0 ∷ []; n = 33; rows = replicate 32 zeroRow }) 0 15 0 []
     ∷ writes (box 6 2 (plainRow 7 1 3 ∷ plainRow 7 0 3 ∷ [])) 0 16 0 []
     ∷ writes (box 6 2 (plainRow 0 0 0 ∷ [])) 0 17 0 []
-    ∷ writes (box 6 2 (plainRow 0 4 4 ∷ [])) 0 18 0 []
+    ∷ writes (box 6 2 (plainRow 0 5 4 ∷ [])) 0 18 0 []
     ∷ writes (box 6 2 (record { tank = 0; cost = 1; period = 4; phase = 0; kind = 2 } ∷ [])) 0 19 0 []
     ∷ writes (box 6 1 (plainRow 0 2 3 ∷ record { tank = 1; cost = 1; period = 2; phase = 0; kind = 2 } ∷ [])) 0 20 0 []
     ∷ writes (box 6 1 (plainRow 0 2 3 ∷ plainRow 1 1 2 ∷ [])) 0 22 0 []
     ∷ writes (box 6 1 (plainRow 0 2 3 ∷ plainRow 1 1 2 ∷ [])) 30 22 0 (replicate 30 99)
+    -- "18 means e above p" (02, Six): e = p is written
+    ∷ writes (box 6 2 (plainRow 0 6 6 ∷ [])) 18 0 18 (front 6 (0 ∷ 1 ∷ []) ++ (1 ∷ rowBytes 0 6 6 0 0))
     -- the most bytes
     ∷ writes fullBox 303 0 303 (front 64 (0 ∷ 1 ∷ 2 ∷ 3 ∷ 4 ∷ 5 ∷ 6 ∷ 7 ∷ []) ++ (32 ∷ alikeRows 64 0 32))
     ∷ writes fullBox 302 37 0 (replicate 302 99)

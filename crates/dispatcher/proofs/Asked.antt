@@ -26,7 +26,7 @@ use Rattle.dispatcher.specs.Usable.{UsableRow, Testable, Usable, UsableS
 -- A question about a usable row is answered.
 pub can-be-asked : {row : Row} {q t : ℕ} → UsableRow row q t → answered row q t ≡ true
 can-be-asked {row} {q} {t} u =
-    answered-in-reach row q t (record { cost = u .cost; weight = omega (arith, u .below-period) }) (omega (arith, u .quanta, u .time)) (omega (arith, u .time))
+    answered-in-reach row q t (record { cost = u .cost; weight = u .within-period }) (omega (arith, u .quanta, u .time)) (omega (arith, u .time))
 
 module _ {rows : List Row} {quanta : List Quanta} {n : ℕ} where
   -- Row i, as the code reads it, can be if all rows can,

@@ -81,7 +81,7 @@ is-usable s w place =
       place = place;
       each = λ i l.
           let sound = rows-are-sound (s .table) (w .table) i l in
-          record { cost = sound .cost; below-period = sound .below-period; quanta = w .quanta i l; time = w .time };
+          record { cost = sound .cost; within-period = sound .within-period; quanta = w .quanta i l; time = w .time };
     }
 
 -- No row of a fresh state has been given anything.

@@ -18,7 +18,7 @@ use Rattle.dispatcher.specs.Broken.{exceeds, outsideShare}
 -- A row that a table may hold, with quanta and a time within their limits.
 pub record UsableRow (row : Row) (q t : ℕ) : Type 0 where
   pub cost : 0 < row .cost
-  pub below-period : row .cost < row .period
+  pub within-period : row .cost ≤ row .period
   pub quanta : q ≤ t
   pub time : t ≤ timeLimit
 

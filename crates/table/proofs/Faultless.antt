@@ -4,7 +4,7 @@ use mathlib.Core.Path.{_≡_, refl, sym, ap}
 use mathlib.Core.List.{List, map}
 use mathlib.Core.Bool.{false, not}
 use native.Mathlib.Omega.{arith}
-use borrow.Author.Tests.{lt-ltb, le-ltb, ltb-false, eq-eqb, ne-eqb, eqb-true, not-false}
+use borrow.Author.Tests.{le-ltb, ltb-false, eq-eqb, ne-eqb, eqb-true, not-false}
 use lib.ListN.{length, getD}
 use Rattle.facts.specs.Findings.{NoneFound}
 use Rattle.facts.specs.Rising.{rising}
@@ -35,7 +35,7 @@ sound-row-passes : (cycle least : ℕ) (row : Row) → least ≤ row .tank → S
 sound-row-passes cycle least row h sound =
     NoneFound.later (le-ltb (row .tank) least h)
     (NoneFound.later (ne-eqb (row .cost) 0 (λ z. omega (arith, sound .cost)))
-    (NoneFound.later (ap not (lt-ltb (row .cost) (row .period) (sound .below-period)))
+    (NoneFound.later (le-ltb (row .period) (row .cost) (sound .within-period))
     (NoneFound.later (ap not (eq-eqb (cycle % row .period) 0 (sound .divides))) (NoneFound.later (le-ltb 1 (row .kind) (sound .kind)) NoneFound.end))))
 
 -- A faultless table has no fault in its board numbers,

@@ -6,7 +6,7 @@ use Prim.Native.Nat.{ℕ, zero, suc, _*_, _/_, _%_, _≤_, _<_}
 use native.Mathlib.Nat.{pos-of-ne-zero, div-add-mod'}
 use native.Mathlib.Omega.{arith}
 use lib.Seq.{length-take-le, getD-take}
-use borrow.Author.Tests.{ltb-true, ltb-false, eqb-true, eqb-false, not-false}
+use borrow.Author.Tests.{ltb-false, eqb-true, eqb-false, not-false}
 use lib.Dec.{ltb}
 use lib.ListN.{length, getD}
 use Rattle.facts.specs.Findings.{NoneFound}
@@ -112,7 +112,7 @@ sound-row : (cycle least : ℕ) (row : Row) → NoneFound (rowTests cycle least 
 sound-row cycle least row (NoneFound.later tank (NoneFound.later cost (NoneFound.later weight (NoneFound.later divides (NoneFound.later kind NoneFound.end))))) =
     record {
       cost = pos-of-ne-zero (eqb-false (row .cost) 0 cost);
-      below-period = ltb-true (row .cost) (row .period) (not-false _ weight);
+      within-period = ltb-false (row .period) (row .cost) weight;
       divides = eqb-true (cycle % row .period) 0 (not-false _ divides);
       kind = ltb-false 1 (row .kind) kind;
     }

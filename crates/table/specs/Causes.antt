@@ -48,8 +48,8 @@ rowTests cycle least row =
     ltb (row .tank) least says 16
     -- "e = 0"
     ∷ eqb (row .cost) 0 says 17
-    -- "e not below p"
-    ∷ not (ltb (row .cost) (row .period)) says 18
+    -- "From then on 18 means e above p" (02, Six)
+    ∷ ltb (row .period) (row .cost) says 18
     -- "p does not divide L"
     ∷ not (eqb (cycle % row .period) 0) says 19
     -- "kind above 1"

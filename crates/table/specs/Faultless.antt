@@ -23,7 +23,7 @@ pub record Faultless (t : Table) : Type 0 where
   pub row-count : t .n ≤ 32
   -- "tank (2, rising strictly from row to row; 0 is a tank like any other)"
   pub tanks : (i j : ℕ) → i < j → j < length (rowsOf t) → getD (rowsOf t) i zeroRow .tank < getD (rowsOf t) j zeroRow .tank
-  -- each row: not "e = 0", not "e not below p"; "Each p divides L."; "kind (1: 0 plain, 1 early release)"
+  -- each row: not "e = 0", not "e above p" (02, Six); "Each p divides L."; "kind (1: 0 plain, 1 early release)"
   pub rows : (i : ℕ) → i < length (rowsOf t) → Sound (t .cycle) (getD (rowsOf t) i zeroRow)
   -- "The sum of e·(L/p) is at most M·L."
   pub sum : load (t .cycle) (rowsOf t) ≤ t .cores * t .cycle

@@ -132,7 +132,7 @@ fn fault_of(cycle: u32, least: u32, row: Row) -> u8
     if row.cost == 0 {
         return 17;
     }
-    if row.period <= row.cost {
+    if row.period < row.cost {
         return 18;
     }
     if cycle % (row.period as u32) != 0 {

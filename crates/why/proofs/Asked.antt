@@ -53,7 +53,7 @@ module _ (row : Row) (q : ℕ) where
 
 -- A usable row has a window.
 pub usable-has-window : {row : Row} {q t : ℕ} → UsableRow row q t → HasWindow row q
-usable-has-window u = record { cost = u .cost; weight = omega (arith, u .below-period); quanta = omega (arith, u .quanta, u .time) }
+usable-has-window u = record { cost = u .cost; weight = u .within-period; quanta = omega (arith, u .quanta, u .time) }
 
 -- The rule does not look at the numbers of rows.
 any-numbers : (ahead behind : Row) (had given i j : ℕ) → ruleFor (rankOf ahead 0 had) (rankOf behind 0 given) ≡ ruleFor (rankOf ahead i had) (rankOf behind j given)

@@ -139,9 +139,9 @@ formula-gives-walk e p o i he below half hi =
     (is-group-deadline e p (p - e) o i d he (omega arith) (omega arith) (omega arith) hi (around .0) (around .1) (omega (arith, deadline-parts e p o i)))
 
 pub answers-by-formula : AnswersByFormula
-answers-by-formula e p f i half fit =
+answers-by-formula e p f i below half fit =
     let range = fit-says e p i fit in
-    windows-are-answered e p f i .if-fit fit ∙ rw (formula-gives-walk e p f i (range .0) (range .1) half (range .2)) refl
+    windows-are-answered e p f i .if-fit fit ∙ rw (formula-gives-walk e p f i (range .0) below half (range .2)) refl
 
 -- For callers: how far D lies behind d. Where d is o + x, and x·e is s above i·p, it takes one short division.
 pub group-deadline-behind : (e p o i x s : ℕ) → 0 < e → e < p → p ≤ 2 * e → 0 < i → i * p + s ≡ x * e → s < e →

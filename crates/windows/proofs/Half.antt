@@ -1,27 +1,22 @@
 -- What moved at weight one half, and nowhere else. Assumes nothing.
 use mathlib.Core.Path.{_≡_, refl, sym, ap, _∙_}
-use Prim.Native.Nat.{ℕ, _+_, _-_, _*_, _/_, _%_, _≤_, _<_}
-use native.Mathlib.Nat.{mul-mod-left, div-eq-of-eq-mul-left}
+use Prim.Native.Nat.{ℕ, _+_, _-_, _*_, _≤_, _<_}
 use native.Mathlib.Decide.{decLt}
 use native.Mathlib.Omega.{arith}
 use borrow.Author.Tests.{lt-ltb, le-ltb}
 use Rattle.facts.specs.First.{atFirst}
-use Rattle.windows.specs.Windows.{start, deadline, bit}
+use Rattle.windows.specs.Windows.{deadline, bit}
 use Rattle.windows.specs.Group.{stops, stopTime, groupDeadline}
 use Rattle.windows.specs.Former.{formerHeavy, formerGroupDeadline}
 use Rattle.windows.specs.Question.{lastSubtask, windowReply}
 use Rattle.windows.specs.Half.{IsOneHalf, MovedAtHalf}
-use Rattle.windows.proofs.Windows.{bit-of-whole, deadline-of-whole}
+use Rattle.windows.proofs.Windows.{multiple-has-bit-0, start-of-multiple, deadline-of-multiple}
 use Rattle.windows.proofs.Group.{light-has-none, heavy-walks, walk-begins, ends-by-bit}
 use Rattle.windows.proofs.Question.{is-fit, windows-are-answered}
 
--- e divides i·p at weight one half,
-half-divides : (e p i : ℕ) → p ≡ 2 * e → i * p % e ≡ 0
-half-divides e p i half = ap (λ x. i * x % e) half ∙ ap (λ x. x % e) {x = i * (2 * e)} {y = i * 2 * e} (omega arith) ∙ mul-mod-left (i * 2) e
-
--- so "such a row's b is always 0".
+-- At weight one half "such a row's b is always 0".
 half-has-bit-0 : (e p i : ℕ) → p ≡ 2 * e → bit e p i ≡ 0
-half-has-bit-0 e p i half = bit-of-whole e p i (half-divides e p i half)
+half-has-bit-0 e p i half = multiple-has-bit-0 e p 2 i half
 
 -- For callers: up to weight one half D is 0 where the bit is 1. Below one half it always is, and at one half no bit is 1.
 pub up-to-half-has-none : (e p o i : ℕ) → 2 * e ≤ p → bit e p i ≡ 1 → groupDeadline e p o i ≡ 0
@@ -49,20 +44,11 @@ elsewhere-same e p o i other = go (decLt p (2 * e)) (decLt (2 * e) p) (decLt 0 e
         rw (le-ltb p (2 * e) (omega arith)) (heavy-walks e p o i (omega arith) ∙ ap (atFirst (stops e p o i) (stopTime e p o) i) none)
 
 -- At weight one half the windows are two slots long, one behind the other.
-start-at-half : (e o i : ℕ) → 0 < e → start e (2 * e) o i ≡ o + 2 * (i - 1)
-unfolding start
-start-at-half e o i cost = let whole : (i - 1) * (2 * e) / e ≡ 2 * (i - 1) = div-eq-of-eq-mul-left cost (omega arith) in omega arith
-
-deadline-at-half : (e o i : ℕ) → 0 < e → deadline e (2 * e) o i ≡ o + 2 * i
-deadline-at-half e o i cost =
-    let whole : i * (2 * e) / e ≡ 2 * i = div-eq-of-eq-mul-left cost (omega arith) in
-    omega (arith, deadline-of-whole e (2 * e) o cost i (half-divides e (2 * e) i refl))
-
 half-is-answered : (e f i : ℕ) → 0 < e → 0 < i → i ≤ lastSubtask →
     windowReply e (2 * e) f i ≡ record { number = 0; r = f + 2 * (i - 1); d = f + 2 * i; b = 0; D = f + 2 * i }
 half-is-answered e f i cost first last =
     windows-are-answered e (2 * e) f i .if-fit (is-fit e (2 * e) i cost (omega arith) first last)
-    ∙ rw (start-at-half e f i cost, half-has-bit-0 e (2 * e) i refl, bit-0-ends-at-once e (2 * e) f i cost (omega arith) (half-has-bit-0 e (2 * e) i refl), deadline-at-half e f i cost)
+    ∙ rw (start-of-multiple e (2 * e) f cost 2 i refl, half-has-bit-0 e (2 * e) i refl, bit-0-ends-at-once e (2 * e) f i cost (omega arith) (half-has-bit-0 e (2 * e) i refl), deadline-of-multiple e (2 * e) f cost 2 i refl)
 
 pub moved-at-half : MovedAtHalf
 unfolding formerGroupDeadline formerHeavy

@@ -6,5 +6,6 @@ pub mod Question
 pub mod Half
 pub mod Fits
 pub mod Formula
+pub mod WholeCore
 pub mod Next
 pub mod Steps

@@ -5,7 +5,7 @@ use Prim.Native.Nat.{ℕ, _+_, _≤_, _<_}
 use native.Mathlib.Nat.{pos-of-ne-zero}
 use native.Mathlib.Decide.{decLe}
 use native.Mathlib.Omega.{arith}
-use borrow.Author.Tests.{lt-ltb, le-leb, ltb-true, leb-true, eqb-false, ne-eqb, not-false}
+use borrow.Author.Tests.{le-ltb, le-leb, ltb-false, leb-true, eqb-false, ne-eqb, not-false}
 use lib.Dec.{ltb, leb, eqb}
 use Rattle.facts.proofs.Tests.{both, neither-holds, below-is-not}
 use Rattle.facts.specs.Determined.{Determined, TellsApart}
@@ -37,12 +37,12 @@ pub above-last : {n i : ℕ} → n ≡ i → ltb lastSubtask n ≡ not (leb i la
 above-last {n} {i} same = ap (ltb lastSubtask) same ∙ below-is-not lastSubtask i
 
 -- What an accepted question says of its numbers.
-pub not-refused : (e p i : ℕ) → refused e p i ≡ false → (0 < e) × (e < p) × (1 ≤ i) × (i ≤ lastSubtask)
+pub not-refused : (e p i : ℕ) → refused e p i ≡ false → (0 < e) × (e ≤ p) × (1 ≤ i) × (i ≤ lastSubtask)
 not-refused e p i h =
-    let number = neither-holds (eqb e 0 || not (ltb e p)) (not (leb 1 i && leb i lastSubtask)) h in
-    let row = neither-holds (eqb e 0) (not (ltb e p)) (number .0) in
+    let number = neither-holds (eqb e 0 || ltb p e) (not (leb 1 i && leb i lastSubtask)) h in
+    let row = neither-holds (eqb e 0) (ltb p e) (number .0) in
     let range = both (leb 1 i) (leb i lastSubtask) (not-false _ (number .1)) in
-    (pos-of-ne-zero (eqb-false e 0 (row .0)), ltb-true e p (not-false _ (row .1)), leb-true 1 i (range .0), leb-true i lastSubtask (range .1))
+    (pos-of-ne-zero (eqb-false e 0 (row .0)), ltb-false p e (row .1), leb-true 1 i (range .0), leb-true i lastSubtask (range .1))
 
 -- So its group deadline can be asked for; o is the origin that the code makes of the phase.
 pub accepted-can-walk : (e p f i : ℕ) → refused e p i ≡ false → p < 65_536 → f < 65_536 → {o : ℕ} → o ≡ f → CanWalk e p o i
@@ -52,7 +52,7 @@ accepted-can-walk e p f i h period phase same =
       fits =
           record {
             cost = in-range .0;
-            weight = omega arith;
+            weight = in-range .1;
             period = period;
             origin = omega arith;
             first = in-range .2;
@@ -104,29 +104,29 @@ found-once-more e p f i q same is =
 
 -- What a refused question says of its numbers.
 unfit-if-refused : (e p i : ℕ) → refused e p i ≡ true → Unfit e p i
-unfit-if-refused e p i h = go (decLe 1 e) (decLe (e + 1) p) (decLe 1 i) (decLe i lastSubtask)
+unfit-if-refused e p i h = go (decLe 1 e) (decLe e p) (decLe 1 i) (decLe i lastSubtask)
   where
-    go : Dec (1 ≤ e) → Dec (e + 1 ≤ p) → Dec (1 ≤ i) → Dec (i ≤ lastSubtask) → Unfit e p i
+    go : Dec (1 ≤ e) → Dec (e ≤ p) → Dec (1 ≤ i) → Dec (i ≤ lastSubtask) → Unfit e p i
     go (no n) weight first last = Unfit.no-cost (omega arith)
-    go (yes y) (no n) first last = Unfit.not-below (omega arith)
+    go (yes y) (no n) first last = Unfit.above-period (omega arith)
     go (yes y) (yes w) (no n) last = Unfit.before-first (omega arith)
     go (yes y) (yes w) (yes a) (no n) = Unfit.past-last (omega arith)
     go (yes y) (yes w) (yes a) (yes b) =
-        let fit : refused e p i ≡ false = simp (ne-eqb e 0 (λ z. omega arith), lt-ltb e p (omega arith), le-leb 1 i a, le-leb i lastSubtask b) in
+        let fit : refused e p i ≡ false = simp (ne-eqb e 0 (λ z. omega arith), le-ltb p e w, le-leb 1 i a, le-leb i lastSubtask b) in
         absurd (true≢false (sym h ∙ fit))
 
 -- A question within the limits is fit,
-pub is-fit : (e p i : ℕ) → 0 < e → e < p → 1 ≤ i → i ≤ lastSubtask → Unfit e p i → ⊥
+pub is-fit : (e p i : ℕ) → 0 < e → e ≤ p → 1 ≤ i → i ≤ lastSubtask → Unfit e p i → ⊥
 is-fit e p i cost weight first last (Unfit.no-cost z) = omega arith
-is-fit e p i cost weight first last (Unfit.not-below z) = omega arith
+is-fit e p i cost weight first last (Unfit.above-period z) = omega arith
 is-fit e p i cost weight first last (Unfit.before-first z) = omega arith
 is-fit e p i cost weight first last (Unfit.past-last z) = omega arith
 
 -- and a fit one is within the limits.
-pub fit-says : (e p i : ℕ) → (Unfit e p i → ⊥) → (0 < e) × (e < p) × (1 ≤ i) × (i ≤ lastSubtask)
+pub fit-says : (e p i : ℕ) → (Unfit e p i → ⊥) → (0 < e) × (e ≤ p) × (1 ≤ i) × (i ≤ lastSubtask)
 fit-says e p i fit = go (refused e p i) refl
   where
-    go : (x : Bool) → refused e p i ≡ x → (0 < e) × (e < p) × (1 ≤ i) × (i ≤ lastSubtask)
+    go : (x : Bool) → refused e p i ≡ x → (0 < e) × (e ≤ p) × (1 ≤ i) × (i ≤ lastSubtask)
     go true h = absurd (fit (unfit-if-refused e p i h))
     go false h = not-refused e p i h
 

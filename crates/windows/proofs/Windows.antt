@@ -2,7 +2,7 @@
 use mathlib.Core.Path.{_≡_, refl, ap, _∙_}
 use mathlib.Core.Logic.{_⊎_, inl, inr}
 use Prim.Native.Nat.{ℕ, _+_, _-_, _*_, _/_, _%_, _≤_, _<_}
-use native.Mathlib.Nat.{div-eq-of-lt-le, div-lt-iff-lt-mul, le-div-iff-mul-le, div-mul-le-self, lt-div-mul-add, mul-le-mul-left, mul-le-mul-right, mul-mod-left}
+use native.Mathlib.Nat.{div-eq-of-lt-le, div-eq-of-eq-mul-left, div-lt-iff-lt-mul, le-div-iff-mul-le, div-mul-le-self, lt-div-mul-add, mul-le-mul-left, mul-le-mul-right, mul-mod-left}
 use native.Mathlib.Decide.{ℕ-discrete, decLt}
 use native.Mathlib.Omega.{arith}
 use borrow.Author.Tests.{eq-eqb, ne-eqb}
@@ -49,9 +49,17 @@ bit-zero-divides e p i b = go (ℕ-discrete (i * p % e) 0)
     go (yes h) = h
     go (no h) = absurd (omega (arith, b, bit-of-part e p i h))
 
--- A row of weight one has bit 0 throughout.
+-- Where p is a multiple of e, so is i·p,
+multiple-divides : (e p k i : ℕ) → p ≡ k * e → i * p % e ≡ 0
+multiple-divides e p k i multiple = ap (λ x. x % e) {x = i * p} {y = i * k * e} (ap (λ x. i * x) multiple ∙ omega arith) ∙ mul-mod-left (i * k) e
+
+-- and the row has bit 0 throughout: one of weight one half has,
+pub multiple-has-bit-0 : (e p k i : ℕ) → p ≡ k * e → bit e p i ≡ 0
+multiple-has-bit-0 e p k i multiple = bit-of-whole e p i (multiple-divides e p k i multiple)
+
+-- and one of weight one.
 pub whole-has-bit-0 : (e p i : ℕ) → p ≡ e → bit e p i ≡ 0
-whole-has-bit-0 e p i whole = bit-of-whole e p i (ap (λ x. i * x % e) whole ∙ mul-mod-left i e)
+whole-has-bit-0 e p i whole = multiple-has-bit-0 e p 1 i (omega arith)
 
 -- The last subtask of a job has bit 0,
 pub bit-at-job-end : (e p i : ℕ) → bit e p (lastOfJob e i) ≡ 0
@@ -78,6 +86,18 @@ module _ (e p o : ℕ) (he : 0 < e) where
   pub deadline-of-part : (i : ℕ) → (i * p % e ≡ 0 → ⊥) → deadline e p o i ≡ o + i * p / e + 1
   unfolding deadline
   deadline-of-part i h = omega (arith, ceil-of-part (i * p) he h)
+
+  -- Where p is k·e, windows are k slots long, one behind the other.
+  pub start-of-multiple : (k i : ℕ) → p ≡ k * e → start e p o i ≡ o + k * (i - 1)
+  unfolding start
+  start-of-multiple k i multiple =
+      let same : (i - 1) * p ≡ k * (i - 1) * e = ap (λ x. (i - 1) * x) multiple ∙ omega arith in
+      ap (λ x. o + x) (div-eq-of-eq-mul-left he same)
+
+  pub deadline-of-multiple : (k i : ℕ) → p ≡ k * e → deadline e p o i ≡ o + k * i
+  deadline-of-multiple k i multiple =
+      let same : i * p ≡ k * i * e = ap (λ x. i * x) multiple ∙ omega arith in
+      deadline-of-whole i (multiple-divides e p k i multiple) ∙ ap (λ x. o + x) (div-eq-of-eq-mul-left he same)
 
   -- W1 as a sum.
   pub next-start-is-deadline-less-bit : (i : ℕ) → start e p o (i + 1) + bit e p i ≡ deadline e p o i

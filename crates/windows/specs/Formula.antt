@@ -23,8 +23,8 @@ groupByFormula e p o i = formula e p o (deadline e p o i - o)
 abbrev pub FormulaGivesWalk : Type 0
 FormulaGivesWalk = (e p o i : ℕ) → 0 < e → e < p → p ≤ 2 * e → 0 < i → groupByFormula e p o i ≡ groupDeadline e p o i
 
--- So the window question answers with the formula's D, if the row is heavy.
+-- So the window question answers with the formula's D, if the row is heavy and below weight one: "The formula of request Four is used only below weight one" (02, Six).
 abbrev pub AnswersByFormula : Type 0
 AnswersByFormula =
-    (e p f i : ℕ) → p ≤ 2 * e → (Unfit e p i → ⊥) →
+    (e p f i : ℕ) → e < p → p ≤ 2 * e → (Unfit e p i → ⊥) →
     windowReply e p f i ≡ record { number = 0; r = start e p f i; d = deadline e p f i; b = bit e p i; D = groupByFormula e p f i }

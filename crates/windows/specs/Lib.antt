@@ -5,5 +5,6 @@ pub mod Question
 pub mod Former
 pub mod Half
 pub mod Formula
+pub mod WholeCore
 pub mod Next
 pub mod Fits

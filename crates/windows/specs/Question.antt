@@ -30,9 +30,9 @@ replyOf Refused = refusedReply
 abbrev pub lastSubtask : ℕ
 lastSubtask = timeLimit + 1
 
--- "It is refused if e = 0, if e is not below p, or if i is not in 1 to 1,000,000,001"
+-- "It is refused if e = 0", if "e above p" (02, Six: "18 narrowed, in the table and in 50"), "or if i is not in 1 to 1,000,000,001"
 abbrev pub refused : ℕ → ℕ → ℕ → Bool
-refused e p i = eqb e 0 || not (ltb e p) || not (leb 1 i && leb i lastSubtask)
+refused e p i = eqb e 0 || ltb p e || not (leb 1 i && leb i lastSubtask)
 
 -- what comes back
 unfoldable pub windowReply : ℕ → ℕ → ℕ → ℕ → Reply
@@ -44,7 +44,7 @@ windowReply e p f i =
 -- The same, said case by case: a question that is refused,
 pub data Unfit (e p i : ℕ) : Type 0 where
   no-cost : e ≡ 0 → Unfit e p i
-  not-below : p ≤ e → Unfit e p i
+  above-period : p < e → Unfit e p i
   before-first : i < 1 → Unfit e p i
   past-last : lastSubtask < i → Unfit e p i
 

@@ -3,9 +3,11 @@
 use crate::kind::*;
 use crate::make::lent::{given, Given, Maker};
 use crate::make::schedule::{free, last_late, schedule};
+use crate::make::whole_core::is_whole;
 use crate::make::written::add_many_rows;
 use crate::make::{damage, spoil};
 use second::checker::check;
+use second::table::{read, Table};
 
 #[derive(Clone)]
 pub struct Checks;
@@ -22,6 +24,7 @@ impl Maker for Checks {
         "whole schedule ends (1 in 140): late | on time | cut short",
         "passes, has 12 slots or more and both kinds of row (1 in 140): 0",
         "late row (1 in 200): above 0 | 31",
+        "of a table with a row of e = p (1 in 100): passes | 44 | 45 for such a row | 45 for another",
         "more than 32 rows in a record (1 in 300): 42",
     ];
 
@@ -48,10 +51,23 @@ impl Maker for Checks {
         }
         let long = given.made == "on time" && is_long(given);
         tally.saw_each("passes, has 12 slots or more and both kinds of row", [long]);
-        if number == 45 {
-            let row = check(&given.table, given.trace.as_deref().unwrap_or(&[])).row;
-            tally.saw_each("late row", [row > 0, row == 31]);
+        let trace = given.trace.as_deref().unwrap_or(&[]);
+        let row = check(&given.table, trace).row;
+        let late = number == 45;
+        tally.saw_each("late row", [late && row > 0, late && row == 31]);
+        if let Ok(table) = read(&given.table) {
+            count_whole_core(&table, number, row, tally);
         }
+    }
+}
+
+/// What a trace is answered, if a row of its table has e = p.
+fn count_whole_core(table: &Table, number: u8, row: u8, tally: &mut Tally) {
+    if table.named_rows().iter().any(is_whole) {
+        let such = is_whole(&table.rows[usize::from(row)]);
+        let late = |such| number == 45 && such;
+        let met = [number == 0, number == 44, late(such), late(!such)];
+        tally.saw_each("of a table with a row of e = p", met);
     }
 }
 

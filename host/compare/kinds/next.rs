@@ -69,8 +69,7 @@ impl Kind for Case {
         let (e, p, quanta, other) = (self.e, self.p, self.quanta, self.origin);
         tally.saw("answered", answer[0]);
         if answer[0] == 1 {
-            let name = if e == p { "e = p" } else { weight::name(e, p) };
-            tally.saw("weight", name);
+            tally.saw("weight", weight::name(e, p));
             tally.saw("bit", answer[1 + 8]);
             let largest = p == u16::MAX && other == REACH && quanta == REACH;
             let largest = [largest && e == 1, largest && e > 1];
@@ -80,7 +79,7 @@ impl Kind for Case {
     }
 }
 
-/// e = p, which no table has.
+/// e = p, from the shortest to the longest period.
 fn whole(random: &mut Random) -> (u16, u16) {
     let any = random.between(1, 40) as u16;
     let p = random.pick(&[1, 2, any, 65_535]);

@@ -1,7 +1,7 @@
 //! Schedules, as the slot printer prints them, of inputs that are right or wrong.
 
 use crate::kind::*;
-use crate::make::{damage, schedule, sound};
+use crate::make::{damage, schedule, sound, whole_core};
 use second::printer::print;
 
 /// An input as it is written: each count may be wrong by something.
@@ -24,6 +24,7 @@ impl Kind for Case {
     const GROUPS: &'static [Group] = &[
         "after the header, last (1 in 75): end | late | refused 35",
         "alone (1 in 75): refused | input",
+        "with a row of e = p (1 in 75): end | late",
         "input (1 in 150): right, with a table of length 0 | right, of 65,536 bytes | \
          of 65,537 bytes, each in its place | right in its first 65,536 bytes, and one more | \
          of 4,097 slots, else right",
@@ -75,6 +76,10 @@ impl Kind for Case {
         let word = last.split(' ').next().unwrap_or("");
         match text.lines().count() {
             1 => tally.saw("alone", word),
+            _ if word != "refused" && whole_core::stands_in(&self.table) => {
+                tally.saw("with a row of e = p", word);
+                tally.saw("after the header, last", word);
+            }
             _ if word == "refused" => tally.saw("after the header, last", last),
             _ => tally.saw("after the header, last", word),
         }

@@ -213,13 +213,15 @@ fn disturb(random: &mut Random, state: &mut State) {
     }
 }
 
-/// A row without a cost and without quanta, or one that costs every slot and has had each: inside its share, were it a row.
+/// A row without a cost and without quanta, or one that costs more than every slot and has had each: inside its share for some time, were it a row. At times one that costs
+/// every slot, which may be.
 fn spoil_cost(random: &mut Random, state: &mut State) {
     let n = usize::from(state.table.count).clamp(1, 32);
     let number = random.below(n);
     let row = &mut state.table.rows[number];
     let begun = state.time.saturating_sub(u64::from(row.phase));
-    let (cost, quanta) = random.pick(&[(0, 0), (row.period, begun)]);
+    let more = row.period.saturating_add(1);
+    let (cost, quanta) = random.pick(&[(0, 0), (more, begun), (more, begun), (row.period, begun)]);
     row.cost = cost;
     state.quanta[number] = quanta;
 }

@@ -1,8 +1,9 @@
 //! Tables, read from their bytes.
 
 use crate::kind::*;
-use crate::make::damage;
 use crate::make::lent::{given, Given, Maker};
+use crate::make::{damage, whole_core};
+use second::table::read;
 
 #[derive(Clone)]
 pub struct Tables;
@@ -13,6 +14,7 @@ impl Maker for Tables {
         "length (1 in 300): 0",
         "taken, M (1 in 400): 1..8",
         "taken, n (1 in 2000): 0..32",
+        "taken, rows with e = p (1 in 100): none | some | all",
     ];
 
     fn wild(random: &mut Random) -> Given {
@@ -30,6 +32,8 @@ impl Maker for Tables {
             let cores = given.table[5];
             tally.saw("taken, M", cores);
             tally.saw("taken, n", given.table[6 + usize::from(cores)]);
+            let table = read(&given.table).expect("it is taken");
+            tally.saw("taken, rows with e = p", whole_core::name(&table));
         }
     }
 }

@@ -2,7 +2,7 @@
 
 use super::value;
 use crate::kind::*;
-use crate::make::{room, values};
+use crate::make::{room, values, whole_core};
 use second::table::{fault, Table};
 use second::writing::write_table;
 
@@ -19,6 +19,7 @@ impl Kind for Case {
         "of a value without a fault, room (1 in 50): none | too little | one byte less | exact | more | much more",
         "written, M (1 in 500): 1..8",
         "written, n (1 in 2500): 0..32",
+        "written, rows with e = p (1 in 200): none | some | all",
         "written, past M (1 in 20): 0 | not 0",
         "written, past n (1 in 20): 0 | not 0",
         "too short, M (1 in 1000): 1..8",
@@ -55,6 +56,7 @@ impl Kind for Case {
             0 => {
                 tally.saw("written, M", self.table.cores);
                 tally.saw("written, n", self.table.count);
+                tally.saw("written, rows with e = p", whole_core::name(&self.table));
                 value::count_past_boards(&self.table, "written, past M", tally);
                 value::count_past_rows(&self.table, "written, past n", tally);
             }

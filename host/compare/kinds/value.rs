@@ -3,7 +3,7 @@
 
 use crate::kind::*;
 use crate::make::states::fill;
-use crate::make::{damage, values};
+use crate::make::{damage, values, whole_core};
 use crate::number::Number;
 use second::slot::fresh;
 use second::table::{fault, Row, Table};
@@ -14,7 +14,10 @@ pub struct Case<const FRESH: bool>(Table);
 
 impl<const FRESH: bool> Kind for Case<FRESH> {
     const GROUPS: &'static [Group] = match FRESH {
-        false => &["fault (1 in 150): 0 | 12..20 | 22"],
+        false => &[
+            "fault (1 in 150): 0 | 12..20 | 22",
+            "without a fault, rows with e = p (1 in 100): none | some | all",
+        ],
         true => &[
             "fault of the value (1 in 300): 0 | 12..20 | 22",
             "past n, all places (1 in 10): 0 | not 0",
@@ -40,6 +43,8 @@ impl<const FRESH: bool> Kind for Case<FRESH> {
     fn count(&self, _answer: &[u8], tally: &mut Tally) {
         let fault = fault(&self.0);
         if !FRESH {
+            let name = whole_core::name(&self.0);
+            tally.saw_if(fault == 0, "without a fault, rows with e = p", name);
             return tally.saw("fault", fault);
         }
         tally.saw("fault of the value", fault);

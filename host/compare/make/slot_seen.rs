@@ -2,9 +2,10 @@
 
 use crate::kinds::slot::{Case, Free};
 use crate::make::cores_seen;
+use crate::make::whole_core::is_whole;
 use crate::tally::{Group, Tally};
 use second::share::inside;
-use second::slot::{deciding_rule, ready_rows, Rule, State, LAST_TIME};
+use second::slot::{deciding_rule, ready_rows, Next, Rule, State, LAST_TIME};
 use second::table::{fault, Row};
 
 pub const CAUSES_OF_30: Group = "the only cause of 30 (1 in 2000): \
@@ -15,12 +16,13 @@ pub const CAUSES_OF_30: Group = "the only cause of 30 (1 in 2000): \
     a row and its core twice | a count above 8";
 
 /// With what is counted of the way in which the free cores are told.
-pub const fn groups(free: Group) -> [Group; 17] {
+pub const fn groups(free: Group) -> [Group; 18] {
     [
         "answer (1 in 100): 0 | 1 | 30..32 | 34..35",
         CAUSES_OF_30,
         "decided by (1 in 150): deadline | bit | group deadline | row number",
         "picked (1 in 50): plain | early release | phase above 0",
+        "a row with e = p (1 in 150): picked | late | ready, and one with b = 1 is picked",
         "done at a time (1 in 60): below 1,000 | above 900,000,000",
         "done with (1 in 100): k of 0 | M of 8 | n of 32 | a row not yet begun",
         "late row (1 in 200): above 0 | 31",
@@ -50,6 +52,10 @@ pub fn count<F: Free>(case: &Case<F>, answer: &[u8], tally: &mut Tally) {
     tally.saw_each("refused by a place", [low_right]);
     let late = |met| number == 1 && met;
     tally.saw_each("late row", [late(answer[1] > 0), late(answer[1] == 31)]);
+    if number <= 1 {
+        let such = late(is_whole(&case.state.table.rows[usize::from(answer[1])]));
+        count_whole_core(&case.state, case.free.set().count_ones() as u8, such, tally);
+    }
 }
 
 pub fn count_cause_of_30(state: &State, number: u8, tally: &mut Tally) {
@@ -99,6 +105,19 @@ fn count_done<F: Free>(case: &Case<F>, tally: &mut Tally) {
         state.table.named_rows().iter().any(begins_later),
     ];
     tally.saw_each("done with", met);
+}
+
+/// Rows with e = p in a slot that is done: they have windows of one slot, and yet a row that is due with them goes first if its b is 1.
+fn count_whole_core(state: &State, k: u8, late: bool, tally: &mut Tally) {
+    let ready = ready_rows(state);
+    let (picked, left) = ready.split_at(usize::from(k).min(ready.len()));
+    let such = |next: &Next| is_whole(&state.table.rows[usize::from(next.row)]);
+    let ahead = |next: &Next| {
+        let due = |other: &Next| other.deadline == next.deadline && other.bit == 1;
+        such(next) && picked.iter().any(due)
+    };
+    let met = [picked.iter().any(such), late, left.iter().any(ahead)];
+    tally.saw_each("a row with e = p", met);
 }
 
 fn picked(state: &State, k: u8) -> Vec<Row> {

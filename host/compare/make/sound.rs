@@ -30,7 +30,7 @@ fn cycle(random: &mut Random) -> usize {
     }
 }
 
-/// The periods that a row may have in this cycle: its divisors above 1 that fit into two bytes.
+/// The periods that a row may have in this cycle, rising: its divisors that fit into two bytes.
 fn periods(cycle: usize) -> Vec<usize> {
     let mut found = Vec::new();
     let mut small = 1;
@@ -42,8 +42,16 @@ fn periods(cycle: usize) -> Vec<usize> {
     }
     found.sort_unstable();
     found.dedup();
-    found.retain(|&period| period > 1 && period <= 65_535);
+    found.retain(|&period| period <= 65_535);
     found
+}
+
+/// Those above 1, if there are any: a row with a period of 1 needs a core in every slot.
+fn above_1(periods: &[usize]) -> &[usize] {
+    match periods {
+        [1, longer @ ..] if !longer.is_empty() => longer,
+        _ => periods,
+    }
 }
 
 fn boards(random: &mut Random) -> Vec<u8> {
@@ -90,11 +98,15 @@ pub fn short(random: &mut Random) -> Draft {
 fn of_rows(random: &mut Random, cycle: usize, wanted: usize) -> Draft {
     let periods = periods(cycle);
     of_weights(random, cycle, |random, rows, room| {
-        if rows == wanted || periods.is_empty() {
+        if rows == wanted {
             return None;
         }
-        let p = random.pick(&periods);
-        let most = (p - 1).min(room / (cycle / p));
+        if random.one_in(24) && room >= cycle {
+            let p = random.pick(&periods);
+            return Some((p, p));
+        }
+        let p = random.pick(above_1(&periods));
+        let most = p.min(room / (cycle / p));
         // about twice its part of the room, so that the rows after it find some
         let part = 2 * room / (wanted - rows) / (cycle / p);
         let e = random.between(1, most.min(part).max(1));
@@ -107,10 +119,10 @@ pub fn heavy(random: &mut Random) -> Draft {
     let cycle = random.pick(&[12, 20, 24, 30, 60, 120]);
     let periods = periods(cycle);
     of_weights(random, cycle, |random, _, room| {
-        // no weight above one half has a period of 2
-        let p = random.pick(&periods[1..]);
+        // no weight between one half and one has a period of 1 or 2
+        let p = random.pick(&periods[2..]);
         let least = if random.one_in(4) { 1 } else { p / 2 + 1 };
-        let e = random.between(least, p - 1);
+        let e = random.between(least, p);
         Some((e, p)).filter(|_| e * (cycle / p) <= room)
     })
 }
@@ -166,9 +178,6 @@ pub fn full(random: &mut Random, by: isize) -> Draft {
 /// The same with this cycle, if it can be had.
 pub fn full_of(random: &mut Random, cycle: usize, by: isize) -> Option<Draft> {
     let periods = periods(cycle);
-    if periods.is_empty() {
-        return None;
-    }
     let boards = boards(random);
     let mut weights = Vec::new();
     for _ in 0..boards.len() {
@@ -181,10 +190,10 @@ pub fn full_of(random: &mut Random, cycle: usize, by: isize) -> Option<Draft> {
     Some(draft(cycle as u32, &boards, &rows(random, &weights)))
 }
 
-/// Two to four weights that make 1, written with different periods of the cycle.
+/// Up to four weights that make 1, at times one alone, written with different periods of the cycle.
 fn whole(random: &mut Random, periods: &[usize]) -> Vec<(usize, usize)> {
-    let p = random.pick(periods);
-    let count = random.between(2, p.min(4));
+    let p = random.pick(above_1(periods));
+    let count = if p == 1 || random.one_in(8) { 1 } else { random.between(2, p.min(4)) };
     let mut ends: Vec<usize> = Vec::new();
     while ends.len() < count - 1 {
         let end = random.between(1, p - 1);
@@ -207,7 +216,7 @@ fn whole(random: &mut Random, periods: &[usize]) -> Vec<(usize, usize)> {
 fn moved(weights: &mut [(usize, usize)], cycle: usize, by: isize) -> bool {
     for weight in weights.iter_mut() {
         let e = (weight.0 * (cycle / weight.1)) as isize + by;
-        if cycle <= 65_535 && 0 < e && e < cycle as isize {
+        if cycle <= 65_535 && 0 < e && e <= cycle as isize {
             *weight = (e as usize, cycle);
             return true;
         }

@@ -2,12 +2,13 @@
 
 use crate::kinds::why::Case;
 use crate::make::slot_seen::{count_cause_of_30, rule_name, CAUSES_OF_30};
+use crate::make::whole_core::is_whole;
 use crate::tally::{Group, Tally};
 use second::slot::{broken, ready, ready_rows, rule_between, Next, Rule, LAST_TIME};
 use second::table::Row;
 use second::why::{why, Reason};
 
-pub const GROUPS: [Group; 17] = [
+pub const GROUPS: [Group; 18] = [
     "answer (1 in 80): 0 | 30..33 | 36",
     CAUSES_OF_30,
     "refused, and there is cause for another (1 in 2000): 30 before 31 | 30 before 32 | \
@@ -17,6 +18,7 @@ pub const GROUPS: [Group; 17] = [
     "36 by row (1 in 400): n | n + 1 | 31 | 32 | 255",
     "36 with (1 in 500): n of 0 | n of 32 | something at the row's place",
     "reason (1 in 50): picked | not ready | no core free | passed over",
+    "asked about a row with e = p (1 in 200): picked | not ready | no core free | passed over",
     "answered with (1 in 250): row 31 | k of M | k of 8 | time above 900,000,000",
     "k of 0, and the row is (1 in 150): ready | not ready",
     "not ready (1 in 80): plain | early release | before its phase | after a phase above 0",
@@ -81,6 +83,7 @@ fn count_answered(case: &Case, reason: Reason, tally: &mut Tally) {
     let (row, quanta) = (&state.table.rows[number], state.quanta[number]);
     tally.saw("answer", 0);
     tally.saw("reason", name(reason));
+    tally.saw_if(is_whole(row), "asked about a row with e = p", name(reason));
     let met = [case.row == 31, k == cores, k == 8, state.time > 900_000_000];
     tally.saw_each("answered with", met);
     let is_ready = ready(row, quanta, state.time);

@@ -297,6 +297,94 @@ mod tests {
         assert_eq!(check(&table, &trace), named(45, 0, 2));
     }
 
+    // ---- whole-core rows (02, Six) ----
+
+    /// The answer for a table by (e, p, f, kind) and the records of so many slots.
+    fn checked(cores: u8, rows: &[(u16, u16, u16, u8)], records: &[&[u8]]) -> Answer {
+        let table = write(&value_of(30, cores, rows));
+        let mut trace = (records.len() as u32).to_le_bytes().to_vec();
+        trace.extend(records.concat());
+        let answer = check(&table, &trace);
+        assert!(well_formed(&table, &trace));
+        assert_eq!(within_shares(&table, &trace), answer.number == 0);
+        answer
+    }
+
+    #[test]
+    fn a_whole_core_row_with_a_quantum_in_each_slot_passes() {
+        let (one, none): (&[u8], &[u8]) = (&[1, 1, 0], &[1, 0]);
+        for kind in 0..2 {
+            for p in [1, 2, 3] {
+                let row = [(p, p, 0, kind)];
+                assert_eq!(checked(1, &row, &[]), named(0, 0, 0));
+                assert_eq!(checked(1, &row, &[one; 7]), named(0, 0, 0));
+                // a missed slot is late at once, whether a core was free or not
+                assert_eq!(checked(1, &row, &[none]), named(45, 0, 1));
+                assert_eq!(checked(1, &row, &[&[0, 0]]), named(45, 0, 1));
+                assert_eq!(checked(1, &row, &[one, one, none, one]), named(45, 0, 3));
+                assert_eq!(checked(1, &row, &[one, one, one, none]), named(45, 0, 4));
+            }
+        }
+    }
+
+    #[test]
+    fn a_whole_core_row_with_a_phase() {
+        let (one, none): (&[u8], &[u8]) = (&[1, 1, 0], &[1, 0]);
+        for kind in 0..2 {
+            // from 2 on: slots 0 and 1 are too early
+            let row = [(5, 5, 2, kind)];
+            assert_eq!(checked(1, &row, &[none, none, one, one]), named(0, 0, 0));
+            assert_eq!(checked(1, &row, &[one]), named(44, 0, 0));
+            assert_eq!(checked(1, &row, &[none, one, one]), named(44, 0, 1));
+            assert_eq!(checked(1, &row, &[none, none, none]), named(45, 0, 3));
+            let missed = [none, none, one, none, one];
+            assert_eq!(checked(1, &row, &missed), named(45, 0, 4));
+        }
+    }
+
+    #[test]
+    fn a_whole_core_row_beside_another() {
+        // 1/1 and 2/3, whose windows are 0 to 2, 1 to 3 and 3 to 5
+        let rows = [(1, 1, 0, 0), (2, 3, 0, 0)];
+        let (both, camera, other): (&[u8], &[u8], &[u8]) = (&[2, 2, 0, 1], &[2, 1, 0], &[2, 1, 1]);
+        assert_eq!(checked(2, &rows, &[both, both, camera]), named(0, 0, 0));
+        assert_eq!(checked(2, &rows, &[camera, both, both]), named(0, 0, 0));
+        // the dispatcher's own choice with one core in slot 1: row 0 is late at 2
+        assert_eq!(checked(2, &rows, &[camera, other]), named(45, 0, 2));
+        // and the choice it does not make: row 1 is
+        assert_eq!(checked(2, &rows, &[camera, camera]), named(45, 1, 2));
+        // both miss slot 1: of both the lowest
+        assert_eq!(checked(2, &rows, &[camera, &[2, 0]]), named(45, 0, 2));
+        // 2/3 too early in slot 2: 44 goes before 45
+        assert_eq!(checked(2, &rows, &[both, both, other]), named(44, 1, 2));
+    }
+
+    #[test]
+    fn whole_core_tables_that_are_refused() {
+        let trace = [1, 0, 0, 0, 1, 1, 0];
+        let number = |cores, rows: &[(u16, u16, u16, u16, u8)]| {
+            check(&bytes_of(1, cores, rows), &trace).number
+        };
+        assert_eq!(number(1, &[(0, 1, 1, 0, 0)]), 0);
+        assert_eq!(number(1, &[(0, 2, 1, 0, 0)]), 18);
+        assert_eq!(number(1, &[(0, 1, 0, 0, 0)]), 18);
+        assert_eq!(number(1, &[(0, 0, 0, 0, 0)]), 17);
+        assert_eq!(number(1, &[(0, 1, 1, 0, 0), (1, 1, 1, 0, 0)]), 22);
+        // the second row of two is not named and is late at 1
+        assert_eq!(number(2, &[(0, 1, 1, 0, 0), (1, 1, 1, 0, 0)]), 45);
+    }
+
+    /// A row gets at most one quantum a slot, so that a whole-core row is never ahead in a trace.
+    #[test]
+    fn plain_and_early_release_are_the_same_with_e_equal_to_p() {
+        for (p, f) in [(1, 0), (3, 0), (2, 1), (3, 2)] {
+            let table = |kind| write(&value_of(6, 2, &[(p, p, f, kind), (1, 2, 0, 0)]));
+            for trace in all_traces(2, 2, 5) {
+                assert_eq!(check(&table(0), &trace), check(&table(1), &trace));
+            }
+        }
+    }
+
     #[test]
     fn bytes_after_the_last_record() {
         let mut more = TRACE.to_vec();
@@ -381,6 +469,8 @@ mod tests {
             value_of(12, 2, &[(2, 4, 1, 1), (3, 4, 0, 1)]),
             value_of(12, 1, &[(2, 6, 0, 1), (1, 3, 2, 0)]),
             value_of(12, 2, &[(2, 4, 0, 0), (2, 4, 0, 1)]),
+            value_of(12, 2, &[(1, 1, 0, 0), (2, 3, 0, 0)]),
+            value_of(12, 2, &[(3, 3, 2, 1), (4, 4, 1, 0)]),
         ];
         for table in tables {
             let bytes = write(&table);

@@ -1,10 +1,14 @@
-//! A real-time dispatcher after the paper "Exact scope and rules", called 01 below, and after five
+//! A real-time dispatcher after the paper "Exact scope and rules", called 01 below, and after six
 //! requests of the paper "More requests from customers": "A core for each picked row", called
 //! 02, One, "Why did tank 14 wait?", called 02, Two, "Half is heavy", called 02, Three, "The long
-//! walk", called 02, Four, and "Writing tables", called 02, Five. Where One and Three change 01,
-//! they are followed; Two asks of the slot that is about to run and changes nothing; Four finds the
-//! group deadline by a formula and changes no answer; Five writes the tables that 01 reads and
-//! changes nothing else.
+//! walk", called 02, Four, "Writing tables", called 02, Five, and "Whole-core rows", called
+//! 02, Six. Where One, Three and Six change 01, they are followed; Two asks of the slot that is
+//! about to run and changes nothing; Four finds the group deadline by a formula and changes no
+//! answer; Five writes the tables that 01 reads and changes nothing else.
+//!
+//! Six lets a row have e = p, in a table, in a state and in a window asked for alone: "From then on
+//! 18 means e above p", and 50 likewise. Such a row has windows of one slot, b = 0 and D = d, and
+//! the formula of Four is not asked there. All else, the order, the shares, the sum, is as it was.
 //!
 //! One module for each part of 01, and one for each of One, Two and Five; the papers' words stand
 //! in the comments beside the code that follows them, and their numbers stand in the code as they
@@ -13,7 +17,7 @@
 //! * `table`: the table, in bytes, and the faults of a table value.
 //! * `writing`: a table value written into a lent buffer (02, Five).
 //! * `windows`: start, deadline, bit and group deadline of a subtask, the last by the formula of
-//!   02, Four, and by 01's walk.
+//!   02, Four (with e = p it is the deadline), and by 01's walk.
 //! * `share`: the exact share of a row.
 //! * `cores`: a core for each picked row (02, One).
 //! * `slot`: who is ready, who goes first, one slot's choice, and what decided it.
@@ -21,7 +25,7 @@
 //! * `trace`: the record of one slot inside a trace.
 //! * `checker`: the judge of traces from any origin.
 //! * `printer`: the slot printer's whole output.
-//! * `never_late`: full boxes by chance, run with all cores free.
+//! * `never_late`: full boxes by chance, three in ten with rows of e = p, run with all cores free.
 //! * `questions`: single rules of the above, asked of numbers that no table or state may have; D of
 //!   a next window by the walk.
 //!
@@ -35,7 +39,9 @@
 //! looked at. The next four are of 02, One, the next three of 02, Two, and the next two of
 //! 02, Four: the first of these shows in `windows::window` and in the order, where D is found by
 //! the formula, the other in `windows::window_by_walk` and `questions::next_window`, where it is
-//! found by the walk. The last three are of 02, Five, and show in `writing::write_table` alone.
+//! found by the walk. The next three are of 02, Five, and show in `writing::write_table` alone. The
+//! last three are of 02, Six, and show with e = p alone: the first wherever a table or a state is
+//! judged, the second in both windows asked for alone, the third in `windows::window`.
 //!
 //! | name | place | the mistake |
 //! |---|---|---|
@@ -66,6 +72,9 @@
 //! | `room_before_sum` | `writing::refusal` | 37 is tested before 22 |
 //! | `room_one_more` | `writing::too_short` | a buffer just as long as the bytes is refused |
 //! | `written_with_37` | `writing::write_table` | a buffer that is too short is written full |
+//! | `whole_core_refused` | `table::above_its_period` | e = p is still refused with 18 |
+//! | `whole_core_window_refused` | `windows::refused` | e = p is still refused with 50 |
+//! | `whole_core_no_group` | `windows::group_deadline` | with e = p D is 0 |
 
 // compilers that know the lint warn of a cfg name they were not told of; older ones do not know
 // the lint

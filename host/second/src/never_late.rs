@@ -5,6 +5,17 @@
 //! of a table: "The sum of e·(L/p) is at most M·L." So no row may be late while all M cores are
 //! free. A full box, with the sum exactly M·L, has no idle core that could mend a wrong choice: a
 //! slip in the order shows there.
+//!
+//! Of a row with e = p (02, Six) Theorem 18 does not speak: 001 assumes that "each task's weight is
+//! strictly less than one", for "a task with weight one would require a dedicated processor, and
+//! thus is quite easily scheduled". 01 dedicates none: such a row stands in the order like any
+//! other, behind those with the same d and b = 1. Nobody is late all the same. While nobody is,
+//! each of the w such rows that have begun is due at the end of the slot, and nobody earlier. By
+//! Theorem 18 no more than M - w of the others are due then too, so that all who are due are
+//! picked, whatever their order, and the cores that are left go to the others by the order: they
+//! run as they would alone on M - w cores. Before a whole-core row begins they have more cores than
+//! that. Then nothing comes later: what has been given with fewer cores has been given with more by
+//! the same time, since the rows that go before it in the order are then the same or fewer.
 
 use crate::slot::{self, Answer};
 use crate::table::{self, Row, Table};
@@ -66,6 +77,7 @@ struct Counts {
     plain: u64,
     early: u64,
     heavy: u64,
+    whole_core: u64,
     full_width: u64,
     full_width_of_32: u64,
 }
@@ -78,6 +90,7 @@ impl Counts {
             self.plain += u64::from(row.kind == 0);
             self.early += u64::from(row.kind == 1);
             self.heavy += u64::from(windows::heavy(row.cost, row.period));
+            self.whole_core += u64::from(row.cost == row.period);
         }
         self.full_width += u64::from(table.cores == 8);
         self.full_width_of_32 += u64::from(table.cores == 8 && table.count == 32);
@@ -86,12 +99,13 @@ impl Counts {
     fn text(&self, seed: u64) -> String {
         format!(
             "never late: {} tables, {} slots, {} plain rows, {} early-release rows, {} heavy rows, \
-             {} full-width boxes (M = 8), {} of them with 32 rows, seed {}",
+             {} whole-core rows, {} full-width boxes (M = 8), {} of them with 32 rows, seed {}",
             self.tables,
             self.slots,
             self.plain,
             self.early,
             self.heavy,
+            self.whole_core,
             self.full_width,
             self.full_width_of_32,
             seed
@@ -131,7 +145,7 @@ const MIDDLE: [u32; 14] = [
 const LONG: [u32; 8] = [420, 504, 630, 720, 840, 1260, 2520, 5040];
 
 /// A table without fault whose sum of e·(L/p) is exactly M·L.
-fn full_box(chance: &mut Chance) -> Table {
+pub(crate) fn full_box(chance: &mut Chance) -> Table {
     let mut table = Table::zero();
     table.cycle = match chance.below(16) {
         0 => chance.one_of(&LONG),
@@ -140,11 +154,25 @@ fn full_box(chance: &mut Chance) -> Table {
     };
     table.cores = 1 + chance.below(8) as u8;
     put_boards(chance, &mut table);
-    let mut fractions = full_fractions(chance, table.cores, table.cycle);
+    let whole = whole_cores(chance, table.cores);
+    if whole == table.cores && chance.below(4) == 0 {
+        // a cycle of one slot has whole-core rows only
+        table.cycle = 1;
+    }
+    let rest = Rest {
+        cores: table.cores - whole,
+        cycle: table.cycle,
+        most_rows: 32 - u32::from(whole),
+    };
+    let mut fractions = full_fractions(chance, rest);
+    for _ in 0..whole {
+        fractions.push(whole_core(chance, table.cycle));
+    }
     if chance.below(3) == 0 {
         shuffle(chance, &mut fractions);
     } else {
-        // where a wrong order leaves it to the row number, the lighter rows go first
+        // where a wrong order leaves it to the row number, the lighter rows go first; whole-core
+        // rows then have the last numbers
         fractions.sort_by_key(|fraction| fraction.quanta_in(table.cycle));
     }
     put_rows(chance, &mut table, &fractions);
@@ -192,9 +220,11 @@ enum Beginning {
 
 fn phase(chance: &mut Chance, beginning: Beginning, period: u16, cycle: u32) -> u16 {
     match beginning {
+        // 1/1, whose period is one slot, within six
+        Beginning::InItsPeriod if period == 1 => chance.below(6) as u16,
         Beginning::InItsPeriod => chance.below(u64::from(period)) as u16,
         Beginning::Anywhere if chance.below(2) == 0 => {
-            chance.below(u64::from(cycle) * 3 / 2) as u16
+            chance.below(u64::from(cycle) * 3 / 2 + 1) as u16
         }
         _ => 0,
     }
@@ -206,7 +236,32 @@ fn shuffle(chance: &mut Chance, fractions: &mut [Fraction]) {
     }
 }
 
-// ---- fractions that fill the cores ----
+// ---- rows with e = p ----
+
+/// How many rows of a box have a whole core each: in one box of twelve all, M of them, and there is
+/// no other row; in four of twelve fewer than M, which may be none; else none.
+fn whole_cores(chance: &mut Chance, cores: u8) -> u8 {
+    match chance.below(12) {
+        0 => cores,
+        1..=4 => chance.below(u64::from(cores)) as u8,
+        _ => 0,
+    }
+}
+
+/// 1/1 as often as not, else p/p with any p that divides the cycle.
+fn whole_core(chance: &mut Chance, cycle: u32) -> Fraction {
+    let periods: Vec<u32> = match chance.below(2) {
+        0 => vec![1],
+        _ => (1..=cycle).filter(|p| cycle % p == 0).collect(),
+    };
+    let period = chance.one_of(&periods) as u16;
+    Fraction {
+        cost: period,
+        period,
+    }
+}
+
+// ---- fractions below the whole core that fill the rest ----
 
 /// e/p, "never reduced".
 #[derive(Clone, Copy, PartialEq, Eq, Debug)]
@@ -245,31 +300,43 @@ const TASTES: [Taste; 8] = [
     Taste::Alike(4),
 ];
 
-/// At most 32 fractions that fill M cores exactly.
-fn full_fractions(chance: &mut Chance, cores: u8, cycle: u32) -> Vec<Fraction> {
+/// What is to be filled: the cores that no row has as a whole, with so many rows at most.
+#[derive(Clone, Copy)]
+struct Rest {
+    cores: u8,
+    cycle: u32,
+    most_rows: u32,
+}
+
+impl Rest {
+    /// M·L, without the cores that a row has as a whole
+    fn quanta(self) -> u32 {
+        u32::from(self.cores) * self.cycle
+    }
+}
+
+/// Fractions that fill the rest exactly.
+fn full_fractions(chance: &mut Chance, rest: Rest) -> Vec<Fraction> {
+    if rest.cores == 0 {
+        return Vec::new();
+    }
     let taste = chance.one_of(&TASTES);
     if chance.below(2) == 0 {
-        if let Some(fractions) = of_two_weights(chance, taste, cores, cycle) {
+        if let Some(fractions) = of_two_weights(chance, taste, rest) {
             return fractions;
         }
     }
-    of_many_weights(chance, taste, cores, cycle)
+    of_many_weights(chance, taste, rest)
 }
 
 /// "a set A of tasks of one weight and a set B of tasks of another weight": what 001 says of its
 /// counterexamples. None if in eight attempts no two fractions are met that fill the cores.
-fn of_two_weights(
-    chance: &mut Chance,
-    taste: Taste,
-    cores: u8,
-    cycle: u32,
-) -> Option<Vec<Fraction>> {
-    let wanted = u32::from(cores) * cycle;
+fn of_two_weights(chance: &mut Chance, taste: Taste, rest: Rest) -> Option<Vec<Fraction>> {
     for _ in 0..8 {
-        let a = fraction(chance, taste, cycle);
-        let b = fraction(chance, taste, cycle);
-        let (a_quanta, b_quanta) = (a.quanta_in(cycle), b.quanta_in(cycle));
-        let ways = ways_to_fill(wanted, a_quanta, b_quanta);
+        let a = fraction(chance, taste, rest.cycle);
+        let b = fraction(chance, taste, rest.cycle);
+        let (a_quanta, b_quanta) = (a.quanta_in(rest.cycle), b.quanta_in(rest.cycle));
+        let ways = ways_to_fill(rest.quanta(), rest.most_rows, a_quanta, b_quanta);
         if a_quanta == b_quanta || ways.is_empty() {
             continue;
         }
@@ -281,12 +348,12 @@ fn of_two_weights(
     None
 }
 
-/// The numbers of rows, 32 in all at most, of two kinds (so many quanta in a cycle each) that
+/// The numbers of rows, so many in all at most, of two kinds (so many quanta in a cycle each) that
 /// together have as many quanta as wanted.
-fn ways_to_fill(wanted: u32, a: u32, b: u32) -> Vec<(usize, usize)> {
+fn ways_to_fill(wanted: u32, most_rows: u32, a: u32, b: u32) -> Vec<(usize, usize)> {
     let mut ways = Vec::new();
-    for a_rows in 1..32 {
-        for b_rows in 1..=32 - a_rows {
+    for a_rows in 1..most_rows {
+        for b_rows in 1..=most_rows - a_rows {
             if a_rows * a + b_rows * b == wanted {
                 ways.push((a_rows as usize, b_rows as usize));
             }
@@ -296,8 +363,8 @@ fn ways_to_fill(wanted: u32, a: u32, b: u32) -> Vec<(usize, usize)> {
 }
 
 /// Rows by chance while they fit, then rows for what is left.
-fn of_many_weights(chance: &mut Chance, taste: Taste, cores: u8, cycle: u32) -> Vec<Fraction> {
-    let mut filling = Filling::new(chance, cores, cycle);
+fn of_many_weights(chance: &mut Chance, taste: Taste, rest: Rest) -> Vec<Fraction> {
+    let mut filling = Filling::new(chance, rest);
     while filling.unfilled > 0 {
         let taste = match chance.below(12) {
             0 => chance.one_of(&TASTES),
@@ -319,23 +386,24 @@ fn of_many_weights(chance: &mut Chance, taste: Taste, cores: u8, cycle: u32) -> 
 /// can take, so that it can always be filled.
 struct Filling {
     cycle: u32,
-    /// M·L less the sum of e·(L/p) so far
+    /// what is to be filled less the sum of e·(L/p) so far
     unfilled: u32,
     rows_left: u32,
     fractions: Vec<Fraction>,
 }
 
 impl Filling {
-    fn new(chance: &mut Chance, cores: u8, cycle: u32) -> Filling {
-        let unfilled = u32::from(cores) * cycle;
-        let heaviest = heaviest(cycle).quanta_in(cycle);
+    fn new(chance: &mut Chance, rest: Rest) -> Filling {
+        let unfilled = rest.quanta();
+        let heaviest = heaviest(rest.cycle).quanta_in(rest.cycle);
         let least_rows = (unfilled + heaviest - 1) / heaviest;
+        let most_more = rest.most_rows - least_rows;
         let more_rows = match chance.below(2) {
-            0 => chance.below(33 - u64::from(least_rows)) as u32,
-            _ => 32 - least_rows,
+            0 => chance.below(u64::from(most_more) + 1) as u32,
+            _ => most_more,
         };
         Filling {
-            cycle,
+            cycle: rest.cycle,
             unfilled,
             rows_left: least_rows + more_rows,
             fractions: Vec::new(),
@@ -374,9 +442,9 @@ impl Filling {
     }
 }
 
-/// The heaviest row a filling counts on: by choice 59/60 of a core, rounded up to whole quanta, but
-/// always below the whole core, as "e not below p" is refused (18). Rows met by chance may be
-/// heavier.
+/// The heaviest row a filling counts on (of a cycle of two slots or more): by choice 59/60 of a
+/// core, rounded up to whole quanta, but always below the whole core; the rows with e = p stand
+/// beside what is filled. Rows met by chance may be heavier.
 fn heaviest(cycle: u32) -> Fraction {
     Fraction {
         cost: (cycle - (cycle / 60).max(1)) as u16,
@@ -396,7 +464,8 @@ fn the_rest(chance: &mut Chance, quanta: u32, cycle: u32) -> Fraction {
     }
 }
 
-/// A fraction to one's taste whose p divides the cycle; where the taste leaves no cost, 1.
+/// A fraction to one's taste, below the whole core, whose p divides the cycle (of two slots or
+/// more); where the taste leaves no cost, 1.
 fn fraction(chance: &mut Chance, taste: Taste, cycle: u32) -> Fraction {
     let periods: Vec<u32> = (2..=cycle).filter(|p| cycle % p == 0).collect();
     let period = chance.one_of(&periods) as u16;
@@ -422,6 +491,7 @@ fn fraction(chance: &mut Chance, taste: Taste, cycle: u32) -> Fraction {
 #[cfg(test)]
 mod tests {
     use super::*;
+    use crate::slot::Next;
     use crate::table::tests::{value_of, EXAMPLE};
 
     const LATE_AT_2: Answer = Answer {
@@ -435,6 +505,7 @@ mod tests {
         let text = full_boxes(7, 60).unwrap();
         assert!(text.starts_with("never late: 60 tables, "), "{}", text);
         assert!(text.ends_with(" rows, seed 7"), "{}", text);
+        assert!(!text.contains(" 0 whole-core rows, "), "{}", text);
         assert!(!text.contains('\n'));
         // the seed alone decides
         assert_eq!(full_boxes(7, 60).unwrap(), text);
@@ -454,7 +525,8 @@ mod tests {
     #[test]
     fn no_box_at_all() {
         let expected = "never late: 0 tables, 0 slots, 0 plain rows, 0 early-release rows, \
-                        0 heavy rows, 0 full-width boxes (M = 8), 0 of them with 32 rows, seed 5";
+                        0 heavy rows, 0 whole-core rows, 0 full-width boxes (M = 8), \
+                        0 of them with 32 rows, seed 5";
         assert_eq!(full_boxes(5, 0).unwrap(), expected);
     }
 
@@ -468,8 +540,11 @@ mod tests {
         );
         counts.add(&value_of(2, 8, &[(1, 2, 0, 0); 16]), 4);
         counts.add(&value_of(4, 8, &[(1, 4, 0, 1); 32]), 8);
-        let expected = "never late: 3 tables, 36 slots, 17 plain rows, 34 early-release rows, \
-                        19 heavy rows, 2 full-width boxes (M = 8), 1 of them with 32 rows, seed 9";
+        // two whole-core rows are two heavy rows more
+        counts.add(&value_of(2, 2, &[(1, 1, 0, 0), (2, 2, 0, 1)]), 4);
+        let expected = "never late: 4 tables, 40 slots, 18 plain rows, 35 early-release rows, \
+                        21 heavy rows, 2 whole-core rows, 2 full-width boxes (M = 8), \
+                        1 of them with 32 rows, seed 9";
         assert_eq!(counts.text(9), expected);
     }
 
@@ -540,6 +615,101 @@ mod tests {
         never_late_in_any_turn(14, 4, &rows);
     }
 
+    // ---- rows with e = p (02, Six) ----
+
+    fn has_the_whole_core(row: &Row) -> bool {
+        row.cost == row.period
+    }
+
+    fn whole_core_rows(table: &Table) -> usize {
+        let rows = table.named_rows().iter();
+        rows.filter(|row| has_the_whole_core(row)).count()
+    }
+
+    /// Whole-core rows, and others.
+    fn is_mixed(table: &Table) -> bool {
+        let whole = whole_core_rows(table);
+        whole > 0 && whole < usize::from(table.count)
+    }
+
+    /// Whole-core rows, and no others.
+    fn is_whole(table: &Table) -> bool {
+        whole_core_rows(table) == usize::from(table.count)
+    }
+
+    #[test]
+    fn whole_core_rows_stand_in_three_boxes_of_ten() {
+        let mut chance = Chance(12);
+        let boxes: Vec<Table> = (0..600).map(|_| full_box(&mut chance)).collect();
+        let boxes_where =
+            |holds: &dyn Fn(&Table) -> bool| boxes.iter().filter(|table| holds(table)).count();
+        let share = boxes_where(&|table| whole_core_rows(table) > 0);
+        assert!(share > 150 && share < 210, "{}", share);
+        // of both kinds, p = 1 and larger, with and without a phase
+        let with_row = |holds: &dyn Fn(&Row) -> bool| {
+            boxes_where(&|table| {
+                let mut rows = table.named_rows().iter();
+                rows.any(|row| has_the_whole_core(row) && holds(row))
+            })
+        };
+        for kind in 0..2 {
+            assert!(with_row(&|row| row.kind == kind && row.period == 1 && row.phase == 0) > 20);
+            assert!(with_row(&|row| row.kind == kind && row.period == 1 && row.phase > 0) > 15);
+            assert!(with_row(&|row| row.kind == kind && row.period > 1 && row.phase == 0) > 20);
+            assert!(with_row(&|row| row.kind == kind && row.period > 1 && row.phase > 0) > 15);
+        }
+        // one on a box and several, beside others and alone; a cycle of one slot
+        assert!(boxes_where(&|table| is_mixed(table) && whole_core_rows(table) == 1) > 20);
+        assert!(boxes_where(&|table| is_mixed(table) && whole_core_rows(table) > 1) > 50);
+        assert!(boxes_where(&|table| is_whole(table) && table.count == 1) > 0);
+        assert!(boxes_where(&|table| is_whole(table) && table.count > 1) > 20);
+        assert!(boxes_where(&|table| is_whole(table) && table.count == 8) > 0);
+        assert!(boxes_where(&|table| table.cycle == 1) > 5);
+    }
+
+    /// Is a whole-core row ready beside one with the same deadline and b = 1? Then it stands behind
+    /// that one in the order.
+    fn is_tie(table: &Table, ready: &[Next]) -> bool {
+        let mut tie = false;
+        for (place, next) in ready.iter().enumerate() {
+            if has_the_whole_core(&table.rows[usize::from(next.row)]) {
+                let goes_first = |other: &Next| other.deadline == next.deadline && other.bit == 1;
+                tie = tie || ready[..place].iter().any(goes_first);
+                assert!(!ready[place..].iter().any(goes_first));
+            }
+        }
+        tie
+    }
+
+    /// Runs a box as `full_boxes` does; nobody is late. In how many slots there is such a tie.
+    fn slots_with_a_tie(table: &Table) -> u64 {
+        let mut state = slot::fresh(*table);
+        let mut met = 0;
+        for _ in 0..slots_to_run(table) {
+            met += u64::from(is_tie(table, &slot::ready_rows(&state)));
+            let answer = slot::slot(&mut state, table.cores, &mut [0; 2 + 8], 0);
+            assert_eq!(answer, Answer::plain(0));
+        }
+        met
+    }
+
+    #[test]
+    fn whole_core_rows_beside_rows_with_b_1_at_an_equal_deadline() {
+        let mut chance = Chance(0x02_000A);
+        let (mut boxes, mut with_ties, mut ties) = (0, 0, 0);
+        while boxes < 60 {
+            let table = full_box(&mut chance);
+            if !is_mixed(&table) || table.cycle > 100 {
+                continue;
+            }
+            let met = slots_with_a_tie(&table);
+            boxes += 1;
+            with_ties += u64::from(met > 0);
+            ties += met;
+        }
+        assert!(with_ties > 10 && ties > 100, "{}, {}", with_ties, ties);
+    }
+
     #[test]
     fn made_boxes_are_full_and_of_every_sort() {
         let mut chance = Chance(11);
@@ -563,7 +733,8 @@ mod tests {
         for cores in 1..=8 {
             assert!(boxes_where(&|table| table.cores == cores) > 30);
         }
-        // M rows of less than a core cannot fill M cores: two rows are the fewest
+        // M rows of less than a core cannot fill M cores: two such rows are the fewest
+        assert!(boxes_where(&|table| table.count == 1) > 0);
         assert!(boxes_where(&|table| table.count == 2) > 0);
         assert!(boxes_where(&|table| table.count == 32 && table.cores == 8) > 0);
         assert!(boxes_where(&|table| table.cycle > 1_000) > 0);
@@ -572,11 +743,93 @@ mod tests {
         assert!(with_row(&|_, row| 2 * row.cost > row.period) > 200);
         assert!(with_row(&|_, row| 2 * row.cost == row.period) > 200);
         assert!(with_row(&|_, row| 2 * row.cost < row.period) > 200);
+        assert!(with_row(&|_, row| row.cost == row.period) > 150);
         assert!(with_row(&|_, row| row.phase > 0) > 100);
         assert!(with_row(&|_, row| row.phase == 0) > 300);
         assert!(with_row(&|table, row| u32::from(row.phase) > table.cycle) > 20);
         // not reduced, and early release: job borders count
         assert!(with_row(&|_, row| row.kind == 1 && row.cost == 2 && row.period == 6) > 0);
+    }
+
+    #[test]
+    fn the_counterexamples_of_001_beside_whole_cores() {
+        // one whole core, and two, beside the tables of `slip_the_counterexamples_of_001`
+        let beside = |cycle, whole: &[(u16, u16)], fractions: &[((u16, u16), usize)]| {
+            let mut rows = whole.to_vec();
+            for &(fraction, count) in fractions {
+                rows.extend(vec![fraction; count]);
+            }
+            never_late_in_any_turn(cycle, 4 + whole.len() as u8, &rows);
+        };
+        for whole in [&[(1, 1)][..], &[(1, 1), (1, 1)]] {
+            beside(9, whole, &[((1, 3), 8), ((4, 9), 3)]);
+            beside(22, whole, &[((5, 11), 5), ((19, 22), 2)]);
+            beside(14, whole, &[((5, 7), 3), ((13, 14), 2)]);
+        }
+        beside(9, &[(9, 9)], &[((1, 3), 8), ((4, 9), 3)]);
+        beside(22, &[(22, 22), (1, 1)], &[((5, 11), 5), ((19, 22), 2)]);
+        beside(14, &[(7, 7), (2, 2)], &[((5, 7), 3), ((13, 14), 2)]);
+    }
+
+    #[test]
+    fn boxes_of_whole_cores_alone() {
+        never_late_in_any_turn(1, 1, &[(1, 1)]);
+        never_late_in_any_turn(6, 1, &[(6, 6)]);
+        never_late_in_any_turn(6, 4, &[(1, 1), (2, 2), (3, 3), (6, 6)]);
+        never_late_in_any_turn(5, 8, &[(5, 5); 8]);
+        // beginning one after the other
+        let rows: Vec<_> = (0..8).map(|place| (3, 3, 7 - place, 0)).collect();
+        let table = value_of(3, 8, &rows);
+        assert_eq!(first_not_done(&table, 8, 30), None);
+        // with one core less the last of them is late, as soon as it misses a slot: row 0 begins
+        // with slot 7, in which rows 0 to 7 are due and row 7 has the highest number
+        let late = Answer {
+            number: 1,
+            row: 7,
+            time: 8,
+        };
+        assert_eq!(first_not_done(&table, 7, 30), Some((7, late)));
+    }
+
+    #[test]
+    fn a_whole_core_row_that_begins_beside_full_cores() {
+        // three rows of 2/3 fill two cores of three; the third is free until the phase
+        for kind in 0..2 {
+            for p in [1, 3] {
+                for phase in 0..7 {
+                    let mut rows = vec![(2, 3, 0, kind); 3];
+                    rows.insert(usize::from(phase) % 4, (p, p, phase, 1 - kind));
+                    let table = value_of(3, 3, &rows);
+                    assert_eq!(first_not_done(&table, 3, 30), None);
+                }
+            }
+        }
+    }
+
+    #[test]
+    fn whole_cores_of_a_box() {
+        assert_eq!(met(|chance| whole_core(chance, 1)), [(1, 1)]);
+        let all = [(1, 1), (2, 2), (3, 3), (6, 6)];
+        assert_eq!(met(|chance| whole_core(chance, 6)), all);
+        // all of M, fewer, or none
+        let mut chance = Chance(5);
+        for cores in 1..=8 {
+            let mut met = [0; 9];
+            for _ in 0..1_200 {
+                met[usize::from(whole_cores(&mut chance, cores))] += 1;
+            }
+            assert!(met[0] > 600 && met[usize::from(cores)] > 60, "{:?}", met);
+            let (up_to_m, above_m) = met.split_at(usize::from(cores) + 1);
+            assert!(up_to_m.iter().all(|&count| count > 20), "{:?}", met);
+            assert!(above_m.iter().all(|&count| count == 0));
+        }
+        // no core is left to fill
+        let rest = Rest {
+            cores: 0,
+            cycle: 1,
+            most_rows: 24,
+        };
+        assert_eq!(full_fractions(&mut chance, rest), []);
     }
 
     /// Every fraction met in many attempts, sorted by p, then e.
@@ -618,12 +871,14 @@ mod tests {
     #[test]
     fn ways_to_fill_with_two_weights() {
         // 001's Theorem 1 in a cycle of 9: 3a + 4b = 36
-        assert_eq!(ways_to_fill(36, 3, 4), [(4, 6), (8, 3)]);
+        assert_eq!(ways_to_fill(36, 32, 3, 4), [(4, 6), (8, 3)]);
+        assert_eq!(ways_to_fill(36, 10, 3, 4), [(4, 6)]);
+        assert_eq!(ways_to_fill(36, 9, 3, 4), []);
         // one row of each, 31 of one and one of the other, and one row too many
-        assert_eq!(ways_to_fill(3, 1, 2), [(1, 1)]);
-        assert_eq!(ways_to_fill(31 + 40, 1, 40), [(31, 1)]);
-        assert_eq!(ways_to_fill(32 + 40, 1, 40), []);
-        assert_eq!(ways_to_fill(7, 2, 4), []);
+        assert_eq!(ways_to_fill(3, 32, 1, 2), [(1, 1)]);
+        assert_eq!(ways_to_fill(31 + 40, 32, 1, 40), [(31, 1)]);
+        assert_eq!(ways_to_fill(32 + 40, 32, 1, 40), []);
+        assert_eq!(ways_to_fill(7, 32, 2, 4), []);
     }
 
     #[test]

@@ -203,10 +203,60 @@ mod tests {
         let mut more = EXAMPLE.to_vec();
         more.push(0);
         assert_eq!(printed(&input_of(&more, 3, &[9])), "refused 21\n");
-        let rows = [(1, 1, 1, 0, 0)];
+        // e above p
+        let rows = [(1, 2, 1, 0, 0)];
         assert_eq!(
             printed(&input_of(&bytes_of(3, 2, &rows), 3, &[])),
             "refused 18\n"
+        );
+        let rows = [(1, 1, 0, 0, 0)];
+        assert_eq!(
+            printed(&input_of(&bytes_of(3, 2, &rows), 3, &[])),
+            "refused 18\n"
+        );
+        // three whole cores of two
+        let rows = [(1, 1, 1, 0, 0), (2, 3, 3, 0, 0), (3, 1, 1, 0, 1)];
+        assert_eq!(
+            printed(&input_of(&bytes_of(3, 2, &rows), 3, &[])),
+            "refused 22\n"
+        );
+    }
+
+    /// Tanks 7 and 8, 1/1 and 2/3 on two cores.
+    fn camera_and_2_3() -> Vec<u8> {
+        bytes_of(3, 2, &[(7, 1, 1, 0, 0), (8, 2, 3, 0, 0)])
+    }
+
+    #[test]
+    fn a_table_with_a_whole_core_row() {
+        // 2/3 starts 0, 1, 3
+        assert_eq!(
+            printed(&input_of(&camera_and_2_3(), 4, &[])),
+            "slot free tanks\n0 2 7 8\n1 2 7 8\n2 2 7\n3 2 7 8\nend 4\n"
+        );
+        // alone, 3/3 early release from 2 on
+        let alone = bytes_of(3, 1, &[(9, 3, 3, 2, 1)]);
+        assert_eq!(
+            printed(&input_of(&alone, 4, &[])),
+            "slot free tanks\n0 1\n1 1\n2 1 9\n3 1 9\nend 4\n"
+        );
+    }
+
+    #[test]
+    fn a_late_whole_core_row() {
+        // slot 1 with one core: both are due at 2, and 2/3 has b = 1
+        assert_eq!(
+            printed(&input_of(&camera_and_2_3(), 4, &[1, 1])),
+            "slot free tanks\n0 1 7\n1 1 8\nlate 2 7\n"
+        );
+        // 2/3 could wait once more after slot 0, 1/1 cannot
+        assert_eq!(
+            printed(&input_of(&camera_and_2_3(), 4, &[0])),
+            "slot free tanks\n0 0\nlate 1 7\n"
+        );
+        assert_eq!(
+            printed(&input_of(&camera_and_2_3(), 2, &[1, 2])),
+            "slot free tanks\n0 1 7\n1 2 7 8\nend 2\n"
         );
     }
 

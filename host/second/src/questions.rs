@@ -57,7 +57,8 @@ fn in_reach(number: u64) -> bool {
 }
 
 /// "A question about one row is answered if 0 < e, e is at or below p, and the numbers asked with
-/// it (quanta, and origin or time) are each at or below 2^40".
+/// it (quanta, and origin or time) are each at or below 2^40". Since 02, Six the first two are what
+/// 17 and 18 leave to a table as well.
 fn answered(e: u16, p: u16, quanta: u64, origin_or_time: u64) -> bool {
     0 < e && e <= p && in_reach(quanta) && in_reach(origin_or_time)
 }

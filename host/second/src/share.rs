@@ -2,6 +2,9 @@
 //!
 //! "At time t let a be 0 before f and t - f after. The exact share is e·a/p. ... These are
 //! whole numbers; no fraction is formed."
+//!
+//! With e = p (02, Six) the exact share is a, and the lines are the same. A plain row has a quanta,
+//! no more and no less; an early-release row has at least a, and at most its jobs begun in full.
 
 use crate::table::Row;
 
@@ -83,6 +86,35 @@ mod tests {
         assert_eq!(allowed(row, 6), [2]);
         assert_eq!(allowed(row, 7), [2, 3, 4]);
         assert_eq!(allowed(row, 12), [4]);
+    }
+
+    #[test]
+    fn plain_with_e_equal_to_p() {
+        // -3 < 3a - 3q < 3
+        for time in 0..=9 {
+            assert_eq!(allowed(row(3, 3, 0, 0), time), [time]);
+            assert_eq!(allowed(row(1, 1, 0, 0), time), [time]);
+            assert_eq!(allowed(row(1, 1, 2, 0), time + 2), [time]);
+        }
+        assert_eq!(allowed(row(3, 3, 2, 0), 1), [0]);
+    }
+
+    #[test]
+    fn early_release_with_e_equal_to_p() {
+        // 3a - 3q < 3, and q at most 3·ceil(a/3)
+        for phase in [0, 4] {
+            let row = row(3, 3, phase, 1);
+            let after = |a| allowed(row, u64::from(phase) + a);
+            assert_eq!(after(0), [0]);
+            assert_eq!(after(1), [1, 2, 3]);
+            assert_eq!(after(2), [2, 3]);
+            assert_eq!(after(3), [3]);
+            assert_eq!(after(4), [4, 5, 6]);
+        }
+        // jobs of one quantum
+        for time in 0..=9 {
+            assert_eq!(allowed(row(1, 1, 0, 1), time), [time]);
+        }
     }
 
     #[test]

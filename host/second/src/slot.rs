@@ -139,7 +139,8 @@ pub enum Rule {
     RowNumber,
 }
 
-/// Which rule decides between two rows.
+/// Which rule decides between two rows. (A row with e = p, 02, Six, has b = 0 in every window: it
+/// stands behind any with the same d and b = 1, and its D is never asked.)
 pub fn rule_between(one: &Next, other: &Next) -> Rule {
     if one.deadline != other.deadline {
         return Rule::Deadline;
@@ -246,7 +247,7 @@ pub fn deciding_rule(state: &State, k: u8) -> Option<Rule> {
 /// "A state is broken (30) if its table has a fault 12 to 20 or 22, if time is above
 /// 1,000,000,000, if a row's quanta exceed time, or if it is not stopped and some row is outside
 /// its share at its time." "Places past row n ... are ignored." And by 02, One "30 also" for what
-/// it misremembers.
+/// it misremembers. 18 is the table's own: since 02, Six a state may have rows with e = p.
 pub fn broken(state: &State) -> bool {
     if table::fault(&state.table) != 0 {
         return true;
@@ -723,7 +724,9 @@ pub(crate) mod tests {
         assert_eq!(number(&|t| t.count = 255), 30);
         assert_eq!(number(&|t| t.rows[1].tank = 1), 30);
         assert_eq!(number(&|t| t.rows[1].cost = 0), 30);
-        assert_eq!(number(&|t| t.rows[1].period = 1), 30);
+        // e above p; with e = p the table has no fault
+        assert_eq!(number(&|t| t.rows[1].period = 0), 30);
+        assert_eq!(number(&|t| t.rows[1].cost = 4), 30);
         assert_eq!(number(&|t| t.rows[1].period = 4), 30);
         assert_eq!(number(&|t| t.rows[1].kind = 2), 30);
         let full = value_of(2, 1, &[(1, 2, 0, 0), (1, 2, 0, 0), (1, 2, 0, 0)]);
@@ -870,6 +873,212 @@ pub(crate) mod tests {
         assert_eq!(slot(&mut state, 1, &mut buffer, 0), expected);
         assert_eq!(buffer, [1, 1, 1]);
         assert_eq!(state.quanta[..3], [0, 1, 0]);
+    }
+
+    // ---- whole-core rows (02, Six) ----
+
+    fn late_at(row: u8, time: u64) -> Answer {
+        Answer {
+            number: 1,
+            row,
+            time,
+        }
+    }
+
+    #[test]
+    fn a_whole_core_row_runs_in_every_slot_from_its_phase_on() {
+        // r = f + (i-1); early release has its jobs' starts, and never more than a quantum a slot
+        for kind in 0..2 {
+            assert_eq!(slots_of_one_row(1, 1, 0, kind, 5), [0, 1, 2, 3, 4]);
+            assert_eq!(slots_of_one_row(3, 3, 0, kind, 5), [0, 1, 2, 3, 4]);
+            assert_eq!(slots_of_one_row(1, 1, 2, kind, 6), [2, 3, 4, 5]);
+            assert_eq!(slots_of_one_row(5, 5, 2, kind, 8), [2, 3, 4, 5, 6, 7]);
+        }
+    }
+
+    #[test]
+    fn a_whole_core_row_that_misses_a_slot_is_late_at_once() {
+        // two of them and one core: both are due at 1 with b = 0, row 0 goes by its number
+        let two = fresh(value_of(2, 2, &[(1, 1, 0, 0), (2, 2, 0, 0)]));
+        let (mut state, mut buffer) = (two, [0; 3]);
+        assert_eq!(slot(&mut state, 1, &mut buffer, 0), late_at(1, 1));
+        assert_eq!(buffer, [1, 1, 0]);
+        assert_eq!((state.time, state.stopped), (1, true));
+        assert_eq!(state.quanta[..2], [1, 0]);
+        assert_eq!(refused(&state, 2, 9, 0), 31);
+        // without a core the lowest of both is named
+        assert_eq!(slot(&mut two.clone(), 0, &mut [0; 2], 0), late_at(0, 1));
+        // with phase 2 nothing is missed before; slot 2 is the first
+        for kind in 0..2 {
+            let mut state = fresh(value_of(5, 1, &[(5, 5, 2, kind)]));
+            assert_eq!(picks(&mut state, 0), []);
+            assert_eq!(picks(&mut state, 0), []);
+            let mut missed = state;
+            assert_eq!(slot(&mut missed, 0, &mut [0; 2], 0), late_at(0, 3));
+            assert_eq!(picks(&mut state, 1), [0]);
+            assert_eq!(picks(&mut state, 1), [0]);
+            assert_eq!(slot(&mut state, 0, &mut [0; 2], 0), late_at(0, 5));
+        }
+    }
+
+    /// 1/1 and 2/3 on two cores, 3 + 2 of 6. In slot 1, after a slot with one core: subtask 2 of
+    /// 1/1 is 1 to 2, b 0, D 2; subtask 1 of 2/3 is 0 to 2, b 1, D 3.
+    fn camera_and_2_3_in_slot_1() -> State {
+        let mut state = fresh(value_of(3, 2, &[(1, 1, 0, 0), (2, 3, 0, 0)]));
+        // slot 0: 1/1 is due at 1, 2/3 at 2
+        assert_eq!(deciding_rule(&state, 1), Some(Rule::Deadline));
+        assert_eq!(picks(&mut state, 1), [0]);
+        state
+    }
+
+    #[test]
+    fn a_whole_core_row_stands_behind_one_with_b_1_and_the_same_deadline() {
+        let mut state = camera_and_2_3_in_slot_1();
+        let next = |row, bit, group| Next {
+            row,
+            deadline: 2,
+            bit,
+            group,
+        };
+        assert_eq!(ready_rows(&state), [next(1, 1, 3), next(0, 0, 2)]);
+        assert_eq!(deciding_rule(&state, 1), Some(Rule::Bit));
+        // with both cores nobody waits
+        let mut both = state;
+        assert_eq!(picks(&mut both, 2), [0, 1]);
+        // with one 2/3 goes, though its number is higher, and 1/1 is late at 2
+        let mut buffer = [0; 3];
+        assert_eq!(slot(&mut state, 1, &mut buffer, 0), late_at(0, 2));
+        assert_eq!(buffer, [1, 1, 1]);
+        assert_eq!(state.quanta[..2], [1, 1]);
+        // without a core both are
+        let mut none = camera_and_2_3_in_slot_1();
+        assert_eq!(slot(&mut none, 0, &mut [0; 2], 0), late_at(0, 2));
+    }
+
+    #[test]
+    fn a_larger_group_deadline_does_not_help_a_whole_core_row() {
+        // time 3: 1/1 with three quanta (3 to 4, b 0, D 4); light 3/8 with phase 1 (1 to 4, b 1,
+        // D 0). "if both have b = 1" is not so
+        let rows = [(1, 1, 0, 0), (3, 8, 1, 0)];
+        let mut state = fresh(value_of(8, 2, &rows));
+        state.time = 3;
+        state.quanta[0] = 3;
+        assert_eq!(deciding_rule(&state, 1), Some(Rule::Bit));
+        let mut buffer = [0; 3];
+        assert_eq!(slot(&mut state, 1, &mut buffer, 0), late_at(0, 4));
+        assert_eq!(buffer, [1, 1, 1]);
+    }
+
+    #[test]
+    fn between_a_whole_core_row_and_another_with_b_0_the_number_decides() {
+        // time 2: 1/1 with two quanta (2 to 3, b 0, D 3) and light 1/3 without one (0 to 3, b 0,
+        // D 0)
+        let (camera, light) = ((1, 1, 0, 0), (1, 3, 0, 0));
+        let mut first = fresh(value_of(3, 2, &[camera, light]));
+        first.time = 2;
+        first.quanta[0] = 2;
+        assert_eq!(deciding_rule(&first, 1), Some(Rule::RowNumber));
+        let mut buffer = [0; 3];
+        assert_eq!(slot(&mut first, 1, &mut buffer, 0), late_at(1, 3));
+        assert_eq!(buffer, [1, 1, 0]);
+        let mut last = fresh(value_of(3, 2, &[light, camera]));
+        last.time = 2;
+        last.quanta[1] = 2;
+        assert_eq!(deciding_rule(&last, 1), Some(Rule::RowNumber));
+        assert_eq!(slot(&mut last, 1, &mut buffer, 0), late_at(1, 3));
+        assert_eq!(buffer, [1, 1, 0]);
+    }
+
+    #[test]
+    fn the_share_of_a_whole_core_row() {
+        let number = |phase, kind, time, quanta| {
+            let mut state = fresh(value_of(5, 1, &[(5, 5, phase, kind)]));
+            state.time = time;
+            state.quanta[0] = quanta;
+            slot(&mut state, 1, &mut [0; 3], 0).number
+        };
+        // plain: -5 < 5·a - 5·q < 5, so that q is a
+        for kind in 0..2 {
+            assert_eq!(number(0, kind, 4, 4), 0);
+            assert_eq!(number(0, kind, 4, 3), 30);
+            assert_eq!(number(0, kind, 4, 5), 30);
+            assert_eq!(number(2, kind, 2, 0), 0);
+            assert_eq!(number(2, kind, 2, 1), 30);
+            assert_eq!(number(2, kind, 4, 2), 0);
+            assert_eq!(number(2, kind, 4, 1), 30);
+        }
+        // early release: q is at least a and at most 5·ceil(a/5), and not above time: with a phase
+        // there is room between, where no run comes
+        assert_eq!(number(2, 0, 4, 4), 30);
+        assert_eq!(number(2, 1, 4, 3), 0);
+        assert_eq!(number(2, 1, 4, 4), 0);
+        assert_eq!(number(2, 1, 4, 5), 30);
+        assert_eq!(number(2, 1, 6, 5), 0);
+        assert_eq!(number(2, 1, 6, 6), 30);
+    }
+
+    #[test]
+    fn an_early_release_whole_core_row_that_is_ahead() {
+        // 5/5 with phase 2 and four quanta at 4: its fifth, 6 to 7, is ready since 2, due at 7
+        let mut state = fresh(value_of(5, 1, &[(5, 5, 2, 1)]));
+        state.time = 4;
+        state.quanta[0] = 4;
+        let mut waiting = state;
+        for _ in 4..6 {
+            assert_eq!(picks(&mut waiting, 0), []);
+        }
+        assert_eq!(slot(&mut waiting, 0, &mut [0; 2], 0), late_at(0, 7));
+        // with it the job is done; the next starts at 7, and there nothing is ahead any more
+        assert_eq!(picks(&mut state, 1), [0]);
+        assert_eq!(picks(&mut state, 1), []);
+        assert_eq!(picks(&mut state, 1), []);
+        assert_eq!(picks(&mut state, 1), [0]);
+        assert_eq!((state.time, state.quanta[0]), (8, 6));
+        assert_eq!(slot(&mut state, 0, &mut [0; 2], 0), late_at(0, 9));
+    }
+
+    #[test]
+    fn the_last_slots_of_a_whole_core_row() {
+        for kind in 0..2 {
+            let mut state = fresh(value_of(1, 1, &[(1, 1, 0, kind)]));
+            state.time = 999_999_999;
+            state.quanta[0] = 999_999_999;
+            let mut missed = state;
+            assert_eq!(
+                slot(&mut missed, 0, &mut [0; 2], 0),
+                late_at(0, 1_000_000_000)
+            );
+            // its next subtask is 1,000,000,001, the last whose window may be asked for alone
+            assert_eq!(picks(&mut state, 1), [0]);
+            assert_eq!((state.time, state.quanta[0]), (LAST_TIME, 1_000_000_000));
+            assert_eq!(refused(&state, 1, 9, 0), 32);
+        }
+    }
+
+    #[test]
+    fn a_whole_core_row_keeps_its_core_while_it_is_free() {
+        // row 0 is 2/3 (0 to 2, 1 to 3, 3 to 5), row 1 is 1/1
+        let mut state = fresh(value_of(3, 2, &[(2, 3, 0, 0), (1, 1, 0, 0)]));
+        assert_eq!(placed(&mut state, &[0, 1]), [(0, 0), (1, 1)]);
+        assert_eq!(placed(&mut state, &[0, 1]), [(0, 0), (1, 1)]);
+        // alone it stays, though core 0 is smaller
+        assert_eq!(placed(&mut state, &[0, 1]), [(1, 1)]);
+        // it goes before row 0, due at 5, and must move
+        assert_eq!(placed(&mut state, &[0]), [(1, 0)]);
+        assert_eq!(placed(&mut state, &[0, 1]), [(0, 1), (1, 0)]);
+    }
+
+    #[test]
+    fn eight_whole_core_rows_on_eight_cores() {
+        let mut state = fresh(value_of(12, 8, &[(4, 4, 0, 0); 8]));
+        for _ in 0..12 {
+            assert_eq!(picks(&mut state, 8), [0, 1, 2, 3, 4, 5, 6, 7]);
+        }
+        assert_eq!(state.quanta[..9], [12, 12, 12, 12, 12, 12, 12, 12, 0]);
+        assert_eq!(slot(&mut state, 7, &mut [0; 9], 0), late_at(7, 13));
+        // a ninth row is one too many
+        let nine = fresh(value_of(12, 8, &[(4, 4, 0, 0); 9]));
+        assert_eq!(refused(&nine, 0, 9, 0), 30);
     }
 
     // ---- a core for each picked row ----
@@ -1157,18 +1366,25 @@ pub(crate) mod tests {
 
     // ---- tables by chance, for the statements over all runs ----
 
-    /// A table without fault, as full as its rows by chance allow.
+    /// A table without fault, as full as its rows by chance allow. One row in eight that is tried
+    /// has e = p.
     pub(crate) fn table_by_chance(chance: &mut Chance) -> Table {
         let cycles = [6, 12, 24, 30, 60];
         let cycle = cycles[chance.below(5) as usize];
         let cores = 1 + chance.below(4) as u8;
         let mut rows: Vec<(u16, u16, u16, u8)> = Vec::new();
         for _ in 0..40 {
-            let p = 2 + chance.below(u64::from(cycle) - 1) as u16;
+            let whole_core = chance.below(8) == 0;
+            let shortest = if whole_core { 1 } else { 2 };
+            let p = shortest + chance.below(u64::from(cycle) + 1 - u64::from(shortest)) as u16;
             if cycle % u32::from(p) != 0 || rows.len() == 32 {
                 continue;
             }
-            let e = 1 + chance.below(u64::from(p) - 1) as u16;
+            let e = if whole_core {
+                p
+            } else {
+                1 + chance.below(u64::from(p) - 1) as u16
+            };
             let f = if chance.below(2) == 0 {
                 0
             } else {
@@ -1182,9 +1398,14 @@ pub(crate) mod tests {
         value_of(cycle, cores, &rows)
     }
 
+    fn has_the_whole_core(row: &Row) -> bool {
+        row.cost == row.period
+    }
+
     #[test]
     fn with_all_cores_free_no_row_is_ever_late() {
         let mut chance = Chance(0x1234_5678_9ABC_DEF1);
+        let mut with_whole_cores = 0;
         for _ in 0..150 {
             let table = table_by_chance(&mut chance);
             let mut state = fresh(table);
@@ -1192,7 +1413,49 @@ pub(crate) mod tests {
                 let answer = slot(&mut state, table.cores, &mut [0; 10], 0);
                 assert_eq!(answer, DONE);
             }
+            let rows = table.named_rows();
+            with_whole_cores += u32::from(rows.iter().any(has_the_whole_core));
         }
+        assert!(with_whole_cores >= 30 && with_whole_cores <= 90);
+    }
+
+    /// With all cores free and every row begun at once, whole-core rows and the others do not meet:
+    /// as many cores less, and without them, the others are picked in the same slots.
+    #[test]
+    fn the_others_run_as_they_would_without_the_whole_core_rows() {
+        let mut chance = Chance(0x02_0008);
+        let mut beside = 0;
+        for _ in 0..150 {
+            let mut table = table_by_chance(&mut chance);
+            for row in table.rows.iter_mut() {
+                row.phase = 0;
+            }
+            let (mut others, mut numbers) = (Table::zero(), Vec::new());
+            for (number, row) in table.named_rows().iter().enumerate() {
+                if !has_the_whole_core(row) {
+                    others.rows[numbers.len()] = *row;
+                    numbers.push(number as u8);
+                }
+            }
+            let whole = table.count - numbers.len() as u8;
+            others.cycle = table.cycle;
+            others.cores = table.cores - whole;
+            others.boards = table.boards;
+            others.count = numbers.len() as u8;
+            if others.cores == 0 {
+                continue;
+            }
+            beside += u32::from(whole > 0);
+            let (mut all, mut apart) = (fresh(table), fresh(others));
+            for _ in 0..table.cycle {
+                let is_other = |number: &u8| numbers.contains(number);
+                let picked = picks(&mut all, table.cores).into_iter().filter(is_other);
+                let alone = picks(&mut apart, others.cores).into_iter();
+                let alone = alone.map(|number| numbers[usize::from(number)]);
+                assert!(picked.eq(alone));
+            }
+        }
+        assert!(beside > 20, "{}", beside);
     }
 
     #[test]

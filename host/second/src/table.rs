@@ -118,11 +118,11 @@ fn test_row(before: Option<u16>, row: &Row, cycle: u32) -> Result<(), u8> {
     if row.cost == 0 {
         return Err(17);
     }
-    // 18: "e not below p"
-    if row.cost >= row.period {
+    // 18: 01's "e not below p", narrowed by 02, Six
+    if above_its_period(row) {
         return Err(18);
     }
-    // 19: "p does not divide L" (p is at least 2 here)
+    // 19: "p does not divide L" (p is at least e here, and e at least 1)
     if cycle % u32::from(row.period) != 0 {
         return Err(19);
     }
@@ -133,7 +133,18 @@ fn test_row(before: Option<u16>, row: &Row, cycle: u32) -> Result<(), u8> {
     Ok(())
 }
 
-/// 22: "The sum of e·(L/p) is at most M·L." Whole numbers; L/p leaves no rest.
+/// 02, Six: "The new camera link needs e = p. From then on 18 means e above p." (Where p = 0, every
+/// e but 0, which is 17, is above it.)
+fn above_its_period(row: &Row) -> bool {
+    // slip: e = p is still refused
+    if cfg!(slip = "whole_core_refused") {
+        return row.cost >= row.period;
+    }
+    row.cost > row.period
+}
+
+/// 22: "The sum of e·(L/p) is at most M·L." Whole numbers; L/p leaves no rest. 02, Six: "the sum
+/// test included"; a row with e = p has L of the M·L.
 #[cfg(not(slip = "weights_in_floats"))]
 fn test_sum(table: &Table) -> Result<(), u8> {
     let cycle = u64::from(table.cycle);
@@ -383,9 +394,73 @@ pub(crate) mod tests {
     }
 
     #[test]
-    fn bench_e_1_p_1_is_18_and_e_0_p_0_is_17() {
-        assert_eq!(read(&bytes_of(3, 2, &[(0, 1, 1, 0, 0)])), Err(18));
+    fn bench_e_1_p_1_is_taken_and_e_0_p_0_is_17() {
+        // 02, Six: "the bench line for e = 1, p = 1 becomes a taken row"
+        let table = read(&bytes_of(3, 2, &[(0, 1, 1, 0, 0)])).unwrap();
+        let row = Row {
+            tank: 0,
+            cost: 1,
+            period: 1,
+            phase: 0,
+            kind: 0,
+        };
+        assert_eq!(table.rows[0], row);
         assert_eq!(read(&bytes_of(3, 2, &[(0, 0, 0, 0, 0)])), Err(17));
+        // 1 divides every L, and one core is enough
+        for cycle in [1, 2, 3, 7, 999_983, 1_000_000] {
+            for kind in 0..2 {
+                assert!(read(&bytes_of(cycle, 1, &[(0, 1, 1, 65535, kind)])).is_ok());
+            }
+        }
+    }
+
+    #[test]
+    fn e_above_p_is_18_and_e_equal_to_p_is_not() {
+        let number = |e, p| read(&bytes_of(12, 8, &[(0, e, p, 0, 0)])).map(|_| ());
+        for p in [1, 2, 3, 4, 6, 12] {
+            assert_eq!(number(p, p), Ok(()));
+            assert_eq!(number(p + 1, p), Err(18));
+            assert_eq!(number(65535, p), Err(18));
+        }
+        // every e but 0 is above p = 0; nothing is divided by it
+        assert_eq!(number(1, 0), Err(18));
+        assert_eq!(number(65535, 0), Err(18));
+        assert_eq!(number(0, 0), Err(17));
+        assert_eq!(number(0, 1), Err(17));
+        // e = p that does not divide L
+        for p in [5, 7, 13, 24, 65535] {
+            assert_eq!(number(p, p), Err(19));
+            assert_eq!(number(p, p - 1), Err(18));
+        }
+    }
+
+    #[test]
+    fn whole_core_rows_fill_the_cores() {
+        let taken = |cycle, cores, fractions: &[(u16, u16)]| {
+            let mut rows = Vec::new();
+            for &(e, p) in fractions {
+                rows.push((rows.len() as u16, e, p, 0, 0));
+            }
+            read(&bytes_of(cycle, cores, &rows)).map(|table| table.count)
+        };
+        // each has L of the M·L
+        assert_eq!(taken(1, 1, &[(1, 1)]), Ok(1));
+        assert_eq!(taken(3, 1, &[(1, 1)]), Ok(1));
+        assert_eq!(taken(3, 2, &[(1, 1), (1, 1)]), Ok(2));
+        assert_eq!(taken(3, 2, &[(1, 1), (1, 1), (1, 1)]), Err(22));
+        assert_eq!(taken(6, 3, &[(1, 1), (2, 2), (6, 6)]), Ok(3));
+        assert_eq!(taken(6, 2, &[(1, 1), (2, 2), (6, 6)]), Err(22));
+        assert_eq!(taken(1, 8, &[(1, 1); 8]), Ok(8));
+        assert_eq!(taken(1, 8, &[(1, 1); 9]), Err(22));
+        assert_eq!(taken(1, 8, &[(1, 1); 32]), Err(22));
+        // beside others: 12 + 4 + 8 = 24 of 24, and 1 more
+        assert_eq!(taken(12, 2, &[(4, 4), (1, 3), (2, 3)]), Ok(3));
+        assert_eq!(taken(12, 2, &[(4, 4), (1, 3), (2, 3), (1, 12)]), Err(22));
+        // the largest; 1,000,000 is 15·65,535 + 16,975
+        assert_eq!(taken(65_535, 1, &[(65535, 65535)]), Ok(1));
+        assert_eq!(taken(983_025, 1, &[(65535, 65535)]), Ok(1));
+        assert_eq!(taken(65_535, 1, &[(65535, 65535), (1, 65535)]), Err(22));
+        assert_eq!(taken(65_535, 2, &[(65535, 65535), (65535, 65535)]), Ok(2));
     }
 
     #[test]
@@ -468,8 +543,11 @@ pub(crate) mod tests {
         };
         assert_eq!(second(5, 0, 0, 9), Err(16));
         assert_eq!(second(6, 0, 0, 9), Err(17));
-        assert_eq!(second(6, 4, 4, 9), Err(18));
+        assert_eq!(second(6, 1, 0, 9), Err(18));
         assert_eq!(second(6, 5, 4, 9), Err(18));
+        assert_eq!(second(6, 4, 4, 9), Err(19));
+        assert_eq!(second(6, 6, 6, 9), Err(20));
+        assert_eq!(second(6, 6, 6, 1), Ok(()));
         assert_eq!(second(6, 1, 4, 9), Err(19));
         assert_eq!(second(6, 1, 6, 9), Err(20));
         assert_eq!(second(6, 1, 6, 2), Err(20));
@@ -568,7 +646,19 @@ pub(crate) mod tests {
         assert_eq!(fault_with(&|t| t.rows[1].tank = 10), 16);
         assert_eq!(fault_with(&|t| t.count = 4), 16); // row 3 has tank 0
         assert_eq!(fault_with(&|t| t.rows[2].cost = 0), 17);
-        assert_eq!(fault_with(&|t| t.rows[2].cost = 3), 18);
+        assert_eq!(fault_with(&|t| t.rows[2].cost = 4), 18);
+        assert_eq!(fault_with(&|t| t.rows[2].period = 1), 18);
+        assert_eq!(fault_with(&|t| t.rows[2].period = 0), 18);
+        // 3/3 is a row: 2 + 2 + 3 is above 2·3, and is not above 3·3
+        assert_eq!(fault_with(&|t| t.rows[2].cost = 3), 22);
+        assert_eq!(
+            fault_with(&|t| {
+                t.rows[2].cost = 3;
+                t.cores = 3;
+                t.boards[2] = 2;
+            }),
+            0
+        );
         assert_eq!(fault_with(&|t| t.cycle = 4), 19);
         assert_eq!(fault_with(&|t| t.rows[0].kind = 2), 20);
         assert_eq!(fault_with(&|t| t.rows[0].kind = 255), 20);
@@ -677,6 +767,8 @@ pub(crate) mod tests {
             value_of(3, 2, &[(2, 3, 0, 0), (2, 3, 5, 1), (2, 3, 65535, 0)]),
             value_of(1, 8, &[]),
             value_of(1_000_000, 1, &[(1, 50_000, 9, 1)]),
+            value_of(1, 1, &[(1, 1, 0, 0)]),
+            value_of(6, 3, &[(1, 1, 0, 1), (6, 6, 5, 0), (2, 3, 0, 0)]),
         ];
         for table in tables {
             assert_eq!(fault(&table), 0);

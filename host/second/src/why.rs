@@ -168,11 +168,11 @@ impl WhyAnswer {
 mod tests {
     use super::*;
     use crate::cores::tests::placement_of;
-    use crate::never_late::Chance;
+    use crate::never_late::{self, Chance};
     use crate::slot::tests::{six_rows, table_by_chance};
     use crate::slot::{fresh, slot};
     use crate::table::tests::{value_of, EXAMPLE};
-    use crate::table::{self, Table};
+    use crate::table::{self, Row, Table};
     use crate::windows;
 
     const PICKED: Result<Reason, u8> = Ok(Reason::Picked);
@@ -373,6 +373,72 @@ mod tests {
         assert_eq!(reasons(&state, 1), [by_group, by_group, PICKED]);
         assert_eq!(slot(&mut state, 1, &mut [0; 3], 0).number, 1);
         assert_eq!(reasons(&state, 1), [Err(31); 3]);
+    }
+
+    // ---- whole-core rows (02, Six) ----
+
+    #[test]
+    fn why_a_whole_core_row_waited() {
+        // 1/1 and 2/3 on two cores; in slot 0 they are due at 1 and at 2
+        let mut state = fresh(value_of(3, 2, &[(1, 1, 0, 0), (2, 3, 0, 0)]));
+        let by_deadline = passed_over(0, Rule::Deadline);
+        assert_eq!(reasons(&state, 2), [PICKED, PICKED]);
+        assert_eq!(reasons(&state, 1), [PICKED, by_deadline]);
+        assert_eq!(reasons(&state, 0), [NO_CORE_FREE; 2]);
+        slot(&mut state, 1, &mut [0; 3], 0);
+        // slot 1: 1/1 is 1 to 2, b 0; 2/3 is 0 to 2, b 1
+        let by_bit = passed_over(1, Rule::Bit);
+        assert_eq!(reasons(&state, 2), [PICKED, PICKED]);
+        assert_eq!(reasons(&state, 1), [by_bit, PICKED]);
+        assert_eq!(reasons(&state, 0), [NO_CORE_FREE; 2]);
+        let bytes = answer(&state, 1, 0).bytes();
+        assert_eq!(bytes, [0, 4, 0, 0, 0, 0, 0, 0, 0, 0, 1, 2]);
+        // and so it is late at 2
+        assert_eq!(slot(&mut state, 1, &mut [0; 3], 0).number, 1);
+        assert_eq!(reasons(&state, 1), [Err(31); 2]);
+    }
+
+    #[test]
+    fn a_whole_core_row_is_passed_over_by_its_bit_or_its_number() {
+        // time 3: 1/1 with three quanta (3 to 4, b 0, D 4), light 3/8 with phase 1 (1 to 4, b 1,
+        // D 0): the larger D is not asked
+        let state = state_of(8, 2, &[(1, 1, 0, 0), (3, 8, 1, 0)], 3, &[3, 0]);
+        assert_eq!(reasons(&state, 1), [passed_over(1, Rule::Bit), PICKED]);
+        // time 2: light 1/3 (0 to 3, b 0, D 0) and 3/3 with two quanta (2 to 3, b 0, D 3)
+        let state = state_of(3, 2, &[(1, 3, 0, 0), (3, 3, 0, 0)], 2, &[0, 2]);
+        let by_number = passed_over(0, Rule::RowNumber);
+        assert_eq!(reasons(&state, 1), [PICKED, by_number]);
+        // the other way round 1/3 waits for its number
+        let state = state_of(3, 2, &[(3, 3, 0, 0), (1, 3, 0, 0)], 2, &[2, 0]);
+        assert_eq!(reasons(&state, 1), [PICKED, by_number]);
+        // three whole-core rows on three cores: D is 1 in all, and is not asked
+        let rows = [(1, 1, 0, 0), (2, 2, 0, 1), (1, 1, 0, 0)];
+        let state = fresh(value_of(2, 3, &rows));
+        assert_eq!(reasons(&state, 1), [PICKED, by_number, by_number]);
+        let by_number = passed_over(1, Rule::RowNumber);
+        assert_eq!(reasons(&state, 2), [PICKED, PICKED, by_number]);
+    }
+
+    #[test]
+    fn a_whole_core_row_that_is_not_ready() {
+        for kind in 0..2 {
+            // before its phase, and never again
+            let at = |time, given| why(&state_of(5, 1, &[(5, 5, 2, kind)], time, &[given]), 1, 0);
+            assert_eq!(at(0, 0), not_ready(2));
+            assert_eq!(at(1, 0), not_ready(2));
+            assert_eq!(at(2, 0), PICKED);
+            assert_eq!(at(3, 1), PICKED);
+            assert_eq!(at(7, 5), PICKED);
+        }
+        // early release with its whole job given by 5, which no run does: the next starts at 7
+        let ahead = state_of(5, 1, &[(5, 5, 2, 1)], 5, &[5]);
+        assert_eq!(why(&ahead, 1, 0), not_ready(7));
+        assert_eq!(why(&ahead, 0, 0), not_ready(7));
+        // with four by 4 its fifth, 6 to 7, waits behind 1/3 with phase 3 (3 to 6)
+        let rows = [(5, 5, 2, 1), (1, 3, 3, 0)];
+        let ahead = state_of(15, 2, &rows, 4, &[4, 0]);
+        let by_deadline = passed_over(1, Rule::Deadline);
+        assert_eq!(reasons(&ahead, 1), [by_deadline, PICKED]);
     }
 
     // ---- not ready ----
@@ -592,7 +658,7 @@ mod tests {
             &|t| t.count = 255,
             &|t| t.rows[1].tank = 1,
             &|t| t.rows[1].cost = 0,
-            &|t| t.rows[1].period = 1,
+            &|t| t.rows[1].period = 0,
             &|t| t.rows[1].kind = 2,
         ];
         for change in changes {
@@ -751,7 +817,7 @@ mod tests {
     fn the_reason_is_what_the_slot_will_do() {
         let mut chance = Chance(0x02_0002);
         let (mut reasons, mut rules) = ([0; 5], [0; 5]);
-        for _ in 0..150 {
+        for _ in 0..300 {
             let table = table_by_chance(&mut chance);
             let mut state = fresh(table);
             for _ in 0..table.cycle {
@@ -812,6 +878,57 @@ mod tests {
             }
         }
         assert!(kept > 1_000);
+    }
+
+    fn has_the_whole_core(row: &Row) -> bool {
+        row.cost == row.period
+    }
+
+    /// What a whole-core row waits for in a run, with k cores free, one at least: 0 its phase, 1
+    /// its bit, 2 its number; None if it is picked. Once begun it is due at the end of the slot, so
+    /// that only rows that are due then too can go before it, and D is not asked of its b = 0.
+    fn waits_for(state: &State, k: u8, number: u8) -> Option<usize> {
+        let phase = u64::from(state.table.rows[usize::from(number)].phase);
+        let reason = why(state, k, number);
+        if phase > state.time {
+            assert_eq!(reason, not_ready(phase));
+            return Some(0);
+        }
+        match reason {
+            Ok(Reason::Picked) => None,
+            Ok(Reason::PassedOver { rule, .. }) if rule == Rule::Bit => Some(1),
+            Ok(Reason::PassedOver { rule, .. }) if rule == Rule::RowNumber => Some(2),
+            other => panic!("{:?}", other),
+        }
+    }
+
+    #[test]
+    fn in_a_run_a_whole_core_row_waits_for_its_phase_its_bit_or_its_number() {
+        let mut chance = Chance(0x02_0009);
+        let mut met = [0; 3];
+        for _ in 0..300 {
+            let table = never_late::full_box(&mut chance);
+            let rows = table.named_rows();
+            if table.cycle > 60 || rows.iter().all(has_the_whole_core) {
+                continue;
+            }
+            let mut state = fresh(table);
+            for _ in 0..3 * table.cycle {
+                for number in 0..table.count {
+                    if !has_the_whole_core(&rows[usize::from(number)]) {
+                        continue;
+                    }
+                    for k in 1..=table.cores {
+                        if let Some(cause) = waits_for(&state, k, number) {
+                            met[cause] += 1;
+                        }
+                    }
+                }
+                // all cores free, and nobody late
+                assert_eq!(slot(&mut state, table.cores, &mut [0; 10], 0).number, 0);
+            }
+        }
+        assert!(met.iter().all(|&count| count > 50), "{:?}", met);
     }
 
     /// A state by chance, with which something may be amiss.

@@ -6,9 +6,13 @@
 //!
 //! The functions with a phase of 64 bits serve every other part; `window` is the one "asked for
 //! alone". D is found in two ways, so that each can be checked by the other. `group_deadline`
-//! reckons it by the formula of 02, Four, for `window` and for the order. `walked_group_deadline`
-//! walks over the windows as 01 has it, for `window_by_walk` and for `questions::next_window`.
-//! Times are reckoned in 128 bits, where nothing below can overflow.
+//! reckons it, by the formula of 02, Four, where the row is below weight one, for `window` and for
+//! the order. `walked_group_deadline` walks over the windows as 01 has it, for `window_by_walk` and
+//! for `questions::next_window`. Times are reckoned in 128 bits, where nothing below can overflow.
+//!
+//! A row may have the whole core. 02, Six: "The new camera link needs e = p. ... Such a row has
+//! windows of one slot, b = 0, and D = d." 01's lines say the same of it: with e = p subtask i
+//! starts at f + (i-1) and ends at f + i, and e divides i·p.
 
 /// What comes back when a window is asked for alone. `number` is 0 or 50.
 #[derive(Clone, Copy, PartialEq, Eq, Debug)]
@@ -26,7 +30,7 @@ pub struct Window {
 
 /// "A window may be asked for alone, by e, p, f (each 0 to 65,535) and i. It is refused if
 /// e = 0, if e is not below p, or if i is not in 1 to 1,000,000,001; then r, d, b and D come
-/// back as 0."
+/// back as 0." Of "not below p" 02, Six leaves "e above p".
 pub fn window(e: u16, p: u16, f: u16, i: u64) -> Window {
     window_with(group_deadline, e, p, f, i)
 }
@@ -42,7 +46,7 @@ fn window_with(group: fn(u16, u16, u64, u64) -> u128, e: u16, p: u16, f: u16, i:
     // slip: i cut to 32 bits
     #[cfg(slip = "subtask_as_4_bytes")]
     let i = u64::from(i as u32);
-    if e == 0 || e >= p || i < 1 || i > 1_000_000_001 {
+    if refused(e, p, i) {
         return Window {
             number: 50,
             start: 0,
@@ -60,6 +64,16 @@ fn window_with(group: fn(u16, u16, u64, u64) -> u128, e: u16, p: u16, f: u16, i:
         bit: bit(e, p, i),
         group: group(e, p, phase, i) as u64,
     }
+}
+
+/// 50: "if e = 0, if e is not below p, or if i is not in 1 to 1,000,000,001", the second as 02, Six
+/// has it: "Refusals: 18 narrowed, in the table and in 50", and "18 means e above p".
+fn refused(e: u16, p: u16, i: u64) -> bool {
+    // slip: e = p is still refused
+    if cfg!(slip = "whole_core_window_refused") && e == p {
+        return true;
+    }
+    e == 0 || e > p || i < 1 || i > 1_000_000_001
 }
 
 /// "start r = f + floor((i-1)·p/e)". With e = 0 or i = 0, where 01 knows no window, 0.
@@ -140,8 +154,11 @@ fn reduced(e: u16, p: u16) -> (u16, u16) {
 /// these is d itself: then no window would start in slot d - 1, b would be 0, d·(p-e) would be
 /// (d-i)·p, and the deadline of g, then d - i, would be d as well; but deadlines rise strictly.
 ///
-/// A row of e = p, which no table has, may be asked for as well; there p - e is 0 and the formula
-/// has no value. Without a window (e = 0, e above p, i = 0) D is 0.
+/// With e = p a window starts in every slot, p - e is 0 and the formula has no value. 02, Six: "The
+/// formula of request Four is used only below weight one", and such a row has "D = d". So 01 has it
+/// too: d itself is "the deadline of a subtask of this row with b = 0".
+///
+/// Without a window (e = 0, e above p, i = 0) D is 0.
 pub fn group_deadline(e: u16, p: u16, f: u64, i: u64) -> u128 {
     if e == 0 || e > p || i == 0 || !heavy(e, p) {
         return 0;
@@ -150,7 +167,11 @@ pub fn group_deadline(e: u16, p: u16, f: u64, i: u64) -> u128 {
     // "with d counted from the phase"
     let d = deadline_after_phase(e, p, u128::from(i));
     if e == p {
-        // every subtask has b = 0
+        // slip: no D without the formula
+        if cfg!(slip = "whole_core_no_group") {
+            return 0;
+        }
+        // 02, Six: "D = d"
         return f + d;
     }
     // slip: d counted from time 0
@@ -169,8 +190,8 @@ fn rounded_up(dividend: u128, divisor: u128) -> u128 {
 /// windows forward and stop at the first that fits."
 ///
 /// The walk begins with subtask i itself, since the windows before it end before d, and it ends
-/// with the job at the latest, whose last window has b = 0; with e = p every window has b = 0, and
-/// it ends at once.
+/// with the job at the latest, whose last window has b = 0; with e = p (02, Six) every window has
+/// b = 0, and it ends at once.
 ///
 /// It may be asked for every e, p and f, and for i up to 2^40 + 1, the next subtask after the most
 /// quanta that a question is answered for; the last subtask it can meet is i + e - 1. Without a
@@ -304,7 +325,7 @@ mod tests {
         assert!(heavy(32767, 65534));
         assert!(!heavy(32766, 65534));
         assert!(!heavy(32767, 65535));
-        // e = p, and e above p; without a cost nothing is heavy
+        // so is e = p, and e above p; without a cost nothing is heavy
         assert!(heavy(1, 1));
         assert!(heavy(1, 0));
         assert!(!heavy(0, 1));
@@ -454,18 +475,26 @@ mod tests {
             bit: 0,
             group: 0,
         };
+        // e = 0, also where it is p
         assert_eq!(agreed(0, 0, 0, 1), refused);
+        assert_eq!(agreed(0, 0, 65535, 1_000_000_001), refused);
         assert_eq!(agreed(0, 5, 3, 1), refused);
-        assert_eq!(agreed(1, 1, 3, 1), refused);
+        // e above p, also above p = 0
+        assert_eq!(agreed(2, 1, 3, 1), refused);
         assert_eq!(agreed(5, 4, 3, 1), refused);
+        assert_eq!(agreed(65535, 65534, 65535, 1), refused);
         assert_eq!(agreed(1, 0, 3, 1), refused);
-        assert_eq!(agreed(65535, 65535, 65535, 1), refused);
+        assert_eq!(agreed(65535, 0, 0, 1), refused);
+        // i
         assert_eq!(agreed(2, 3, 4, 0), refused);
         assert_eq!(agreed(2, 3, 4, 1_000_000_002), refused);
         assert_eq!(agreed(2, 3, 4, u64::MAX), refused);
-        // of a light row too, and of the longest walk
+        // of a light row too, of the longest walk, and with e = p
         assert_eq!(agreed(1, 3, 4, 0), refused);
         assert_eq!(agreed(65534, 65535, 0, 1_000_000_002), refused);
+        assert_eq!(agreed(1, 1, 0, 0), refused);
+        assert_eq!(agreed(1, 1, 0, 1_000_000_002), refused);
+        assert_eq!(agreed(65535, 65535, 0, u64::MAX), refused);
     }
 
     #[test]
@@ -495,8 +524,8 @@ mod tests {
 
     #[test]
     fn the_next_start_is_d_less_b() {
-        for p in 2..40u16 {
-            for e in 1..p {
+        for p in 1..40u16 {
+            for e in 1..=p {
                 for i in 1..=2 * u64::from(e) + 2 {
                     let here = window(e, p, 9, i);
                     let next = window(e, p, 9, i + 1);
@@ -538,13 +567,16 @@ mod tests {
 
     #[test]
     fn the_group_deadline_is_the_smallest_time_and_001_agrees() {
-        for p in 2..40u16 {
-            for e in 1..p {
+        for p in 1..40u16 {
+            for e in 1..=p {
                 for i in 1..=2 * u64::from(e) + 2 {
                     let here = agreed(e, p, 0, i);
                     if 2 * e >= p {
                         assert_eq!(here.group, group_by_list(e, p, here.deadline));
-                        assert_eq!(here.group, group_by_rest(e, p, here.deadline));
+                        // a row of weight one leaves none to be calculated by
+                        if e < p {
+                            assert_eq!(here.group, group_by_rest(e, p, here.deadline));
+                        }
                     } else {
                         assert_eq!(here.group, 0);
                     }
@@ -569,8 +601,9 @@ mod tests {
 
     #[test]
     fn formula_and_walk_agree_for_all_heavy_rows_of_short_periods() {
-        for p in 2..=72u16 {
-            for e in (p + 1) / 2..p {
+        // with e = p it is d, in place of the formula
+        for p in 1..=72u16 {
+            for e in (p + 1) / 2..=p {
                 for i in 1..=u64::from(e) + 1 {
                     for &f in &[0, 1, 2, 5, p - 1, p, 1_000, 65_535] {
                         let here = agreed(e, p, f, i);
@@ -583,8 +616,8 @@ mod tests {
 
     #[test]
     fn formula_and_walk_agree_at_the_last_subtasks_that_may_be_asked() {
-        for p in 2..=40u16 {
-            for e in (p + 1) / 2..p {
+        for p in 1..=40u16 {
+            for e in (p + 1) / 2..=p {
                 for back in 0..=u64::from(e) {
                     agreed(e, p, 65_535, 1_000_000_001 - back);
                 }
@@ -607,17 +640,85 @@ mod tests {
         }
     }
 
+    // ---- whole-core rows (02, Six) ----
+
+    #[test]
+    fn bench_1_1() {
+        // floor((i-1)·1/1) and ceil(i·1/1); "windows of one slot, b = 0, and D = d"
+        assert_eq!(asked(1, 1, 0, 1), (0, 1, 0, 1));
+        assert_eq!(asked(1, 1, 0, 2), (1, 2, 0, 2));
+        assert_eq!(asked(1, 1, 0, 3), (2, 3, 0, 3));
+        assert_eq!(asked(1, 1, 9, 7), (15, 16, 0, 16));
+    }
+
+    #[test]
+    fn windows_of_5_5_with_phase_3() {
+        // the first job is subtasks 1 to 5 in slots 3 to 7, the second 6 to 10 in slots 8 to 12
+        assert_eq!(asked(5, 5, 3, 1), (3, 4, 0, 4));
+        assert_eq!(asked(5, 5, 3, 2), (4, 5, 0, 5));
+        assert_eq!(asked(5, 5, 3, 5), (7, 8, 0, 8));
+        assert_eq!(asked(5, 5, 3, 6), (8, 9, 0, 9));
+        assert_eq!(asked(5, 5, 3, 10), (12, 13, 0, 13));
+        // "The fraction is never reduced": 1/1 has the same windows, but a job in each slot
+        for i in 1..=10 {
+            assert_eq!(asked(5, 5, 3, i), asked(1, 1, 3, i));
+        }
+        assert_eq!(job_start(5, 5, 3, 5), 3);
+        assert_eq!(job_start(5, 5, 3, 6), 8);
+        assert_eq!(job_start(1, 1, 3, 5), 7);
+        assert_eq!(job_start(1, 1, 3, 6), 8);
+    }
+
+    #[test]
+    fn the_largest_whole_core_row_at_the_last_subtask() {
+        // r is f + (i-1), with f = 65,535 and i = 1,000,000,001
+        assert_eq!(
+            asked(65535, 65535, 65535, 1_000_000_001),
+            (1_000_065_535, 1_000_065_536, 0, 1_000_065_536)
+        );
+        assert_eq!(
+            asked(65535, 65535, 0, 1_000_000_001),
+            (1_000_000_000, 1_000_000_001, 0, 1_000_000_001)
+        );
+        // the last subtask of the first job, and the first of the second
+        assert_eq!(asked(65535, 65535, 0, 65535), (65534, 65535, 0, 65535));
+        assert_eq!(asked(65535, 65535, 0, 65536), (65535, 65536, 0, 65536));
+    }
+
+    #[test]
+    fn the_formula_ends_just_below_weight_one() {
+        // 65534/65535 has one slot in 65,535 without a start, and D there; 65535/65535 has none
+        assert_eq!(asked(65534, 65535, 7, 1), (7, 9, 1, 7 + 65535));
+        assert_eq!(asked(65535, 65535, 7, 1), (7, 8, 0, 8));
+        assert_eq!(asked(65534, 65535, 7, 65534).3, 7 + 65535);
+        assert_eq!(asked(65535, 65535, 7, 65534).3, 7 + 65534);
+        // 1/2 and 2/2
+        assert_eq!(asked(1, 2, 7, 1), (7, 9, 0, 9));
+        assert_eq!(asked(2, 2, 7, 1), (7, 8, 0, 8));
+    }
+
+    #[test]
+    fn every_window_of_a_whole_core_row_is_one_slot() {
+        for e in (1..=500u16).chain(65_036..=65_535) {
+            let job = u64::from(e);
+            for i in [1, 2, job, job + 1, 2 * job, 1_000_000_001] {
+                let end = 65_535 + i;
+                assert_eq!(asked(e, e, 65_535, i), (end - 1, end, 0, end));
+            }
+            assert_eq!(bit(e, e, u64::MAX), 0);
+        }
+    }
+
     #[test]
     fn with_e_equal_to_p_the_group_deadline_is_the_deadline() {
-        // windows are one slot long, and e divides i·e
+        // windows are one slot long, and e divides i·e; of the parts alone i may be anything
         for &e in &[1, 2, 3, 65_535] {
-            for &i in &[1, 2, 3, 65_535, 65_536] {
+            for &i in &[1, 2, 3, 65_535, 65_536, 1_000_000_002, u64::MAX] {
                 assert_eq!(start(e, e, 9, i), 8 + u128::from(i));
                 assert_eq!(deadline(e, e, 9, i), 9 + u128::from(i));
                 assert_eq!(bit(e, e, i), 0);
                 assert_eq!(group_deadline(e, e, 9, i), 9 + u128::from(i));
                 assert_eq!(walked_group_deadline(e, e, 9, i), 9 + u128::from(i));
-                assert_eq!(window(e, e, 9, i).number, 50);
             }
         }
     }

@@ -45,8 +45,8 @@ pub fn write_table(table: &Table, buffer: &mut [u8]) -> WriteAnswer {
 }
 
 /// "Refusals: 12 to 20 in reading order, 22, then 37 if the buffer is too short for exactly the
-/// bytes needed." None if there is no fault and room. (Of a table with a fault the bytes needed
-/// mean nothing, and are not looked at.)
+/// bytes needed." None if there is no fault and room. 18 is the reader's own, since 02, Six
+/// "e above p". (Of a table with a fault the bytes needed mean nothing, and are not looked at.)
 fn refusal(table: &Table, needed: usize, room: usize) -> Option<u8> {
     let fault = table::fault(table);
     // slip: 37 before 22
@@ -272,6 +272,51 @@ mod tests {
         assert_eq!(buffer[9..], TWO_ROWS[9..18]);
     }
 
+    // ---- whole-core rows (02, Six) ----
+
+    #[test]
+    fn a_whole_core_row_is_written() {
+        // tank 1, 1/1 from 0 on, one core: format, L, M and its board, n, the row
+        let table = value_of(1, 1, &[(1, 1, 0, 0)]);
+        let (answer, buffer) = written_in(&table, 18);
+        assert_eq!(answer, done(17));
+        let expected = [
+            1, 1, 0, 0, 0, 1, 0, 1, //
+            1, 0, 1, 0, 1, 0, 0, 0, 0, //
+            0xEE,
+        ];
+        assert_eq!(buffer, expected);
+        assert_eq!(read(&buffer[..17]), Ok(table));
+        assert_eq!(written_in(&table, 16), (refused(37), vec![0xEE; 16]));
+        // 65535/65535 early release from 258 on, in a cycle of 65,535
+        let table = value_of(65_535, 1, &[(65535, 65535, 258, 1)]);
+        let (answer, buffer) = written_in(&table, 17);
+        assert_eq!(answer, done(17));
+        let expected = [
+            1, 255, 255, 0, 0, 1, 0, 1, //
+            1, 0, 255, 255, 255, 255, 2, 1, 1,
+        ];
+        assert_eq!(buffer, expected);
+        assert_eq!(read(&buffer), Ok(table));
+    }
+
+    #[test]
+    fn whole_core_rows_that_are_refused() {
+        // e above p, also above p = 0; e = p = 0 is without a cost
+        assert_eq!(number_of(&value_of(1, 1, &[(2, 1, 0, 0)])), 18);
+        assert_eq!(number_of(&value_of(1, 1, &[(1, 0, 0, 0)])), 18);
+        assert_eq!(number_of(&value_of(1, 1, &[(0, 0, 0, 0)])), 17);
+        // 2/2 in a cycle of 3
+        assert_eq!(number_of(&value_of(3, 1, &[(2, 2, 0, 0)])), 19);
+        // one on one core, two on two, three on two; 22 goes before 37
+        assert_eq!(number_of(&value_of(1, 2, &[(1, 1, 0, 0); 2])), 0);
+        let three = value_of(1, 2, &[(1, 1, 0, 0); 3]);
+        assert_eq!(number_of(&three), 22);
+        assert_eq!(write_table(&three, &mut []), refused(22));
+        let two = value_of(1, 2, &[(1, 1, 0, 0); 2]);
+        assert_eq!(write_table(&two, &mut []), refused(37));
+    }
+
     // ---- the buffer ----
 
     #[test]
@@ -401,16 +446,19 @@ mod tests {
         for p in [0, 1, 4, 65535] {
             assert_eq!(with(0, p), 17);
         }
-        for (e, p) in [(1, 0), (1, 1), (4, 4), (5, 4), (65535, 65535)] {
+        for (e, p) in [(1, 0), (65535, 0), (2, 1), (5, 4), (65535, 65534)] {
             assert_eq!(with(e, p), 18);
         }
-        // 12 has the divisors 2, 3, 4, 6 and 12
+        // 12 has the divisors 1, 2, 3, 4, 6 and 12
         for p in [5, 7, 8, 9, 10, 11, 13, 24, 65535] {
             assert_eq!(with(1, p), 19);
+            assert_eq!(with(p, p), 19);
         }
-        for p in [2, 3, 4, 6, 12] {
+        // with 1/3 beside it there is room for a whole core
+        for p in [1, 2, 3, 4, 6, 12] {
             assert_eq!(with(1, p), 0);
-            assert_eq!(with(p - 1, p), 0);
+            assert_eq!(with(p, p), 0);
+            assert_eq!(with(p + 1, p), 18);
         }
     }
 
@@ -505,7 +553,7 @@ mod tests {
             })
         };
         assert_eq!(spoilt(&|t| t.rows[0].cost = 0), 17);
-        assert_eq!(spoilt(&|t| t.rows[0].cost = 3), 18);
+        assert_eq!(spoilt(&|t| t.rows[0].cost = 4), 18);
         assert_eq!(spoilt(&|t| t.rows[0].period = 5), 19);
         assert_eq!(spoilt(&|t| t.rows[0].kind = 2), 20);
         assert_eq!(spoilt(&|t| t.cores = 1), 16);
@@ -666,7 +714,8 @@ mod tests {
             4 => table.count = [0, 32, 33, 255][usize::from(wild % 4)],
             5 => row.tank = wild,
             6 => row.cost = 0,
-            7 => row.cost = row.period.saturating_sub(wild % 2),
+            // one less than p, p, one more
+            7 => row.cost = row.period.saturating_add(wild % 3).saturating_sub(1),
             8 => row.period = [0, 1, 7, wild][usize::from(wild % 4)],
             9 => row.kind = wild as u8 % 3,
             10 => row.phase = wild,

@@ -80,14 +80,14 @@ fn has_bad_head(table: &Table) -> bool {
     (1..cores).any(|core| table.boards[core - 1] >= table.boards[core])
 }
 
-/// Faults 16 to 20 and 22. A row takes less than a cycle's slots, so that the sum of 32 fits.
+/// Faults 16 to 20 and 22. A row takes at most a cycle's slots, so that the sum of 32 fits.
 #[inline(always)]
 fn rows_are_bad(rows: &[Row], cycle: u32, most: u32) -> bool {
     let (mut last, mut sum) = (-1, 0);
     for row in rows {
         let tank = i32::from(row.tank);
         let (cost, period) = (u32::from(row.cost), u32::from(row.period));
-        if tank <= last || cost == 0 || cost >= period || row.kind > 1 || cycle % period != 0 {
+        if tank <= last || cost == 0 || cost > period || row.kind > 1 || cycle % period != 0 {
             return true;
         }
         last = tank;

@@ -77,7 +77,7 @@ fn behind_boards(cores: u8, bytes: &[u8]) -> Result<&[u8], u8> {
     Ok(rest)
 }
 
-/// The quanta that the rows take in a cycle, of those whose nine bytes are there. Each takes less than a cycle's slots, so that 32 of them fit.
+/// The quanta that the rows take in a cycle, of those whose nine bytes are there. Each takes at most a cycle's slots, so that 32 of them fit.
 #[inline(always)]
 fn quanta_in_cycle(rows: &[u8], cycle: u32) -> Result<u32, u8> {
     let (mut last, mut sum) = (-1, 0);
@@ -90,7 +90,7 @@ fn quanta_in_cycle(rows: &[u8], cycle: u32) -> Result<u32, u8> {
         if cost == 0 {
             return Err(17);
         }
-        if cost >= period {
+        if cost > period {
             return Err(18);
         }
         if cycle % period != 0 {

@@ -73,8 +73,8 @@ impl Row {
         self.forward();
     }
 
-    /// The group deadline. A heavy row leaves period - cost slots of each period empty. The group ends where the first
-    /// empty slot, evenly spread, that is due at or after the deadline is due.
+    /// The group deadline where b = 1, so that cost is below period. A heavy row leaves period - cost slots of each period empty. The group ends
+    /// where the first empty slot, evenly spread, that is due at or after the deadline is due.
     pub fn group_deadline(&self) -> u64 {
         if 2 * self.cost < self.period {
             return 0;

@@ -118,7 +118,7 @@ fn test_cores(cores: u8) -> Result<(), u8> {
 fn test_row(row: &Row, last: Option<u16>, cycle: u32) -> Result<u64, u8> {
     refuse(last >= Some(row.tank), 16)?;
     refuse(row.cost == 0, 17)?;
-    refuse(row.cost >= row.period, 18)?;
+    refuse(row.cost > row.period, 18)?;
     let period = u32::from(row.period);
     refuse(cycle % period != 0, 19)?;
     refuse(row.kind > 1, 20)?;

@@ -23,16 +23,16 @@ fn change(random: &mut Random, it: &mut Candidate, one: usize, other: usize) {
     let row = &mut it.rows[one];
     let little = random.between(1, 8) as u16;
     match random.below(10) {
-        0 => row.cost = row.cost.saturating_add(little).min(row.period - 1),
+        0 => row.cost = row.cost.saturating_add(little).min(row.period),
         1 => row.cost = row.cost.saturating_sub(little).max(1),
         2 => row.cost += (row.period - row.cost) / (4 * little),
         3 => row.cost -= row.cost / (4 * little),
-        4 => row.cost = random.between(1, usize::from(row.period) - 1) as u16,
+        4 => row.cost = random.between(1, usize::from(row.period)) as u16,
         5 => row.phase = random.between(0, 12) as u16,
         6 => row.kind = 1 - row.kind,
         7 => {
             (row.cost, row.period) = (model.cost, model.period);
-            row.cost += u16::from(row.cost + 1 < row.period);
+            row.cost += u16::from(row.cost < row.period);
         }
         8 => {
             let tank = row.tank;

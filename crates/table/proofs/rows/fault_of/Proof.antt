@@ -27,12 +27,12 @@ module _ (cycle least : ℕ) (row : Row) where
       cost : eqb (row .cost) 0 ≡ false
       cost = ne-eqb (row .cost) 0 costs
 
-      costs-all : row .period ≤ row .cost → 18 ≡ firstFound 0 (rowTests cycle least row)
-      costs-all h = sym (first-is-said 0 (FirstFound.later tank (FirstFound.later cost (FirstFound.here (ap not (le-ltb (row .cost) (row .period) h))))))
+      costs-more : row .period < row .cost → 18 ≡ firstFound 0 (rowTests cycle least row)
+      costs-more h = sym (first-is-said 0 (FirstFound.later tank (FirstFound.later cost (FirstFound.here (lt-ltb (row .period) (row .cost) h)))))
 
-      module _ (below : row .cost < row .period) where
-        period : not (ltb (row .cost) (row .period)) ≡ false
-        period = ap not (lt-ltb (row .cost) (row .period) below)
+      module _ (within : row .cost ≤ row .period) where
+        period : ltb (row .period) (row .cost) ≡ false
+        period = le-ltb (row .period) (row .cost) within
 
         does-not-divide : (cycle % row .period ≡ 0 → ⊥) → 19 ≡ firstFound 0 (rowTests cycle least row)
         does-not-divide h =
@@ -71,7 +71,7 @@ returns-3 c =
     let second = c .before .before in
     let first = second .before .before in
     let x = first .before .before .args in
-    costs-all (x .cycle) (x .least) (x .row) (first .if1 .left) (second .if2 .left) (c .if3 .taken)
+    costs-more (x .cycle) (x .least) (x .row) (first .if1 .left) (second .if2 .left) (c .if3 .taken)
 
 cast-if4 : tie.Need-cast-if4
 cast-if4 c = omega arith
