@@ -86,7 +86,7 @@ running table _ sound FromFresh.start = fresh-runs table sound
 running table _ sound (FromFresh.step s (Step.slot free) buffer place from not-late) = still-runs table s free buffer place (running table s sound from) not-late
 
 -- A table with a fault stays fresh: each slot answers 30.
-stays-fresh : (table : Table) (s : State) → (faultOf table ≡ 0 → ⊥) → FromFresh table s → s ≡ freshOf table
+pub stays-fresh : (table : Table) (s : State) → (faultOf table ≡ 0 → ⊥) → FromFresh table s → s ≡ freshOf table
 stays-fresh table _ bad FromFresh.start = refl
 stays-fresh table _ bad (FromFresh.step s (Step.slot free) buffer place from not-late) =
     let same = stays-fresh table s bad from in

@@ -1,11 +1,9 @@
--- Rows with e = p have a core in every slot. Assumes nothing.
+-- Until a row is late, one with e = p has a core in every slot. Assumes nothing.
 use Prim.Native.Nat.{ℕ, _+_, _-_, _*_, _/_, _≤_, _<_}
 use mathlib.Core.Path.{_≡_, refl, sym, ap, _∙_, subst}
-use mathlib.Core.List.{List}
 use mathlib.Core.Bool.{Bool, true, false}
-use mathlib.Core.Logic.{_↔_}
 use native.Mathlib.Nat.{div-eq-of-eq-mul-left}
-use native.Mathlib.Decide.{decLt, decLe}
+use native.Mathlib.Decide.{decLt, decLe, ℕ-discrete}
 use native.Mathlib.Omega.{arith}
 use lib.Dec.{eqb}
 use lib.ListN.{length}
@@ -26,7 +24,7 @@ use Rattle.table.specs.declared.Row.{Row}
 use Rattle.table.specs.declared.Table.{Table}
 use Rattle.table.specs.Causes.{load}
 use Rattle.table.specs.Value.{faultOf, rowsOf}
-use Rattle.table.specs.Bytes.{tableNumber, tableIn}
+use Rattle.table.specs.Bytes.{tableNumber}
 use Rattle.pd2.specs.Ready.{ready, late}
 use Rattle.pd2.specs.Share.{lower, upper, CanBe}
 use Rattle.pd2.specs.Order.{before}
@@ -38,7 +36,7 @@ use Rattle.trace.specs.Records.{placeOf, names}
 use Rattle.cores.specs.Fault.{misremembers}
 use Rattle.cores.specs.Cores.{wanted, leftOver, inTurn, coresFor}
 use Rattle.dispatcher.specs.declared.State.{State}
-use Rattle.dispatcher.specs.State.{quantaIn, timeOf, freshOf}
+use Rattle.dispatcher.specs.State.{quantaIn, timeOf}
 use Rattle.dispatcher.specs.Broken.{broken}
 use Rattle.dispatcher.specs.Slot.{refusal, slotOf}
 use Rattle.dispatcher.specs.Run.{Step, run}
@@ -47,22 +45,19 @@ use Rattle.dispatcher.proofs.Kept.{refusal-changes-nothing}
 use Rattle.dispatcher.proofs.Places.{at-most-one-quantum}
 use Rattle.checker.specs.Causes.{badRows}
 use Rattle.checker.specs.Check.{recordsFindings, traceSaid, checkOf}
-use Rattle.demands.specs.Limits.{sincePhase, upperLimit, shareUp, shareDown, InLimits}
+use Rattle.demands.specs.Limits.{sincePhase, shareDown, shareUp, InLimits}
 use Rattle.demands.specs.Three.{FromFresh}
 use Rattle.demands.specs.Bench.{same, allHold}
 use Rattle.demands.specs.NeverLate.{WithCores}
-use Rattle.demands.specs.WholeCore.{IsWholeCore, WindowsOfOneSlot, HasRunInAll, KeepsItsCore, AlwaysKeepsItsCore, oneCamera, twoCameras, wholeCoreLines, WholeCore}
+use Rattle.demands.specs.WholeCore.{IsWholeCore, WindowsOfOneSlot, HasRunInAll, KeepsItsCore, oneCamera, twoCameras, wholeCoreLines, WholeCore}
 use Rattle.demands.proofs.Limits.{in-limits}
 use Rattle.demands.proofs.Meanings.{meanings}
 use Rattle.demands.proofs.Two.{picks-are-pd2s}
-use Rattle.demands.proofs.Three.{demand-three}
+use Rattle.demands.proofs.Three.{stays-fresh, demand-three}
 use Rattle.demands.proofs.NeverLate.{never-late}
 
 -- The numbers of a row with e = p.
 module _ (row : Row) (whole : IsWholeCore row) where
-  e-is-p : row .period ≡ row .cost
-  e-is-p = sym (whole .1)
-
   period : 0 < row .period
   period = omega (arith, whole)
 
@@ -108,9 +103,6 @@ phase-has-begun row can q t limits = go (eqb (row .kind) 1) refl
     go false plain = omega (arith, meanings .row row q t .ready-plain plain .0 now)
 
 module _ (table : Table) (sound : faultOf table ≡ 0) (i : ℕ) (there : i < length (rowsOf table)) where
-  row : Row
-  row = rowAt (rowsOf table) i
-
   -- No row of a table without fault has more quanta than slots since its phase: before it has none, and then at most one a slot.
   at-most-one-a-slot : (s : State) → FromFresh table s → quantaAt (quantaIn s) i ≤ sincePhase (rowAt (rowsOf table) i) (timeOf s)
   at-most-one-a-slot _ FromFresh.start = omega (arith, nothing-given table i)
@@ -139,10 +131,18 @@ module _ (table : Table) (sound : faultOf table ≡ 0) (i : ℕ) (there : i < le
       go (no refused) few = subst (λ x. quantaAt (quantaIn x) i ≤ sincePhase (rowAt (rowsOf table) i) (timeOf x)) (sym (refusal-changes-nothing s free buffer place (omega arith) .0)) few
 
   -- One with e = p has as many.
-  keeps-its-core : (s : State) → FromFresh table s → IsWholeCore (rowAt (rowsOf table) i) → HasRunInAll table s i
-  keeps-its-core s from whole =
+  keeps-if-sound : (s : State) → FromFresh table s → IsWholeCore (rowAt (rowsOf table) i) → HasRunInAll table s i
+  keeps-if-sound s from whole =
       let least = demand-three .keeps table s from i there .at-least in
       omega (arith, least, share-down (rowAt (rowsOf table) i) whole (timeOf s), at-most-one-a-slot s from)
+
+-- A table with a fault has run no slot.
+keeps-its-core : KeepsItsCore
+keeps-its-core table s from i there whole = go (ℕ-discrete (faultOf table) 0)
+  where
+    go : Dec (faultOf table ≡ 0) → HasRunInAll table s i
+    go (yes sound) = keeps-if-sound table sound i there s from whole
+    go (no bad) = subst (λ x. HasRunInAll table x i) (sym (stays-fresh table s bad from)) (nothing-given table i ∙ omega arith)
 
 -- Slots with enough cores never report a row late.
 from-fresh : (table : Table) (c : ℕ) → faultOf table ≡ 0 → load (table .cycle) (rowsOf table) ≤ c * table .cycle → (s : State) → WithCores table c s → FromFresh table s
@@ -160,8 +160,8 @@ whole-core =
     record {
       windows = whole-core-rows;
       one-slot = λ row q t whole. one-slot row whole q t;
-      keeps-its-core = λ table sound s from i there whole. keeps-its-core table sound i there s from whole;
-      always-keeps-its-core = λ table c sound few s from i there whole. keeps-its-core table sound i there s (from-fresh table c sound few s from) whole;
+      keeps-its-core = keeps-its-core;
+      always-keeps-its-core = λ table c sound few s from. keeps-its-core table s (from-fresh table c sound few s from);
       camera-taken = refl;
       camera-never-late = never-late .all-cores oneCamera refl;
       cameras-full = refl;

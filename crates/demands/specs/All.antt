@@ -48,5 +48,5 @@ pub record All : Type 0 where
   pub long-walk : LongWalk
   -- "write the table bytes into a lent buffer"
   pub writing-tables : WritingTables
-  -- "Such a row has windows of one slot, b = 0, and D = d": a row with e = p has a core in every slot
+  -- "Such a row has windows of one slot, b = 0, and D = d": until a row is late, one with e = p has a core in every slot
   pub whole-core : WholeCore

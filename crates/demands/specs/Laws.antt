@@ -1,5 +1,5 @@
 -- A table of our own beside the bench: inputs, and the answers that 01 and 02 give to them. Each number has an input that gives it, each two causes that are
--- neighbours in 01's order an input with both, each limit an input on either side. One table and one statement, over the definitions.
+-- neighbours in 01's order and can be met together an input with both, each limit an input on either side. One table and one statement, over the definitions.
 use mathlib.Core.Path.{_≡_}
 use mathlib.Core.List.{List, [], _∷_, _++_}
 use mathlib.Core.Bool.{true}

@@ -30,11 +30,10 @@ readingOrder =
     ∷ reads (front 64 (0 ∷ []) ++ (33 ∷ rowBytes 5 1 64 0 0 ++ alikeRows 64 5 32)) 15
     -- 10 and 17: a row's nine bytes are not all there
     ∷ reads (front 6 (0 ∷ []) ++ (1 ∷ take 8 (rowBytes 0 0 3 0 0))) 10
-    -- 16 and 17, 17 and 18, 18 and 19, 19 and 20
+    -- 16 and 17, 17 and 19 (no e is both 0 and above p), 18 and 19, 19 and 20
     ∷ reads (front 6 (0 ∷ []) ++ (2 ∷ rowBytes 7 1 3 0 0 ++ rowBytes 7 0 3 0 0)) 16
     ∷ reads (front 6 (0 ∷ []) ++ (1 ∷ rowBytes 0 0 0 0 0)) 17
     ∷ reads (front 6 (0 ∷ []) ++ (1 ∷ rowBytes 0 5 4 0 0)) 18
-    ∷ reads (front 6 (0 ∷ []) ++ (1 ∷ rowBytes 0 4 4 0 0)) 19
     ∷ reads (front 6 (0 ∷ []) ++ (1 ∷ rowBytes 0 1 4 0 2)) 19
     -- 20 and then, in the row after it, 16; 20 and 10; 20 and 21
     ∷ reads (front 6 (0 ∷ []) ++ (2 ∷ rowBytes 7 1 3 0 2 ++ rowBytes 7 1 3 0 0)) 20
@@ -67,11 +66,12 @@ valueLaws =
     ∷ faulty (box 6 2 (plainRow 0 4 3 ∷ [])) 18
     ∷ faulty (box 6 2 (plainRow 0 1 0 ∷ [])) 18
     ∷ faulty (box 6 2 (plainRow 0 3 3 ∷ plainRow 1 4 3 ∷ [])) 18
+    ∷ faulty (box 6 2 (plainRow 0 4 4 ∷ [])) 19
     ∷ faulty (box 6 2 (plainRow 0 3 3 ∷ plainRow 1 6 6 ∷ [])) 0
     ∷ faulty (box 6 2 (plainRow 0 3 3 ∷ plainRow 1 6 6 ∷ plainRow 2 1 6 ∷ [])) 22
     ∷ faulty (box 6 2 (record { tank = 0; cost = 1; period = 3; phase = 0; kind = 255 } ∷ [])) 20
     ∷ faulty (record { cycle = 6; cores = 3; boards = 1 ∷ 3 ∷ 2 ∷ 0 ∷ 0 ∷ 0 ∷ 0 ∷ 0 ∷ []; n = 0; rows = replicate 32 zeroRow }) 14
-    -- 12 and 13, 13 and 14, 14 and 15, 15 and 16, 16 and 17, 17 and 18, 18 and 19, 19 and 20, 20 and 22
+    -- 12 and 13, 13 and 14, 14 and 15, 15 and 16, 16 and 17, 17 and 19, 18 and 19, 19 and 20, 20 and 22
     ∷ faulty (box 0 0 []) 12
     ∷ faulty (record { cycle = 6; cores = 9; boards = replicate 8 0; n = 0; rows = replicate 32 zeroRow }) 13
     ∷ faulty (record { cycle = 6; cores = 8; boards = replicate 8 0; n = 33; rows = replicate 32 zeroRow }) 14
@@ -79,7 +79,6 @@ valueLaws =
     ∷ faulty (box 6 2 (plainRow 7 1 3 ∷ plainRow 7 0 3 ∷ [])) 16
     ∷ faulty (box 6 2 (plainRow 0 0 0 ∷ [])) 17
     ∷ faulty (box 6 2 (plainRow 0 5 4 ∷ [])) 18
-    ∷ faulty (box 6 2 (plainRow 0 4 4 ∷ [])) 19
     ∷ faulty (box 6 2 (record { tank = 0; cost = 1; period = 4; phase = 0; kind = 2 } ∷ [])) 19
     ∷ faulty (box 6 1 (plainRow 0 2 3 ∷ record { tank = 1; cost = 1; period = 2; phase = 0; kind = 2 } ∷ [])) 20
     ∷ []

@@ -114,6 +114,8 @@ slotLaws =
     ∷ slot (stateOf (box 6 1 (plainRow 0 3 3 ∷ [])) 4 false (3 ∷ [])) 1 9 0 (bare 30)
     ∷ slot (stateOf (box 6 1 (plainRow 0 3 3 ∷ [])) 4 false (4 ∷ [])) 1 9 0 (bare 0)
     ∷ slot (stateOf (box 6 1 (earlyRelease 0 3 3 ∷ [])) 4 false (3 ∷ [])) 1 9 0 (bare 30)
+    ∷ slot (stateOf (box 5 1 (record { tank = 0; cost = 5; period = 5; phase = 2; kind = 1 } ∷ [])) 4 false (4 ∷ [])) 1 9 0 (bare 0)
+    ∷ slot (stateOf (box 5 1 (record { tank = 0; cost = 5; period = 5; phase = 2; kind = 0 } ∷ [])) 4 false (4 ∷ [])) 1 9 0 (bare 30)
     -- 31, "state stopped by an earlier 1": also outside its share
     ∷ slot (stateOf halfAndThird 4 true (1 ∷ 1 ∷ [])) 1 9 0 (bare 31)
     -- 35, "a set naming a core not below M" (02, One): the first k cores, where k is above M

@@ -65,6 +65,7 @@ tableLaws =
     ∷ reads (front 6 (0 ∷ []) ++ (1 ∷ rowBytes 0 2 3 0 0)) 0
     -- 19, "p does not divide L"
     ∷ reads (front 6 (0 ∷ []) ++ (1 ∷ rowBytes 0 1 4 0 0)) 19
+    ∷ reads (front 6 (0 ∷ []) ++ (1 ∷ rowBytes 0 4 4 0 0)) 19
     ∷ reads (front 6 (0 ∷ []) ++ (1 ∷ rowBytes 0 1 12 0 0)) 19
     ∷ reads (front 6 (0 ∷ []) ++ (2 ∷ rowBytes 0 1 3 0 0 ++ rowBytes 1 1 4 0 0)) 19
     -- 20, "kind above 1"

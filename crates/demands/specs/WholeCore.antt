@@ -30,7 +30,7 @@ abbrev pub IsWholeCore : Row → Type 0
 IsWholeCore row = (0 < row .cost) × (row .cost ≡ row .period)
 
 -- "Demands 2 and 3 read as before with these windows": with q quanta such a row, if it is plain, is ready from slot f + q on; it is late as soon as that slot is over; and a plain one is in its limits
--- only if it has had a quantum in every slot since its phase. (So has one of early release from a fresh start, as the next two say.)
+-- exactly if it has had a quantum in every slot since its phase. (So has one of early release from a fresh start, as the next two say.)
 pub record WindowsOfOneSlot (row : Row) (q t : ℕ) : Type 0 where
   pub ready-is : eqb (row .kind) 1 ≡ false → (ready row q t ≡ true) ↔ (row .phase + q ≤ t)
   pub late-is : (late row q t ≡ true) ↔ (row .phase + q < t)
@@ -43,7 +43,7 @@ HasRunInAll table s i = quantaAt (quantaIn s) i ≡ sincePhase (rowAt (rowsOf ta
 -- From a fresh start, however many cores each slot had, a row with e = p, plain or early release, has a core in every slot until a row is first reported late,
 abbrev pub KeepsItsCore : Type 0
 KeepsItsCore =
-    (table : Table) → faultOf table ≡ 0 → (s : State) → FromFresh table s → (i : ℕ) → i < length (rowsOf table) → IsWholeCore (rowAt (rowsOf table) i) →
+    (table : Table) (s : State) → FromFresh table s → (i : ℕ) → i < length (rowsOf table) → IsWholeCore (rowAt (rowsOf table) i) →
     HasRunInAll table s i
 
 -- and always, if every slot has at least c cores and the rows' sum is at most c·L.
@@ -56,7 +56,7 @@ AlwaysKeepsItsCore =
 abbrev pub oneCamera : List ℕ
 oneCamera = front 1 (0 ∷ []) ++ (1 ∷ rowBytes 0 1 1 0 0)
 
--- two of them, of early release and with a phase, on two cores, and a third
+-- two rows with e = p, one of early release and one with a phase, on two cores; and a third
 abbrev pub cameras : List ℕ → List ℕ
 cameras rows = front 10 (0 ∷ 1 ∷ []) ++ rows
 

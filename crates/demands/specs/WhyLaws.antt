@@ -5,7 +5,7 @@ use Rattle.table.specs.declared.Table.{Table}
 use Rattle.cores.specs.Placement.{placement}
 use Rattle.demands.specs.Bench.{plainRow, earlyRelease, box, threeCores}
 use Rattle.demands.specs.Law.{Law, explains}
-use Rattle.demands.specs.LawInputs.{stateOf, remembering, halfAndThird, noRows}
+use Rattle.demands.specs.LawInputs.{stateOf, remembering, halfAndThird, cameraAndOther, noRows}
 use Rattle.demands.specs.SlotLaws.{laterAndEarly, wildPast}
 
 -- In slot 0 both have d 2; b is 0 and 1.
@@ -47,6 +47,11 @@ whyLaws =
     ∷ explains (stateOf threeCores 0 false []) 3 1 0 1 0 0 0
     -- and not the lowest number: rows 0 and 1 of three that are alike are picked
     ∷ explains (stateOf (box 3 2 (plainRow 0 2 3 ∷ plainRow 1 2 3 ∷ plainRow 2 2 3 ∷ [])) 0 false []) 2 2 0 4 0 1 4
+    -- a row with e = p (02, Six): in slot 0 it goes first by its deadline, in slot 1 it is due with row 1, whose b is 1; before its phase it is not ready
+    ∷ explains (stateOf cameraAndOther 0 false []) 1 1 0 4 0 0 1
+    ∷ explains (stateOf cameraAndOther 1 false (1 ∷ 0 ∷ [])) 1 0 0 4 0 1 2
+    ∷ explains (stateOf cameraAndOther 1 false (1 ∷ 0 ∷ [])) 2 0 0 1 0 0 0
+    ∷ explains (stateOf (box 5 1 (record { tank = 0; cost = 5; period = 5; phase = 2; kind = 1 } ∷ [])) 1 false []) 1 0 0 2 2 0 0
     -- "if both have b = 1, larger D": with b = 0 the row number decides, though D differs, whichever is larger
     ∷ explains (stateOf fullCore 3 false (0 ∷ 2 ∷ [])) 1 1 0 4 0 0 4
     ∷ explains (stateOf fullCore 3 false (0 ∷ 2 ∷ [])) 1 0 0 1 0 0 0

@@ -1,5 +1,5 @@
 -- The window question (01, "Windows"): "A window may be asked for alone, by e, p, f (each 0 to 65,535) and i."
-use Prim.Native.Nat.{ℕ, _+_, _≤_, _<_}
+use Prim.Native.Nat.{ℕ, _+_, _<_}
 use mathlib.Core.Path.{_≡_}
 use mathlib.Core.Bool.{Bool, cond, not, _&&_, _||_}
 use lib.Dec.{ltb, leb, eqb}

@@ -7,7 +7,7 @@ use crate::make::whole_core::is_whole;
 use crate::make::written::add_many_rows;
 use crate::make::{damage, spoil};
 use second::checker::check;
-use second::table::{read, Table};
+use second::table::read;
 
 #[derive(Clone)]
 pub struct Checks;
@@ -51,22 +51,26 @@ impl Maker for Checks {
         }
         let long = given.made == "on time" && is_long(given);
         tally.saw_each("passes, has 12 slots or more and both kinds of row", [long]);
-        let trace = given.trace.as_deref().unwrap_or(&[]);
-        let row = check(&given.table, trace).row;
-        let late = number == 45;
-        tally.saw_each("late row", [late && row > 0, late && row == 31]);
-        if let Ok(table) = read(&given.table) {
-            count_whole_core(&table, number, row, tally);
+        let late = (number == 45).then(|| late_row(given));
+        let met = [late > Some(0), late == Some(31)];
+        tally.saw_each("late row", met);
+        if [0, 44, 45].contains(&number) {
+            count_whole_core(given, number, late, tally);
         }
     }
 }
 
-/// What a trace is answered, if a row of its table has e = p.
-fn count_whole_core(table: &Table, number: u8, row: u8, tally: &mut Tally) {
+/// The row that a trace with 45 leaves late.
+fn late_row(given: &Given) -> u8 {
+    check(&given.table, given.trace.as_deref().unwrap_or(&[])).row
+}
+
+/// What a trace that is judged to its end is answered, if a row of its table has e = p.
+fn count_whole_core(given: &Given, number: u8, late: Option<u8>, tally: &mut Tally) {
+    let table = read(&given.table).expect("the table is taken");
     if table.named_rows().iter().any(is_whole) {
-        let such = is_whole(&table.rows[usize::from(row)]);
-        let late = |such| number == 45 && such;
-        let met = [number == 0, number == 44, late(such), late(!such)];
+        let such = late.map(|row| is_whole(&table.rows[usize::from(row)]));
+        let met = [number == 0, number == 44, such == Some(true), such == Some(false)];
         tally.saw_each("of a table with a row of e = p", met);
     }
 }

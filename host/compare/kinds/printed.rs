@@ -76,13 +76,12 @@ impl Kind for Case {
         let word = last.split(' ').next().unwrap_or("");
         match text.lines().count() {
             1 => tally.saw("alone", word),
-            _ if word != "refused" && whole_core::stands_in(&self.table) => {
-                tally.saw("with a row of e = p", word);
-                tally.saw("after the header, last", word);
-            }
             _ if word == "refused" => tally.saw("after the header, last", last),
             _ => tally.saw("after the header, last", word),
         }
+        let ran = text.lines().count() > 1 && word != "refused";
+        let such = ran && whole_core::stands_in(&self.table);
+        tally.saw_if(such, "with a row of e = p", word);
         tally.saw_each("input", self.met());
     }
 }

@@ -19,7 +19,7 @@ impl<const BY_WALK: bool> Kind for Case<BY_WALK> {
     /// The last i is refused by all of its 8 bytes, and would not be by the lower 4 of them.
     const GROUPS: &'static [Group] = &[
         "answer (1 in 20): 0 | 50",
-        "weight (1 in 40): e = p | heavy | one half | light",
+        "weight (1 in 30): e = p | heavy | one half | light",
         "bit (1 in 15): 0 | 1",
         "of a heavy row with bit 1, phase (1 in 15): 0 | above 0",
         "of a heavy row, slots from d to D (1 in 500): 0 | 1 to 9 | 10 to 999 | 1,000 or more",

@@ -2,6 +2,7 @@
 
 use crate::make::reach::REACH;
 use crate::make::rows::Rows;
+use crate::make::whole_core::is_whole;
 use crate::tally::{Group, Tally};
 use second::table::Row;
 
@@ -22,7 +23,7 @@ pub fn count(rows: &Rows, tally: &mut Tally) {
         has(|row| row.kind == 0),
         has(|row| row.kind == 1),
         has(|row| row.kind > 1),
-        has(|row| row.cost == row.period),
+        has(is_whole),
         rows.time == REACH && !answered.is_empty(),
         lacks(|row| row.cost == 0),
         lacks(|row| row.cost > row.period),

@@ -112,11 +112,11 @@ fn count_whole_core(state: &State, k: u8, late: bool, tally: &mut Tally) {
     let ready = ready_rows(state);
     let (picked, left) = ready.split_at(usize::from(k).min(ready.len()));
     let such = |next: &Next| is_whole(&state.table.rows[usize::from(next.row)]);
-    let ahead = |next: &Next| {
+    let behind = |next: &Next| {
         let due = |other: &Next| other.deadline == next.deadline && other.bit == 1;
         such(next) && picked.iter().any(due)
     };
-    let met = [picked.iter().any(such), late, left.iter().any(ahead)];
+    let met = [picked.iter().any(such), late, left.iter().any(behind)];
     tally.saw_each("a row with e = p", met);
 }
 

@@ -29,7 +29,7 @@ fn is_sound(bytes: &[u8]) -> Option<bool> {
     for row in rows.chunks_exact(9) {
         let half = |at: usize| u32::from(u16::from_le_bytes([row[at], row[at + 1]]));
         let (tank, cost, period) = (half(0) as i32, half(2), half(4));
-        // a period of 0 has no cost, so it is not sound whatever it is divided by
+        // no cost from 1 on is within a period of 0, so that is not sound whatever is divided by
         let jobs = cycle / period.max(1);
         sound &= (last < tank) & (cost != 0) & (cost <= period) & (row[8] <= 1);
         sound &= jobs * period == cycle;
