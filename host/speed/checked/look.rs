@@ -87,7 +87,9 @@ fn rows_are_bad(rows: &[Row], cycle: u32, most: u32) -> bool {
     for row in rows {
         let tank = i32::from(row.tank);
         let (cost, period) = (u32::from(row.cost), u32::from(row.period));
-        if tank <= last || cost == 0 || cost > period || row.kind > 1 || cycle % period != 0 {
+        // a cost of 0, less 1, is above every period; so past this no period is 0
+        let wrong_cost = cost.wrapping_sub(1) >= period;
+        if tank <= last || wrong_cost || row.kind > 1 || cycle % period != 0 {
             return true;
         }
         last = tank;
