@@ -92,12 +92,14 @@ module _ (e p o : ℕ) (he : 0 < e) where
   unfolding start
   start-of-multiple k i multiple =
       let same : (i - 1) * p ≡ k * (i - 1) * e = ap (λ x. (i - 1) * x) multiple ∙ omega arith in
-      ap (λ x. o + x) (div-eq-of-eq-mul-left he same)
+      let whole : (i - 1) * p / e ≡ k * (i - 1) = div-eq-of-eq-mul-left he same in
+      omega arith
 
   pub deadline-of-multiple : (k i : ℕ) → p ≡ k * e → deadline e p o i ≡ o + k * i
   deadline-of-multiple k i multiple =
       let same : i * p ≡ k * i * e = ap (λ x. i * x) multiple ∙ omega arith in
-      deadline-of-whole i (multiple-divides e p k i multiple) ∙ ap (λ x. o + x) (div-eq-of-eq-mul-left he same)
+      let whole : i * p / e ≡ k * i = div-eq-of-eq-mul-left he same in
+      omega (arith, deadline-of-whole i (multiple-divides e p k i multiple))
 
   -- W1 as a sum.
   pub next-start-is-deadline-less-bit : (i : ℕ) → start e p o (i + 1) + bit e p i ≡ deadline e p o i

@@ -20,6 +20,7 @@ impl<const FRESH: bool> Kind for Case<FRESH> {
         ],
         true => &[
             "fault of the value (1 in 300): 0 | 12..20 | 22",
+            "without a fault, rows with e = p (1 in 100): none | some | all",
             "past n, all places (1 in 10): 0 | not 0",
         ],
     };
@@ -42,9 +43,9 @@ impl<const FRESH: bool> Kind for Case<FRESH> {
 
     fn count(&self, _answer: &[u8], tally: &mut Tally) {
         let fault = fault(&self.0);
+        let name = whole_core::name(&self.0);
+        tally.saw_if(fault == 0, "without a fault, rows with e = p", name);
         if !FRESH {
-            let name = whole_core::name(&self.0);
-            tally.saw_if(fault == 0, "without a fault, rows with e = p", name);
             return tally.saw("fault", fault);
         }
         tally.saw("fault of the value", fault);
