@@ -1,7 +1,7 @@
 -- What is shut out: each by an example, computed. Assumes nothing.
 use Prim.Native.Nat.{ℕ, _+_, _-_, _*_, _/_, _<_}
 use mathlib.Core.Path.{_≡_, refl, sym, ap, _∙_}
-use mathlib.Core.List.{List, [], _∷_, _++_, flatMap}
+use mathlib.Core.List.{List, [], _∷_, flatMap}
 use mathlib.Core.Bool.{Bool, true, false, _&&_, true≢false}
 use native.Mathlib.Omega.{arith}
 use lib.ListN.{length, getD, take, replicate}
@@ -51,8 +51,8 @@ use Rattle.why.specs.Why.{readyFrom, reasonOf, whyOf}
 use Rattle.checker.specs.Causes.{badRows}
 use Rattle.checker.specs.Check.{recordsFindings, traceSaid, checkOf}
 use Rattle.demands.specs.Bench.{exampleTrace, threeCores, box}
-use Rattle.demands.specs.LawInputs.{stateOf, front, rowBytes}
-use Rattle.demands.specs.WholeCore.{oneCamera}
+use Rattle.demands.specs.LawInputs.{stateOf}
+use Rattle.demands.specs.WholeCore.{oneRow, oneCamera}
 use Rattle.demands.specs.Inputs.{Bytes, CanAskWindow, Possible, CanAsk, CanWrite}
 use Rattle.demands.specs.ShutOut.{Dispatcher, IsDispatcher, numberOf, rowsWritten, GivesAsRecorded, ShutOutOf, Explainer, IsExplainer, ShutOutOfWhy, Answerer, IsAnswerer, ShutOutOfWindow, ShutOut, Writer, IsWriter, ShutOutOfWriting}
 use Rattle.demands.proofs.Two.{picks-are-pd2s}
@@ -137,7 +137,7 @@ computed =
 
 -- "e = 1, p = 1" is taken (02, Six), and e = 2, p = 1 is not.
 abbrev aboveOne : List ℕ
-aboveOne = front 1 (0 ∷ []) ++ (1 ∷ rowBytes 0 2 1 0 0)
+aboveOne = oneRow 2 1
 
 record Cameras : Type 0 where
   bytes : Bytes oneCamera

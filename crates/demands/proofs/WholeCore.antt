@@ -1,11 +1,10 @@
 -- Until a row is late, one with e = p has a core in every slot. Assumes nothing.
 use Prim.Native.Nat.{ℕ, _+_, _-_, _*_, _/_, _≤_, _<_}
 use mathlib.Core.Path.{_≡_, refl, sym, ap, _∙_, subst}
-use mathlib.Core.Bool.{Bool, true, false}
+use mathlib.Core.Bool.{true}
 use native.Mathlib.Nat.{div-eq-of-eq-mul-left}
 use native.Mathlib.Decide.{decLt, decLe, ℕ-discrete}
 use native.Mathlib.Omega.{arith}
-use lib.Dec.{eqb}
 use lib.ListN.{length}
 use Rattle.facts.specs.Rounding.{ceilDiv}
 use Rattle.facts.specs.First.{atFirst}
@@ -30,6 +29,7 @@ use Rattle.pd2.specs.Share.{lower, upper, CanBe}
 use Rattle.pd2.specs.Order.{before}
 use Rattle.pd2.specs.Picks.{picked}
 use Rattle.pd2.specs.Choice.{rowAt, quantaAt, given}
+use Rattle.pd2.proofs.Readiness.{ready-is-past-origin}
 use Rattle.pd2.proofs.Share.{row-can-be, upper-after-quantum-means-ready}
 use Rattle.trace.specs.Record.{withFront, withRecord}
 use Rattle.trace.specs.Records.{placeOf, names}
@@ -91,16 +91,11 @@ module _ (row : Row) (whole : IsWholeCore row) where
         );
       }
 
--- A row that has had a quantum at time t + 1 was ready in slot t, and so its phase had begun.
+-- A row may have had a quantum at time t + 1 if it was ready in slot t, and then its phase had begun.
 phase-has-begun : (row : Row) → CanBe row → (q t : ℕ) → InLimits row (q + 1) (t + 1) → row .phase ≤ t
-phase-has-begun row can q t limits = go (eqb (row .kind) 1) refl
-  where
-    now : ready row q t ≡ true
-    now = sym (upper-after-quantum-means-ready row can q t) ∙ both (lower row (q + 1) (t + 1)) _ (in-limits row can (q + 1) (t + 1) .1 limits) .1
-
-    go : (kind : Bool) → eqb (row .kind) 1 ≡ kind → row .phase ≤ t
-    go true early = omega (arith, meanings .row row q t .ready-early-release early .0 now)
-    go false plain = omega (arith, meanings .row row q t .ready-plain plain .0 now)
+phase-has-begun row can q t limits =
+    ready-is-past-origin row q t
+    (sym (upper-after-quantum-means-ready row can q t) ∙ both (lower row (q + 1) (t + 1)) _ (in-limits row can (q + 1) (t + 1) .1 limits) .1)
 
 module _ (table : Table) (sound : faultOf table ≡ 0) (i : ℕ) (there : i < length (rowsOf table)) where
   -- No row of a table without fault has more quanta than slots since its phase: before it has none, and then at most one a slot.

@@ -62,3 +62,7 @@ noRows = box 1 1 []
 -- the same two rows in bytes
 abbrev pub halfAndThirdBytes : List ℕ
 halfAndThirdBytes = front 6 (0 ∷ 1 ∷ []) ++ (2 ∷ rowBytes 0 1 2 0 0 ++ rowBytes 1 1 3 0 0)
+
+-- and the camera and the other row
+abbrev pub cameraAndOtherBytes : List ℕ
+cameraAndOtherBytes = front 3 (0 ∷ 1 ∷ []) ++ (2 ∷ rowBytes 0 1 1 0 0 ++ rowBytes 1 2 3 0 0)

@@ -6,7 +6,7 @@ use Rattle.table.specs.Example.{example}
 use Rattle.trace.specs.Said.{bare, named}
 use Rattle.demands.specs.Bench.{exampleTrace}
 use Rattle.demands.specs.Law.{Law, part, check}
-use Rattle.demands.specs.LawInputs.{front, rowBytes, halfAndThirdBytes}
+use Rattle.demands.specs.LawInputs.{front, rowBytes, halfAndThirdBytes, cameraAndOtherBytes}
 
 -- "Asked for slot s, the trace hands back the record itself .. It is found exactly if the 4 count bytes are there, s is below the count, and the records of
 -- slots 0 to s lie wholly inside; their contents are not judged. Otherwise the part handed back has length 0 and begins at 0."
@@ -64,8 +64,8 @@ traceLaws =
     ∷ check (front 6 (0 ∷ 1 ∷ []) ++ (2 ∷ rowBytes 3 2 3 4 0 ++ rowBytes 5 2 6 0 1)) (bytesOf 4 1 ++ (2 ∷ 1 ∷ 0 ∷ [])) (named 44 0 0)
     ∷ check (front 6 (0 ∷ []) ++ (1 ∷ rowBytes 0 2 6 3 1)) (bytesOf 4 1 ++ (1 ∷ 1 ∷ 0 ∷ [])) (named 44 0 0)
     -- a row with e = p (02, Six), beside one of 2/3: in every slot, one slot missed, and before its phase
-    ∷ check (front 3 (0 ∷ 1 ∷ []) ++ (2 ∷ rowBytes 0 1 1 0 0 ++ rowBytes 1 2 3 0 0)) (bytesOf 4 2 ++ (2 ∷ 2 ∷ 0 ∷ 1 ∷ 2 ∷ 2 ∷ 0 ∷ 1 ∷ [])) (bare 0)
-    ∷ check (front 3 (0 ∷ 1 ∷ []) ++ (2 ∷ rowBytes 0 1 1 0 0 ++ rowBytes 1 2 3 0 0)) (bytesOf 4 2 ++ (2 ∷ 2 ∷ 0 ∷ 1 ∷ 1 ∷ 1 ∷ 1 ∷ [])) (named 45 0 2)
+    ∷ check cameraAndOtherBytes (bytesOf 4 2 ++ (2 ∷ 2 ∷ 0 ∷ 1 ∷ 2 ∷ 2 ∷ 0 ∷ 1 ∷ [])) (bare 0)
+    ∷ check cameraAndOtherBytes (bytesOf 4 2 ++ (2 ∷ 2 ∷ 0 ∷ 1 ∷ 1 ∷ 1 ∷ 1 ∷ [])) (named 45 0 2)
     ∷ check (front 5 (0 ∷ []) ++ (1 ∷ rowBytes 0 5 5 2 1)) (bytesOf 4 2 ++ (1 ∷ 0 ∷ 1 ∷ 1 ∷ 0 ∷ [])) (named 44 0 1)
     -- 46, "bytes after the last record"
     ∷ check example (exampleTrace ++ (0 ∷ [])) (bare 46)

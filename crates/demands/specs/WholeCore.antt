@@ -25,7 +25,7 @@ use Rattle.demands.specs.Bench.{Line, window, answers, runs, traced, tab
 use Rattle.demands.specs.LawInputs.{front, rowBytes, cameraAndOther}
 use Rattle.demands.specs.NeverLate.{WithCores, NeverLateWith}
 
--- "e = p"
+-- "e = p", of a row that has a cost
 abbrev pub IsWholeCore : Row → Type 0
 IsWholeCore row = (0 < row .cost) × (row .cost ≡ row .period)
 
@@ -36,7 +36,7 @@ pub record WindowsOfOneSlot (row : Row) (q t : ℕ) : Type 0 where
   pub late-is : (late row q t ≡ true) ↔ (row .phase + q < t)
   pub limits-are : eqb (row .kind) 1 ≡ false → InLimits row q t ↔ (q ≡ sincePhase row t)
 
--- Row i has had a quantum in every slot since its phase.
+-- Row i has had a quantum in every slot since its phase: as many as there were, since it gets at most one a slot (demand 2), and none before its phase (demand 3).
 abbrev pub HasRunInAll : Table → State → ℕ → Type 0
 HasRunInAll table s i = quantaAt (quantaIn s) i ≡ sincePhase (rowAt (rowsOf table) i) (timeOf s)
 
@@ -52,9 +52,13 @@ AlwaysKeepsItsCore =
     (table : Table) (c : ℕ) → faultOf table ≡ 0 → load (table .cycle) (rowsOf table) ≤ c * table .cycle → (s : State) → WithCores table c s → (i : ℕ) → i < length (rowsOf table) →
     IsWholeCore (rowAt (rowsOf table) i) → HasRunInAll table s i
 
--- "e = 1, p = 1", on one core
+-- one core, and one row e/p in a cycle of one slot
+abbrev pub oneRow : ℕ → ℕ → List ℕ
+oneRow e p = front 1 (0 ∷ []) ++ (1 ∷ rowBytes 0 e p 0 0)
+
+-- "e = 1, p = 1"
 abbrev pub oneCamera : List ℕ
-oneCamera = front 1 (0 ∷ []) ++ (1 ∷ rowBytes 0 1 1 0 0)
+oneCamera = oneRow 1 1
 
 -- two rows with e = p, one of early release and one with a phase, on two cores; and a third
 abbrev pub cameras : List ℕ → List ℕ
@@ -70,9 +74,9 @@ abbrev pub wholeCoreLines : List Line
 wholeCoreLines =
     -- "the bench line for e = 1, p = 1 becomes a taken row"; "e = 0, p = 0: 17" stays, and e above p is 18 where p is 0, too
     table-read oneCamera 0
-    ∷ table-read (front 1 (0 ∷ []) ++ (1 ∷ rowBytes 0 0 0 0 0)) 17
-    ∷ table-read (front 1 (0 ∷ []) ++ (1 ∷ rowBytes 0 1 0 0 0)) 18
-    ∷ table-read (front 1 (0 ∷ []) ++ (1 ∷ rowBytes 0 2 1 0 0)) 18
+    ∷ table-read (oneRow 0 0) 17
+    ∷ table-read (oneRow 1 0) 18
+    ∷ table-read (oneRow 2 1) 18
     -- "the sum test included"
     ∷ table-read twoCameras 0
     ∷ table-read threeCameras 22

@@ -213,8 +213,8 @@ fn disturb(random: &mut Random, state: &mut State) {
     }
 }
 
-/// A row without a cost and without quanta, or one that costs more than every slot and has had each: inside its share for some time, were it a row. At times one that costs
-/// every slot, which may be.
+/// A row without a cost and without quanta, or one that costs more than its period has slots and has had each of them: inside its share, for some time at least, were it a
+/// row. At times one that costs just as many, which is a row.
 fn spoil_cost(random: &mut Random, state: &mut State) {
     let n = usize::from(state.table.count).clamp(1, 32);
     let number = random.below(n);
