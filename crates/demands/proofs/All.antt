@@ -17,6 +17,7 @@ use Rattle.demands.proofs.HalfIsHeavy.{half-is-heavy}
 use Rattle.demands.proofs.LongWalk.{long-walk}
 use Rattle.demands.proofs.WritingTables.{writing-tables}
 use Rattle.demands.proofs.WholeCore.{whole-core}
+use Rattle.demands.proofs.ShorterSlots.{shorter-slots}
 
 pub all : All
 all =
@@ -38,4 +39,5 @@ all =
       long-walk = long-walk;
       writing-tables = writing-tables;
       whole-core = whole-core;
+      shorter-slots = shorter-slots;
     }

@@ -4,6 +4,7 @@ use mathlib.Core.Path.{_≡_, refl, sym, _∙_}
 use mathlib.Core.Bool.{false}
 use mathlib.Core.Logic.{_↔_}
 use borrow.Author.Tests.{ltb-true, lt-ltb}
+use Rattle.counts.specs.Limits.{timeLimit}
 use Rattle.table.proofs.Taken.{sizes-are-within}
 use Rattle.cores.specs.Sets.{firstCores, FirstAre}
 use Rattle.cores.proofs.Best.{cores-are-best}
@@ -22,7 +23,7 @@ use Rattle.demands.specs.Cores.{Cores}
 use Rattle.demands.proofs.Refusals.{slot-exactly}
 
 -- The first k cores name one that is not there exactly if k is above M.
-printer-35 : (s : State) (k : ℕ) → NotBroken s → s .stopped ≡ false → timeOf s < 1_000_000_000 → (askedOf s k .said .number ≡ 35) ↔ (s .table .cores < k)
+printer-35 : (s : State) (k : ℕ) → NotBroken s → s .stopped ≡ false → timeOf s < timeLimit → (askedOf s k .said .number ≡ 35) ↔ (s .table .cores < k)
 printer-35 s k whole runs slot-left =
     let exactly = slot-exactly s (firstCores k) recordBuffer 0 .is-35 in
     let past = past-exactly (s .table .cores) (firstCores k) in

@@ -7,6 +7,7 @@ pub mod One
 pub mod WithCount
 pub mod Two
 pub mod RunPasses
+pub mod LongerRuns
 pub mod Three
 pub mod Bench
 pub mod Laws
@@ -19,4 +20,5 @@ pub mod HalfIsHeavy
 pub mod LongWalk
 pub mod WritingTables
 pub mod WholeCore
+pub mod ShorterSlots
 pub mod All

@@ -17,5 +17,5 @@ long-walk =
       answers-by-formula = answers-by-formula;
       one-answer = λ e p f i found walked. window-is-determined e p f (i .0) found walked;
       whole-job = answers-by-formula 65_534 65_535 0 1 (omega arith) (omega arith) (is-fit _ _ _ (omega arith) (omega arith) (omega arith) (omega arith)) ∙ refl;
-      last-subtask = answers-by-formula 65_534 65_535 65_535 1_000_000_001 (omega arith) (omega arith) (is-fit _ _ _ (omega arith) (omega arith) (omega arith) (omega arith)) ∙ refl;
+      last-subtask = answers-by-formula 65_534 65_535 65_535 1_000_000_000_001 (omega arith) (omega arith) (is-fit _ _ _ (omega arith) (omega arith) (omega arith) (omega arith)) ∙ refl;
     }

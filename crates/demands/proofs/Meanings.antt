@@ -28,6 +28,7 @@ use Rattle.trace.proofs.Names.{marked-are-named}
 use Rattle.trace.proofs.Found.{next-begins}
 use Rattle.trace.specs.Said.{Said}
 use Rattle.dispatcher.specs.declared.State.{State}
+use Rattle.checker.specs.Causes.{slotLimit}
 use Rattle.checker.specs.WellFormed.{WellFormed}
 use Rattle.checker.proofs.Sound.{rising-exactly}
 use Rattle.cores.proofs.Means.{ran-on-means, ran-before-means, moves-are}
@@ -103,7 +104,7 @@ shaped s table = (
   λ well.
       record {
         slot-count = below-fails (length s) 4 .0 (well .slot-count);
-        limit = below-fails 1_000_000_000 (slotsIn s) .0 (well .limit);
+        limit = below-fails slotLimit (slotsIn s) .0 (well .limit);
         heads = λ t l. below-fails (length s) (placeIn s t + 2) .0 (well .records t l .head);
         free = λ t l. below-fails (table .cores) (getD s (placeIn s t) 0) .0 (well .records t l .cores);
         picked = λ t l. below-fails (getD s (placeIn s t) 0) (getD s (placeIn s t + 1) 0) .0 (well .records t l .picked);
@@ -115,7 +116,7 @@ shaped s table = (
   λ shape.
       record {
         slot-count = below-fails (length s) 4 .1 (shape .slot-count);
-        limit = below-fails 1_000_000_000 (slotsIn s) .1 (shape .limit);
+        limit = below-fails slotLimit (slotsIn s) .1 (shape .limit);
         records = λ t l.
             record {
               head = below-fails (length s) (placeIn s t + 2) .1 (shape .heads t l);

@@ -25,7 +25,7 @@ use Rattle.checker.proofs.Sound.{rising-exactly}
 use Rattle.demands.specs.One.{Questions, Tables, Slots, Checks, DemandOne}
 use Rattle.demands.proofs.Refusals.{broken-exactly, slot-exactly}
 
--- Numbers that 01 knows are far within reach.
+-- Numbers up to one past the time limit are within reach.
 questions : Questions
 questions =
     record {

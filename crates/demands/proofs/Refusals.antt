@@ -8,6 +8,7 @@ use native.Mathlib.Decide.{decLt}
 use native.Mathlib.Omega.{arith}
 use borrow.Author.Tests.{lt-ltb, ltb-true}
 use lib.ListN.{length, getD}
+use Rattle.counts.specs.Limits.{timeLimit}
 use Rattle.pd2.specs.Choice.{rowAt, quantaAt}
 use Rattle.pd2.proofs.Share.{row-can-be}
 use Rattle.cores.specs.Sets.{size, namesPast}
@@ -81,7 +82,7 @@ module _ (s : State) (free : List Bool) (buffer : List ℕ) (place : ℕ) where
   says : {n : ℕ} → 1 < n → refusal s free buffer place ≡ n → number ≡ n
   says {n} above e = refused-number s free buffer place n above .1 e
 
-  module _ (whole : broken s ≡ false) (runs : s .stopped ≡ false) (slot-left : timeOf s < 1_000_000_000) (there : namesPast (s .table .cores) free ≡ false) where
+  module _ (whole : broken s ≡ false) (runs : s .stopped ≡ false) (slot-left : timeOf s < timeLimit) (there : namesPast (s .table .cores) free ≡ false) where
     fits : NotBroken s
     fits = broken-exactly s .0 whole
 
@@ -114,7 +115,7 @@ module _ (s : State) (free : List Bool) (buffer : List ℕ) (place : ℕ) where
         }
 
   module _ (whole : broken s ≡ false) (runs : s .stopped ≡ false) where
-    by-cores : timeOf s < 1_000_000_000 → (past : Bool) → namesPast (s .table .cores) free ≡ past → SlotExactly s free buffer place number
+    by-cores : timeOf s < timeLimit → (past : Bool) → namesPast (s .table .cores) free ≡ past → SlotExactly s free buffer place number
     by-cores slot-left true past =
         let fit = broken-exactly s .0 whole in
         let found = past-exactly (s .table .cores) free .0 past in
@@ -128,11 +129,11 @@ module _ (s : State) (free : List Bool) (buffer : List ℕ) (place : ℕ) where
         }
     by-cores slot-left false there = by-place whole runs slot-left there (decLt (length buffer) room)
 
-    by-time : Dec (timeOf s < 1_000_000_000) → SlotExactly s free buffer place number
+    by-time : Dec (timeOf s < timeLimit) → SlotExactly s free buffer place number
     by-time (yes slot-left) = by-cores slot-left (namesPast (s .table .cores) free) refl
     by-time (no at) =
         let fit = broken-exactly s .0 whole in
-        let limit : timeOf s ≡ 1_000_000_000 = omega (arith, fit .time) in
+        let limit : timeOf s ≡ timeLimit = omega (arith, fit .time) in
         let said = says (omega arith) (first-32 s free buffer place whole runs limit) in
         record {
           is-30 = neither-is (λ e. omega (arith, said, e)) (λ n. n fit);
@@ -143,7 +144,7 @@ module _ (s : State) (free : List Bool) (buffer : List ℕ) (place : ℕ) where
         }
 
   by-mark : broken s ≡ false → (stopped : Bool) → s .stopped ≡ stopped → SlotExactly s free buffer place number
-  by-mark whole false runs = by-time whole runs (decLt (timeOf s) 1_000_000_000)
+  by-mark whole false runs = by-time whole runs (decLt (timeOf s) timeLimit)
   by-mark whole true stopped =
       let fit = broken-exactly s .0 whole in
       let said = says (omega arith) (first-31 s free buffer place whole stopped) in

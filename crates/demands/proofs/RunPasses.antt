@@ -1,4 +1,4 @@
--- The trace of a run passes the check, or the check names the row and the time that the run named. Assumes nothing.
+-- The trace of a run that is no longer than a trace passes the check, or the check names the row and the time that the run named. Assumes nothing.
 use Prim.Native.Nat.{ℕ, zero, suc, _+_, _≤_, _<_, zero-le}
 use mathlib.Core.Path.{_≡_, refl, sym, ap, _∙_, subst}
 use mathlib.Core.List.{List, [], _∷_}
@@ -23,7 +23,6 @@ use Rattle.trace.proofs.Records.{counted-if-named}
 use Rattle.dispatcher.specs.State.{quantaIn, timeOf, freshOf}
 use Rattle.dispatcher.specs.Slot.{slotOf}
 use Rattle.dispatcher.specs.Run.{Step, stepOf, Run, run, oneMore}
-use Rattle.dispatcher.proofs.Whole.{is-whole}
 use Rattle.dispatcher.proofs.Kept.{done-is-not-refused, goes, fault-answers-30}
 use Rattle.dispatcher.proofs.RunKept.{going, one-on, first-late, first-late-is-lowest, quanta-are-records}
 use Rattle.dispatcher.proofs.Written.{Written, written-going, written-last, shares-written, shares-before, ends-late}
@@ -32,10 +31,10 @@ use Rattle.checker.specs.Check.{traceSaid}
 use Rattle.checker.specs.WellFormed.{WellFormed}
 use Rattle.checker.proofs.Sound.{InTime, passes-exactly}
 use Rattle.checker.proofs.Rows.{within-was-ready, within-not-late}
-use Rattle.checker.proofs.Passes.{passes-in-shares, checked-as-table}
+use Rattle.checker.proofs.Passes.{checked-as-table}
 use Rattle.checker.proofs.Late.{late-is-said}
 use Rattle.demands.specs.RunPasses.{withSlotCount, traceOf, SaysTheSame, IsTrace, RunPasses}
-use Rattle.demands.proofs.WithCount.{slots-are, count-is, is-well-formed}
+use Rattle.demands.proofs.WithCount.{slots-are, count-is, is-well-formed, records-pass}
 
 -- What is known of a run is known of its trace, if it is of its records with the count in front.
 module _ (table : Table) (r : Run) (n : ℕ) (clock : timeOf (r .state) ≡ n) (so : Written table firstPlace n (r .bytes) (r .place)) (few : n ≤ slotLimit) where
@@ -56,38 +55,23 @@ module _ (table : Table) (steps : ℕ → Step) (buffer : List ℕ) (sound : fau
   at = run table steps buffer firstPlace
 
   -- A run of m slots that all answered 0.
-  module _ (m : ℕ) (e : at m .said .number ≡ 0) where
-    abbrev going-trace : List ℕ
-    going-trace = withSlotCount m (at m .bytes) (at m .place)
-
-    -- the time is m, and within the limit
-    going-clock : (timeOf (at m .state) ≡ m) × (m ≤ slotLimit)
-    going-clock =
-        let g = going table steps buffer firstPlace sound m e in
-        (g .clock, omega (arith, g .clock, is-whole (at m .state) (g .whole) .time))
-
-    going-written : Written table firstPlace m (at m .bytes) (at m .place)
-    going-written = written-going table steps buffer firstPlace sound starts m e
-
-    -- every row is within its share at each time, by the records of the trace
-    going-shares : (t row : ℕ) → t ≤ m → row < length (rowsOf table) → within (rowAt (rowsOf table) row) (timesNamed going-trace row t) t ≡ true
-    going-shares t row k l =
-        rw (count-is table m (at m .bytes) (at m .place) going-written (going-clock .1) row t k)
-        (shares-written table steps buffer firstPlace sound starts m e row t l k)
-
-    -- So the trace passes.
+  module _ (m : ℕ) (few : timeOf (at m .state) ≤ slotLimit) (e : at m .said .number ≡ 0) where
+    -- The time is m, and every row is within its share at each time: so the trace passes.
     passes-going : IsTrace table (at m)
     passes-going =
-        let slots = slots-are table m (at m .bytes) (at m .place) going-written (going-clock .1) in
-        let well = is-well-formed table m (at m .bytes) (at m .place) going-written (going-clock .1) in
-        trace-of-run table (at m) m (going-clock .0) going-written (going-clock .1)
+        let clock = going table steps buffer firstPlace sound m e .clock in
+        let written = written-going table steps buffer firstPlace sound starts m e in
+        let short : m ≤ slotLimit = omega (arith, few, clock) in
+        trace-of-run table (at m) m clock written short
         record {
-          passes = λ z. passes-in-shares table going-trace sound well .1 (λ t row k l. going-shares t row (omega (arith, slots)) l);
+          passes = λ z.
+              records-pass table m (at m .bytes) (at m .place) written short sound
+              (λ t row k l. shares-written table steps buffer firstPlace sound starts m e row t l k) .checked;
           late = λ z. absurd (omega (arith, e, z));
         }
 
   -- A run of m slots that answered 0, and one more that answered 1.
-  module _ (m : ℕ) (e : at m .said .number ≡ 0) (is-late : at (suc m) .said .number ≡ 1) where
+  module _ (m : ℕ) (few : timeOf (at (suc m) .state) ≤ slotLimit) (e : at m .said .number ≡ 0) (is-late : at (suc m) .said .number ≡ 1) where
     abbrev last : Run
     last = at (suc m)
 
@@ -98,7 +82,7 @@ module _ (table : Table) (steps : ℕ → Step) (buffer : List ℕ) (sound : fau
     late-clock : (timeOf (last .state) ≡ m + 1) × (m + 1 ≤ slotLimit)
     late-clock =
         let on = one-on table steps buffer firstPlace m (going table steps buffer firstPlace sound m e) e (omega (arith, is-late)) in
-        (on .2, omega (arith, on .2, is-whole (last .state) (on .0 .whole) .time))
+        (on .2, omega (arith, on .2, few))
 
     late-written : Written table firstPlace (m + 1) (last .bytes) (last .place)
     late-written = written-last table steps buffer firstPlace sound starts m e (omega (arith, is-late))
@@ -155,14 +139,14 @@ module _ (table : Table) (steps : ℕ → Step) (buffer : List ℕ) (sound : fau
 
 -- So of a table without fault, in a buffer with a place for the first record.
 run-of-sound-passes : (table : Table) (steps : ℕ → Step) (buffer : List ℕ) → faultOf table ≡ 0 → firstPlace ≤ length buffer → (m : ℕ) →
-    run table steps buffer firstPlace m .said .number < 2 → IsTrace table (run table steps buffer firstPlace m)
-run-of-sound-passes table steps buffer sound starts m h = go (run table steps buffer firstPlace m .said .number) refl h
+    run table steps buffer firstPlace m .said .number < 2 → timeOf (run table steps buffer firstPlace m .state) ≤ slotLimit → IsTrace table (run table steps buffer firstPlace m)
+run-of-sound-passes table steps buffer sound starts m h few = go (run table steps buffer firstPlace m .said .number) refl h
   where
     go : (number : ℕ) → run table steps buffer firstPlace m .said .number ≡ number → number < 2 → IsTrace table (run table steps buffer firstPlace m)
-    go zero e l = passes-going table steps buffer sound starts m e
+    go zero e l = passes-going table steps buffer sound starts m few e
     go (suc zero) e l =
         let ends = ends-late table steps buffer firstPlace m e in
-        rw (ends .same) (named-late table steps buffer sound starts (ends .slots) (ends .before) (ends .late))
+        rw (ends .same) (named-late table steps buffer sound starts (ends .slots) (rw (ends .same) at few) (ends .before) (ends .late))
     go (suc (suc number)) e l = absurd (omega arith)
 
 -- A run of no slots has the empty trace, which passes for every table.
@@ -223,15 +207,19 @@ module _ (table : Table) (steps : ℕ → Step) (buffer : List ℕ) where
           stays zero e l = absurd (omega arith)
           stays (suc number) e l = rw e l
 
--- D5: the trace of a run passes the check, or the check names the row and the time that the run named.
-pub run-passes : RunPasses
-run-passes table steps buffer m h = go m h (ℕ-discrete (faultOf table) 0) (decLe firstPlace (length buffer))
-  where
-    refused : (m : ℕ) → (faultOf table ≡ 0 → ⊥) ⊎ (length buffer < firstPlace) → run table steps buffer firstPlace m .said .number < 2 → IsTrace table (run table steps buffer firstPlace m)
-    refused zero why l = empty-is-trace table steps buffer
-    refused (suc m) why l = absurd (omega (arith, all-refused table steps buffer (first-refused table buffer why (steps 0)) m))
+  -- So a run of which something is done has no step.
+  pub nothing-done : (faultOf table ≡ 0 → ⊥) ⊎ (length buffer < firstPlace) → (m : ℕ) → run table steps buffer firstPlace m .said .number < 2 → m ≡ 0
+  nothing-done why zero l = refl
+  nothing-done why (suc m) l = absurd (omega (arith, all-refused (first-refused table buffer why (steps 0)) m))
 
-    go : (m : ℕ) → run table steps buffer firstPlace m .said .number < 2 → Dec (faultOf table ≡ 0) → Dec (firstPlace ≤ length buffer) → IsTrace table (run table steps buffer firstPlace m)
-    go m l (yes sound) (yes starts) = run-of-sound-passes table steps buffer sound starts m l
-    go m l (no bad) starts = refused m (inl bad) l
-    go m l (yes sound) (no short) = refused m (inr (omega arith)) l
+-- The trace of a run that is no longer than a trace passes the check, or the check names the row and the time that the run named.
+pub run-passes : RunPasses
+run-passes table steps buffer m h few = go (ℕ-discrete (faultOf table) 0) (decLe firstPlace (length buffer))
+  where
+    nothing : (faultOf table ≡ 0 → ⊥) ⊎ (length buffer < firstPlace) → IsTrace table (run table steps buffer firstPlace m)
+    nothing why = rw (nothing-done table steps buffer why m h) (empty-is-trace table steps buffer)
+
+    go : Dec (faultOf table ≡ 0) → Dec (firstPlace ≤ length buffer) → IsTrace table (run table steps buffer firstPlace m)
+    go (yes sound) (yes starts) = run-of-sound-passes table steps buffer sound starts m h few
+    go (no bad) starts = nothing (inl bad)
+    go (yes sound) (no short) = nothing (inr (omega arith))

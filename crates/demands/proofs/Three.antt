@@ -33,6 +33,7 @@ use Rattle.demands.specs.Three.{PassesInLimits, FromFresh, KeepsLimits, 
 use Rattle.demands.proofs.Limits.{in-limits, upper-limit}
 use Rattle.demands.proofs.WithCount.{word-bytes-are-read}
 use Rattle.demands.proofs.RunPasses.{run-passes}
+use Rattle.demands.proofs.LongerRuns.{first-slots-pass, longer-is-refused}
 
 -- A well-formed trace passes exactly when each row is in its limits at each time: it passes as its table's trace does.
 passes-in-limits : PassesInLimits
@@ -158,4 +159,6 @@ demand-three =
       in-turn = records-stand-in-turn;
       slot-count-is-read = word-bytes-are-read;
       run-passes = run-passes;
+      first-slots-pass = first-slots-pass;
+      longer-is-refused = longer-is-refused;
     }

@@ -7,6 +7,7 @@ use native.Mathlib.Omega.{arith}
 use borrow.Author.Tests.{lt-ltb, le-ltb, eq-eqb, ne-eqb}
 use lib.ListN.{length}
 use Rattle.facts.specs.Findings.{FirstFound, NoneFound}
+use Rattle.counts.specs.Limits.{timeLimit}
 use Rattle.trace.specs.Records.{rowsAt, names}
 use Rattle.cores.specs.Sets.{size}
 use Rattle.cores.proofs.Sets.{size-within}
@@ -39,7 +40,7 @@ module _ (s : State) (k row : ℕ) where
   says : {x : Answer} → FirstFound (whyTests s k row) x → number ≡ numberOf x
   says first = sym (ap numberOf (refuses s k row first))
 
-  module _ (whole : broken s ≡ false) (runs : s .stopped ≡ false) (slot-left : timeOf s < 1_000_000_000) where
+  module _ (whole : broken s ≡ false) (runs : s .stopped ≡ false) (slot-left : timeOf s < timeLimit) where
     fits : NotBroken s
     fits = broken-exactly s .0 whole
 
@@ -49,7 +50,7 @@ module _ (s : State) (k row : ℕ) where
           let none =
           NoneFound.later whole
           (NoneFound.later runs
-          (NoneFound.later (ne-eqb (timeOf s) 1_000_000_000 (λ e. omega (arith, e, slot-left)))
+          (NoneFound.later (ne-eqb (timeOf s) timeLimit (λ e. omega (arith, e, slot-left)))
           (NoneFound.later (le-ltb (s .table .cores) k there) (NoneFound.later (ap not (lt-ltb row (length (rowsIn s)) is-row)) NoneFound.end)))) in
           let said : number ≡ 0 = sym (ap numberOf (gives-reason s k row none)) ∙ reason-is-0 s k row in
           record {
@@ -65,7 +66,7 @@ module _ (s : State) (k row : ℕ) where
           says
           (FirstFound.later whole
           (FirstFound.later runs
-          (FirstFound.later (ne-eqb (timeOf s) 1_000_000_000 (λ e. omega (arith, e, slot-left)))
+          (FirstFound.later (ne-eqb (timeOf s) timeLimit (λ e. omega (arith, e, slot-left)))
           (FirstFound.later (le-ltb (s .table .cores) k there) (FirstFound.here (ap not (le-ltb row (length (rowsIn s)) none-there))))))) in
           record {
             is-30 = neither-is (λ e. omega (arith, said, e)) (λ n. n fits);
@@ -81,7 +82,7 @@ module _ (s : State) (k row : ℕ) where
         let said : number ≡ 33 =
         says
         (FirstFound.later whole
-        (FirstFound.later runs (FirstFound.later (ne-eqb (timeOf s) 1_000_000_000 (λ e. omega (arith, e, slot-left))) (FirstFound.here (lt-ltb (s .table .cores) k above))))) in
+        (FirstFound.later runs (FirstFound.later (ne-eqb (timeOf s) timeLimit (λ e. omega (arith, e, slot-left))) (FirstFound.here (lt-ltb (s .table .cores) k above))))) in
         record {
           is-30 = neither-is (λ e. omega (arith, said, e)) (λ n. n fits);
           is-31 = neither-is (λ e. omega (arith, said, e)) (λ h. true≢false (sym (h .1) ∙ runs));
@@ -90,12 +91,12 @@ module _ (s : State) (k row : ℕ) where
           is-36 = neither-is (λ e. omega (arith, said, e)) (λ h. omega (arith, h .3, above));
         }
 
-  by-time : broken s ≡ false → s .stopped ≡ false → Dec (timeOf s < 1_000_000_000) → WhyExactly s k row number
+  by-time : broken s ≡ false → s .stopped ≡ false → Dec (timeOf s < timeLimit) → WhyExactly s k row number
   by-time whole runs (yes slot-left) = by-cores whole runs slot-left (decLt (s .table .cores) k)
   by-time whole runs (no at) =
       let fit = broken-exactly s .0 whole in
-      let limit : timeOf s ≡ 1_000_000_000 = omega (arith, fit .time) in
-      let said : number ≡ 32 = says (FirstFound.later whole (FirstFound.later runs (FirstFound.here (eq-eqb (timeOf s) 1_000_000_000 limit)))) in
+      let limit : timeOf s ≡ timeLimit = omega (arith, fit .time) in
+      let said : number ≡ 32 = says (FirstFound.later whole (FirstFound.later runs (FirstFound.here (eq-eqb (timeOf s) timeLimit limit)))) in
       record {
         is-30 = neither-is (λ e. omega (arith, said, e)) (λ n. n fit);
         is-31 = neither-is (λ e. omega (arith, said, e)) (λ h. true≢false (sym (h .1) ∙ runs));
@@ -105,7 +106,7 @@ module _ (s : State) (k row : ℕ) where
       }
 
   by-mark : broken s ≡ false → (stopped : Bool) → s .stopped ≡ stopped → WhyExactly s k row number
-  by-mark whole false runs = by-time whole runs (decLt (timeOf s) 1_000_000_000)
+  by-mark whole false runs = by-time whole runs (decLt (timeOf s) timeLimit)
   by-mark whole true stopped =
       let fit = broken-exactly s .0 whole in
       let said : number ≡ 31 = says (FirstFound.later whole (FirstFound.here stopped)) in
@@ -148,7 +149,7 @@ as-the-slot s free buffer place row done is-row = (
         let can = goes s free buffer place (done-is-not-refused s free buffer place done) in
         NoneFound.later (can .whole)
         (NoneFound.later (can .runs)
-        (NoneFound.later (ne-eqb (timeOf s) 1_000_000_000 (λ e. omega (arith, e, can .time)))
+        (NoneFound.later (ne-eqb (timeOf s) timeLimit (λ e. omega (arith, e, can .time)))
         (NoneFound.later (le-ltb (s .table .cores) (size free) (size-within (s .table .cores) free (can .there))) (NoneFound.later (ap not (lt-ltb row (length (rowsIn s)) is-row)) NoneFound.end))))
 
     so : TrueAndOnly s (size free) row (whyOf s (size free) row)

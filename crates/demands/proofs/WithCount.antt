@@ -1,7 +1,8 @@
--- Records with their count in front are a well-formed trace: they are those of the buffer, only moved. Assumes nothing.
+-- Records with their count in front are a well-formed trace: they are those of the buffer, only moved. It passes if they keep all shares. Assumes nothing.
 use Prim.Native.Nat.{ℕ, _+_, _-_, _≤_, _<_}
 use mathlib.Core.Path.{_≡_, sym, ap, _∙_}
 use mathlib.Core.List.{List, [], _++_}
+use mathlib.Core.Bool.{true}
 use native.Mathlib.Omega.{arith}
 use borrow.Author.Tests.{le-ltb}
 use lib.ListN.{length, getD, take, drop, length-append, length-drop}
@@ -9,7 +10,9 @@ use lib.Seq.{length-take-le, getD-take, getD-drop, getD-append-add}
 use Rattle.fields.specs.Fields.{bytesOf}
 use Rattle.fields.proofs.Numbers.{written-is-read, fields-are-numbers}
 use Rattle.table.specs.declared.Table.{Table}
-use Rattle.table.specs.Value.{rowsOf}
+use Rattle.table.specs.Value.{faultOf, rowsOf}
+use Rattle.pd2.specs.Share.{within}
+use Rattle.pd2.specs.Choice.{rowAt}
 use Rattle.trace.specs.Records.{freeAt, pickedAt, pastRecord, placeOf, firstPlace, slotsIn, placeIn, timesNamed, timesNamedFrom}
 use Rattle.trace.proofs.Records.{places-rise, stand-from, ends-before}
 use Rattle.trace.proofs.Agree.{Agree, place-agrees, count-agrees}
@@ -17,7 +20,9 @@ use Rattle.dispatcher.proofs.Written.{sound-there, Written}
 use Rattle.checker.specs.Causes.{slotLimit, badRows}
 use Rattle.checker.specs.WellFormed.{SoundRecord, WellFormed}
 use Rattle.checker.proofs.Sound.{listed-not-bad}
+use Rattle.checker.proofs.Passes.{passes-in-shares, checked-as-table}
 use Rattle.demands.specs.RunPasses.{WordBytesAreRead, withSlotCount}
+use Rattle.demands.specs.LongerRuns.{PassesWith}
 
 -- A number in four bytes is read as that number.
 pub word-bytes-are-read : WordBytesAreRead
@@ -90,3 +95,10 @@ module _ (table : Table) (n : ℕ) (b : List ℕ) (next : ℕ) (so : Written tab
         records = λ t l. sound-record t (omega (arith, slots-are));
         end = le-ltb (placeIn trace (slotsIn trace)) (length trace) (omega (arith, ap (placeIn trace) slots-are, place-is n (omega arith), how-long, so .place));
       }
+
+  -- It passes if every row is within its share at each time, by the records.
+  pub records-pass : faultOf table ≡ 0 →
+      ((t row : ℕ) → t ≤ n → row < length (rowsOf table) → within (rowAt (rowsOf table) row) (timesNamedFrom b firstPlace row t) t ≡ true) → PassesWith table n trace
+  records-pass sound shares =
+      let said = passes-in-shares table trace sound is-well-formed .1 (λ t row k l. rw (count-is row t (omega (arith, slots-are))) (shares t row (omega (arith, slots-are)) l)) in
+      record { slots = slots-are; well-formed = is-well-formed; checked = said; checked-by-bytes = λ bytes e same. checked-as-table table trace bytes e same ∙ said }

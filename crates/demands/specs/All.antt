@@ -17,6 +17,7 @@ use Rattle.demands.specs.HalfIsHeavy.{HalfIsHeavy}
 use Rattle.demands.specs.LongWalk.{LongWalk}
 use Rattle.demands.specs.WritingTables.{WritingTables}
 use Rattle.demands.specs.WholeCore.{WholeCore}
+use Rattle.demands.specs.ShorterSlots.{ShorterSlots}
 
 pub record All : Type 0 where
   -- "any two results allowed are equal", of every public function
@@ -50,3 +51,5 @@ pub record All : Type 0 where
   pub writing-tables : WritingTables
   -- "Such a row has windows of one slot, b = 0, and D = d": until a row is late, one with e = p has a core in every slot
   pub whole-core : WholeCore
+  -- "The time limit rises to 1,000,000,000,000", and a trace's slots do not
+  pub shorter-slots : ShorterSlots

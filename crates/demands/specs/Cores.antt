@@ -40,7 +40,7 @@ pub record Cores : Type 0 where
   -- "and the printer's k means the first k cores"
   pub printer : FirstCoresAreK
   -- "35 for .. a printer's k above M"
-  pub printer-35 : (s : State) (k : ℕ) → NotBroken s → s .stopped ≡ false → timeOf s < 1_000_000_000 → (askedOf s k .said .number ≡ 35) ↔ (s .table .cores < k)
+  pub printer-35 : (s : State) (k : ℕ) → NotBroken s → s .stopped ≡ false → timeOf s < 1_000_000_000_000 → (askedOf s k .said .number ≡ 35) ↔ (s .table .cores < k)
   -- "30 also for a remembered core not below M or given to two rows, or a remembered row not below n or on two cores"
   pub memory : MisremembersOrRemembers
   pub no-more : NoMoreThanCores

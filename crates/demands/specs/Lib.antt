@@ -6,6 +6,7 @@ pub mod Meanings
 pub mod One
 pub mod Two
 pub mod RunPasses
+pub mod LongerRuns
 pub mod Three
 pub mod Bench
 pub mod Law
@@ -29,4 +30,5 @@ pub mod HalfIsHeavy
 pub mod LongWalk
 pub mod WritingTables
 pub mod WholeCore
+pub mod ShorterSlots
 pub mod All

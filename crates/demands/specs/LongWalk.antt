@@ -21,5 +21,5 @@ pub record LongWalk : Type 0 where
   pub one-answer : OneAnswer
   -- "A row of 65,534 in 65,535 makes the group deadline walk a whole job": from its first subtask over 65,534 windows;
   pub whole-job : windowReply 65_534 65_535 0 1 ≡ record { number = 0; r = 0; d = 2; b = 1; D = 65_535 }
-  -- and, with the largest phase, from the last subtask that may be asked for over 48,840.
-  pub last-subtask : windowReply 65_534 65_535 65_535 1_000_000_001 ≡ record { number = 0; r = 1_000_080_794; d = 1_000_080_796; b = 1; D = 1_000_129_635 }
+  -- and, with the largest phase, from the last subtask that may be asked for over 17,170.
+  pub last-subtask : windowReply 65_534 65_535 65_535 1_000_000_000_001 ≡ record { number = 0; r = 1_000_015_324_789; d = 1_000_015_324_791; b = 1; D = 1_000_015_341_960 }

@@ -36,7 +36,7 @@ use Rattle.checker.specs.Check.{traceFindings, checkOf}
 use Rattle.demands.specs.Limits.{InLimits}
 
 -- "with one of the refusals in document 01, given exactly when that paper says", of a window: 50 exactly if e = 0, e is above p (02, Six), or i is not in 1
--- to 1,000,000,001, and else the window;
+-- to 1,000,000,000,001 (02, Seven), and else the window;
 pub record Windows : Type 0 where
   pub answered : WindowsAreAnswered
   -- "Then the next start is d - b."
@@ -46,15 +46,15 @@ pub record Windows : Type 0 where
   pub light : LightHasNone
 
 -- of the questions about one row that our own functions answer and 01 does not name (`windows::next_due` and its like, `pd2::ready`, `late`, `within`): they say `Unanswered` to
--- wild numbers, but never within 01's limits and one past them. A time of the next subtask (`of` is `start`, `jobStart` or
+-- wild numbers, but never within the limits of 01 and of 02, Seven, and one past them. A time of the next subtask (`of` is `start`, `jobStart` or
 -- `groupDeadline`), or its deadline and bit, is that of subtask q + 1;
 pub record NextIs (e p f q : ℕ) : Type 0 where
   pub time : (of : ℕ → ℕ → ℕ → ℕ → ℕ) → next of e p f q ≡ moment.At (record { 0 = of e p f (q + 1) })
   pub due : nextDue e p f q ≡ due.By (record { 0 = deadline e p f (q + 1) }) (bit e p (q + 1))
 
 pub record Questions : Type 0 where
-  pub row : (row : Row) (q t : ℕ) → 0 < row .cost → row .cost ≤ row .period → q ≤ 1_000_000_001 → t ≤ 1_000_000_001 → answered row q t ≡ true
-  pub next-is : (e p f q : ℕ) → 0 < e → e ≤ p → f ≤ 65_535 → q ≤ 1_000_000_001 → NextIs e p f q
+  pub row : (row : Row) (q t : ℕ) → 0 < row .cost → row .cost ≤ row .period → q ≤ 1_000_000_000_001 → t ≤ 1_000_000_000_001 → answered row q t ≡ true
+  pub next-is : (e p f q : ℕ) → 0 < e → e ≤ p → f ≤ 65_535 → q ≤ 1_000_000_000_001 → NextIs e p f q
 
 -- of a table: 10 to 22, each exactly if its cause is the first met, and 0 exactly if none is. With 0 the table that the bytes hold is handed back;
 -- "a table that is taken has 0 in every place past n and past M". "A table refusal yields no table";
@@ -72,10 +72,10 @@ pub record Tables : Type 0 where
       reading bytes .table ≡ record { cycle = 0; cores = 0; boards = replicate 8 0; n = 0; rows = replicate 32 (record { tank = 0; cost = 0; period = 0; phase = 0; kind = 0 }) }
 
 -- "A state is broken (30) if its table has a fault 12 to 20 or 22, if time is above 1,000,000,000, if a row's quanta exceed time, or if it is not stopped and
--- some row is outside its share at its time": what a state is that is not broken.
+-- some row is outside its share at its time", with the limit of Seven, "30, 32 and 50 use the new limit" (02): what a state is that is not broken.
 pub record NotBroken (s : State) : Type 0 where
   pub table : faultOf (s .table) ≡ 0
-  pub time : timeOf s ≤ 1_000_000_000
+  pub time : timeOf s ≤ 1_000_000_000_000
   pub quanta : (i : ℕ) → i < length (rowsIn s) → quantaAt (quantaIn s) i ≤ timeOf s
   pub shares : s .stopped ≡ false → (i : ℕ) → i < length (rowsIn s) → InLimits (rowAt (rowsIn s) i) (quantaAt (quantaIn s) i) (timeOf s)
   -- "30 also for a remembered core not below M or given to two rows, or a remembered row not below n or on two cores" (02, One); there are eight places.
@@ -93,11 +93,11 @@ BrokenExactly = (s : State) → (broken s ≡ false) ↔ NotBroken s
 pub record SlotExactly (s : State) (free : List Bool) (buffer : List ℕ) (place number : ℕ) : Type 0 where
   pub is-30 : (number ≡ 30) ↔ (NotBroken s → ⊥)
   pub is-31 : (number ≡ 31) ↔ (NotBroken s × (s .stopped ≡ true))
-  pub is-32 : (number ≡ 32) ↔ (NotBroken s × (s .stopped ≡ false) × (timeOf s ≡ 1_000_000_000))
+  pub is-32 : (number ≡ 32) ↔ (NotBroken s × (s .stopped ≡ false) × (timeOf s ≡ 1_000_000_000_000))
   pub is-35 : (number ≡ 35)
-      ↔ (NotBroken s × (s .stopped ≡ false) × (timeOf s < 1_000_000_000) × ((core : ℕ) × (getD free core false ≡ true) × (s .table .cores ≤ core)))
+      ↔ (NotBroken s × (s .stopped ≡ false) × (timeOf s < 1_000_000_000_000) × ((core : ℕ) × (getD free core false ≡ true) × (s .table .cores ≤ core)))
   pub is-34 : (number ≡ 34)
-      ↔ (NotBroken s × (s .stopped ≡ false) × (timeOf s < 1_000_000_000) × ((core : ℕ) → getD free core false ≡ true → core < s .table .cores)
+      ↔ (NotBroken s × (s .stopped ≡ false) × (timeOf s < 1_000_000_000_000) × ((core : ℕ) → getD free core false ≡ true → core < s .table .cores)
       × (length buffer < place + 2 + length (pd2Picks (rowsIn s) (quantaIn s) (timeOf s) (size free))))
 
 -- of a slot: 30 to 32, 35 and 34, each exactly if 01 and 02 say so. A fresh state of a table with a fault is answered 30. "Places past row n, and board

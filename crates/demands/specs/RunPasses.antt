@@ -1,4 +1,5 @@
--- The trace of a run passes the check, or the check names the row and the time that the run named.
+-- The trace of a run passes the check, or the check names the row and the time that the run named. (A run may be longer than a
+-- trace: specs/LongerRuns.antt.)
 use Prim.Native.Nat.{ℕ, _^_, _≤_, _<_}
 use mathlib.Core.Path.{_≡_}
 use mathlib.Core.List.{List, _++_}
@@ -41,10 +42,10 @@ pub record IsTrace (table : Table) (r : Run) : Type 0 where
   pub checked : SaysTheSame (r .said) (traceSaid table (traceOf r))
   pub checked-by-bytes : (bytes : List ℕ) → tableNumber bytes ≡ 0 → tableIn bytes ≡ table → SaysTheSame (r .said) (checkOf bytes (traceOf r))
 
--- The records of a run whose last answer is 0 or 1, with their count in front, are a well-formed trace, within the trace's limit; the checker passes it,
--- or answers 45 with the same row and time as the run's 1.
+-- "Each trace still covers at most 1,000,000,000 slots from slot 0" (02, Seven): the records of a run whose last answer is 0 or 1, if they are no more than that, with their
+-- count in front are a well-formed trace; the checker passes it, or answers 45 with the same row and time as the run's 1.
 abbrev pub RunPasses : Type 0
 RunPasses =
     (table : Table) (steps : ℕ → Step) (buffer : List ℕ) (m : ℕ) →
     let r = run table steps buffer firstPlace m in
-    r .said .number < 2 → IsTrace table r
+    r .said .number < 2 → timeOf (r .state) ≤ slotLimit → IsTrace table r

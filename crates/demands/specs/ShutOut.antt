@@ -1,5 +1,6 @@
 -- What must be shut out (01, "What the statements must say"): no function that keeps the promise is so. A function is asked to keep its promise, and is
 -- said to be wrong, only on what it can be called with (specs/Inputs.antt): so one that is wrong on all of that is shut out, whatever it does elsewhere.
+-- (Those that mistake a limit stand in specs/ShorterSlots.antt.)
 use Prim.Native.Nat.{ℕ, _+_, _-_, _*_, _/_, _≤_, _<_}
 use mathlib.Core.Path.{_≡_}
 use mathlib.Core.List.{List, []}

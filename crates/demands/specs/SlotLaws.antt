@@ -1,11 +1,13 @@
--- Laws of a slot (01, "What comes back", "Share"; 02, One, for 35): part of specs/Laws.antt.
+-- Laws of a slot (01, "What comes back", "Share"; 02, One, for 35, and Seven, for the time limit): part of specs/Laws.antt.
 use mathlib.Core.List.{List, [], _∷_, _++_}
 use mathlib.Core.Bool.{true, false}
 use lib.ListN.{replicate}
 use Rattle.table.specs.declared.Row.{Row}
 use Rattle.table.specs.declared.Table.{Table}
+use Rattle.table.specs.Bytes.{tableIn}
+use Rattle.table.specs.Example.{example}
 use Rattle.trace.specs.Said.{bare, named}
-use Rattle.demands.specs.Bench.{plainRow, earlyRelease, box}
+use Rattle.demands.specs.Bench.{plainRow, earlyRelease, box, threeCores}
 use Rattle.demands.specs.Law.{Law, slot, leaves}
 use Rattle.demands.specs.LawInputs.{risingRows, stateOf, halfAndThird, cameraAndOther, noRows}
 
@@ -90,11 +92,24 @@ slotLaws =
     ∷ slot (stateOf (box 6 1 (plainRow 0 2 3 ∷ plainRow 1 1 2 ∷ [])) 1 false (1 ∷ [])) 1 9 0 (bare 30)
     ∷ slot (stateOf (box 6 2 (plainRow 0 4 3 ∷ [])) 0 false []) 1 9 0 (bare 30)
     ∷ slot (stateOf (box 6 2 (plainRow 0 3 3 ∷ [])) 0 false []) 1 9 0 (bare 0)
-    -- "if time is above 1,000,000,000", and 32, "time is already 1,000,000,000"
-    ∷ slot (stateOf noRows 1_000_000_001 false []) 1 9 0 (bare 30)
-    ∷ slot (stateOf noRows 1_000_000_001 true []) 1 9 0 (bare 30)
-    ∷ slot (stateOf noRows 1_000_000_000 false []) 1 9 0 (bare 32)
-    ∷ slot (stateOf noRows 999_999_999 false []) 1 9 0 (bare 0)
+    -- "if time is above 1,000,000,000", and 32, "time is already 1,000,000,000", with the limit of Seven, 1,000,000,000,000 (02): also with quanta that fit
+    ∷ slot (stateOf noRows 1_000_000_000_001 false []) 1 9 0 (bare 30)
+    ∷ slot (stateOf noRows 1_000_000_000_001 true []) 1 9 0 (bare 30)
+    ∷ slot (stateOf noRows 1_000_000_000_000 false []) 1 9 0 (bare 32)
+    ∷ slot (stateOf noRows 999_999_999_999 false []) 1 9 0 (bare 0)
+    ∷ slot (stateOf halfAndThird 1_000_000_000_001 false (500_000_000_000 ∷ 333_333_333_334 ∷ [])) 2 9 0 (bare 30)
+    ∷ slot (stateOf halfAndThird 1_000_000_000_000 false (500_000_000_000 ∷ 333_333_333_334 ∷ [])) 2 9 0 (bare 32)
+    ∷ leaves (stateOf halfAndThird 999_999_999_999 false (499_999_999_999 ∷ 333_333_333_333 ∷ [])) 2 4 0 (2 ∷ 2 ∷ 0 ∷ 1 ∷ []) 1_000_000_000_000 false (500_000_000_000 ∷ 333_333_333_334 ∷ [])
+    -- in the last slots a row is late, or goes first by its deadline, by its group deadline, or by its number, as in any
+    ∷ slot (stateOf halfAndThird 999_999_999_999 false (499_999_999_999 ∷ 333_333_333_333 ∷ [])) 0 9 0 (named 1 0 1_000_000_000_000)
+    ∷ leaves (stateOf halfAndThird 999_999_999_999 false (499_999_999_999 ∷ 333_333_333_333 ∷ [])) 1 3 0 (1 ∷ 1 ∷ 0 ∷ []) 1_000_000_000_000 false (500_000_000_000 ∷ 333_333_333_333 ∷ [])
+    ∷ leaves (stateOf threeCores 999_999_999_996 false (666_666_666_664 ∷ 666_666_666_664 ∷ 749_999_999_997 ∷ [])) 1 3 0 (1 ∷ 1 ∷ 2 ∷ []) 999_999_999_997 false (666_666_666_664 ∷ 666_666_666_664 ∷ 749_999_999_998 ∷ [])
+    ∷ leaves (stateOf (tableIn example) 999_999_999_999 false (666_666_666_666 ∷ 666_666_666_666 ∷ 666_666_666_666 ∷ [])) 2 4 0 (2 ∷ 2 ∷ 0 ∷ 1 ∷ []) 1_000_000_000_000 false (666_666_666_667 ∷ 666_666_666_667 ∷ 666_666_666_666 ∷ [])
+    -- "The time limit rises" (02, Seven): at the limit of 01, past it, and past 32 bits a slot is as any other
+    ∷ leaves (stateOf halfAndThird 1_000_000_000 false (500_000_000 ∷ 333_333_333 ∷ [])) 2 4 0 (2 ∷ 2 ∷ 0 ∷ 1 ∷ []) 1_000_000_001 false (500_000_001 ∷ 333_333_334 ∷ [])
+    ∷ slot (stateOf noRows 1_000_000_001 false []) 1 9 0 (bare 0)
+    ∷ slot (stateOf halfAndThird 4_294_967_295 false (2_147_483_647 ∷ 1_431_655_765 ∷ [])) 0 9 0 (named 1 0 4_294_967_296)
+    ∷ leaves (stateOf halfAndThird 4_294_967_296 false (2_147_483_648 ∷ 1_431_655_765 ∷ [])) 2 4 0 (2 ∷ 2 ∷ 0 ∷ 1 ∷ []) 4_294_967_297 false (2_147_483_649 ∷ 1_431_655_766 ∷ [])
     -- "if a row's quanta exceed time" (also of a stopped state),
     ∷ slot (stateOf (box 6 1 (earlyRelease 0 3 6 ∷ [])) 1 false (2 ∷ [])) 1 9 0 (bare 30)
     ∷ slot (stateOf (box 6 1 (earlyRelease 0 3 6 ∷ [])) 1 true (2 ∷ [])) 1 9 0 (bare 30)
@@ -133,8 +148,8 @@ slotLaws =
     ∷ leaves (stateOf halfAndThird 0 false []) 2 3 0 (99 ∷ 99 ∷ 99 ∷ []) 0 false (0 ∷ 0 ∷ [])
     -- "Order for a slot: 30, 31, 32, 33, 34", with 35 "in the place of 33": 30 and 31, 31 and 32, 32 and 35, 35 and 34; and 34 where the slot would be late
     ∷ slot (stateOf (box 0 1 []) 0 true []) 1 9 0 (bare 30)
-    ∷ slot (stateOf noRows 1_000_000_000 true []) 1 9 0 (bare 31)
-    ∷ slot (stateOf noRows 1_000_000_000 false []) 2 9 0 (bare 32)
+    ∷ slot (stateOf noRows 1_000_000_000_000 true []) 1 9 0 (bare 31)
+    ∷ slot (stateOf noRows 1_000_000_000_000 false []) 2 9 0 (bare 32)
     ∷ slot (stateOf noRows 0 false []) 2 0 1 (bare 35)
     ∷ slot (stateOf halfAndThird 2 false (1 ∷ 0 ∷ [])) 0 1 0 (bare 34)
     ∷ []

@@ -23,6 +23,7 @@ use Rattle.checker.specs.Check.{checkOf}
 use Rattle.checker.specs.WellFormed.{WellFormed}
 use Rattle.demands.specs.Limits.{sincePhase, upperLimit, InLimits}
 use Rattle.demands.specs.RunPasses.{WordBytesAreRead, RunPasses}
+use Rattle.demands.specs.LongerRuns.{FirstSlotsPass, LongerIsRefused}
 
 -- "A well-formed trace passes exactly when, at each time it covers, each row holds .."; the quanta of a row are the records that name it
 abbrev pub PassesInLimits : Type 0
@@ -64,7 +65,8 @@ ReportsLate =
     Reports (s .table) (slotOf s free buffer place .said) (slotOf s free buffer place .state)
 
 -- What the records say is what the state says, in a run: step after step into one buffer, one record behind the other. "quanta counts that do not equal the
--- records naming the row" are shut out; and the trace of a run passes the check, or the check names the row and the time that the run named.
+-- records naming the row" are shut out; and the trace of a run passes the check, or the check names the row and the time that the run named. Of a run that is longer than a trace
+-- the first slots pass.
 pub record DemandThree : Type 0 where
   pub passes : PassesInLimits
   pub keeps : KeepsLimits
@@ -73,3 +75,5 @@ pub record DemandThree : Type 0 where
   pub in-turn : (table : Table) (steps : ℕ → Step) (buffer : List ℕ) (place : ℕ) → RecordsStandInTurn table steps buffer place
   pub slot-count-is-read : WordBytesAreRead
   pub run-passes : RunPasses
+  pub first-slots-pass : FirstSlotsPass
+  pub longer-is-refused : LongerIsRefused

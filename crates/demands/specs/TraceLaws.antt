@@ -70,9 +70,10 @@ traceLaws =
     -- 46, "bytes after the last record"
     ∷ check example (exampleTrace ++ (0 ∷ [])) (bare 46)
     ∷ check halfAndThirdBytes (bytesOf 4 0 ++ (0 ∷ [])) (bare 46)
-    -- 47, "slot count above 1,000,000,000"
+    -- 47, "slot count above 1,000,000,000": "Each trace still covers at most 1,000,000,000 slots" (02, Seven)
     ∷ check halfAndThirdBytes (bytesOf 4 1_000_000_000) (bare 40)
     ∷ check halfAndThirdBytes (bytesOf 4 1_000_000_001) (bare 47)
+    ∷ check halfAndThirdBytes (bytesOf 4 4_294_967_295) (bare 47)
     -- "40 for the count, 47, and for each record 40 (its first two bytes), 41, 42, 40 (its rows), 43, 44 .., and 45 .. Last 46": 40 and 41, 41 and 42, 42 and
     -- 40, 40 and 43, 43 and 44, 44 and 45, 45 and 40 of the next record, 45 and 46
     ∷ check halfAndThirdBytes (bytesOf 4 1 ++ (3 ∷ [])) (bare 40)

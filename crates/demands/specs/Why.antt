@@ -21,10 +21,10 @@ use Rattle.demands.specs.One.{NotBroken}
 pub record WhyExactly (s : State) (k row number : ℕ) : Type 0 where
   pub is-30 : (number ≡ 30) ↔ (NotBroken s → ⊥)
   pub is-31 : (number ≡ 31) ↔ (NotBroken s × (s .stopped ≡ true))
-  pub is-32 : (number ≡ 32) ↔ (NotBroken s × (s .stopped ≡ false) × (timeOf s ≡ 1_000_000_000))
-  pub is-33 : (number ≡ 33) ↔ (NotBroken s × (s .stopped ≡ false) × (timeOf s < 1_000_000_000) × (s .table .cores < k))
+  pub is-32 : (number ≡ 32) ↔ (NotBroken s × (s .stopped ≡ false) × (timeOf s ≡ 1_000_000_000_000))
+  pub is-33 : (number ≡ 33) ↔ (NotBroken s × (s .stopped ≡ false) × (timeOf s < 1_000_000_000_000) × (s .table .cores < k))
   pub is-36 : (number ≡ 36)
-      ↔ (NotBroken s × (s .stopped ≡ false) × (timeOf s < 1_000_000_000) × (k ≤ s .table .cores) × (length (rowsIn s) ≤ row))
+      ↔ (NotBroken s × (s .stopped ≡ false) × (timeOf s < 1_000_000_000_000) × (k ≤ s .table .cores) × (length (rowsIn s) ≤ row))
 
 -- "picked" is said of exactly those rows that the slot's record names, whichever cores are free, as long as they are k of them.
 abbrev pub PickedAsTheSlotDoes : Type 0

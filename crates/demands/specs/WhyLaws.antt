@@ -68,7 +68,8 @@ whyLaws =
     ∷ explains (stateOf halfAndThird 1 false (1 ∷ 1 ∷ [])) 2 0 0 2 2 0 0
     ∷ explains (stateOf halfAndThird 1 false (1 ∷ 1 ∷ [])) 2 1 0 2 3 0 0
     ∷ explains (stateOf laterAndEarly 0 false []) 2 0 0 2 4 0 0
-    ∷ explains (stateOf seldom 999_999_999 false (15_260 ∷ [])) 1 0 0 2 1_000_064_100 0 0
+    ∷ explains (stateOf seldom 999_999_999_999 false (15_259_022 ∷ [])) 1 0 0 2 1_000_000_006_770 0 0
+    ∷ explains (stateOf seldom 1_000_000_000 false (15_260 ∷ [])) 1 0 0 2 1_000_064_100 0 0
     -- or the start of the job, of an early-release row: it is ready with it
     ∷ explains (stateOf (box 6 1 (earlyRelease 0 2 6 ∷ [])) 1 false (1 ∷ [])) 1 0 0 1 0 0 0
     ∷ explains (stateOf (box 6 1 (plainRow 0 2 6 ∷ [])) 1 false (1 ∷ [])) 1 0 0 2 3 0 0
@@ -83,7 +84,8 @@ whyLaws =
     ∷ explains (remembering (stateOf halfAndThird 0 false []) (placement (0 ∷ []) (2 ∷ []))) 1 0 30 0 0 0 0
     ∷ explains (remembering (stateOf halfAndThird 0 false []) (placement (1 ∷ []) (1 ∷ []))) 1 0 0 1 0 0 0
     ∷ explains (stateOf halfAndThird 4 true (1 ∷ 1 ∷ [])) 1 0 31 0 0 0 0
-    ∷ explains (stateOf seldom 1_000_000_000 false (15_260 ∷ [])) 1 0 32 0 0 0 0
+    ∷ explains (stateOf seldom 1_000_000_000_000 false (15_259_022 ∷ [])) 1 0 32 0 0 0 0
+    ∷ explains (stateOf seldom 1_000_000_000_001 false (15_259_022 ∷ [])) 1 0 30 0 0 0 0
     ∷ explains (stateOf halfAndThird 0 false []) 3 0 33 0 0 0 0
     ∷ explains (stateOf halfAndThird 0 false []) 255 0 33 0 0 0 0
     ∷ explains (stateOf halfAndThird 0 false []) 2 2 36 0 0 0 0
@@ -92,8 +94,8 @@ whyLaws =
     ∷ explains (stateOf wildPast 0 false (0 ∷ 77 ∷ [])) 1 1 36 0 0 0 0
     -- 30 and 31, 31 and 32, 32 and 33, 33 and 36
     ∷ explains (stateOf (box 0 1 []) 0 true []) 1 0 30 0 0 0 0
-    ∷ explains (stateOf noRows 1_000_000_000 true []) 1 0 31 0 0 0 0
-    ∷ explains (stateOf noRows 1_000_000_000 false []) 2 0 32 0 0 0 0
+    ∷ explains (stateOf noRows 1_000_000_000_000 true []) 1 0 31 0 0 0 0
+    ∷ explains (stateOf noRows 1_000_000_000_000 false []) 2 0 32 0 0 0 0
     ∷ explains (stateOf noRows 0 false []) 2 0 33 0 0 0 0
     ∷ explains (stateOf noRows 0 false []) 1 0 36 0 0 0 0
     ∷ []

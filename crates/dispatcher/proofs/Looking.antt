@@ -12,7 +12,7 @@ use Rattle.facts.proofs.Tests.{both}
 use Rattle.facts.proofs.Rounding.{ceil-between, ceil-is-near, ceil-grows}
 use Rattle.table.specs.declared.Row.{Row}
 use Rattle.pd2.specs.Ready.{originOf, isEarlyRelease, ready}
-use Rattle.counts.specs.Limits.{most}
+use Rattle.counts.specs.Limits.{most, timeLimit}
 use Rattle.pd2.specs.Order.{rankOf}
 use Rattle.pd2.specs.Share.{elapsed, lower, upper, within, CanBe}
 use Rattle.pd2.proofs.Verdicts.{lower-is}
@@ -26,8 +26,8 @@ use Rattle.dispatcher.specs.declared.Stand.the-variants.{Breaks, Waits, 
 use Rattle.dispatcher.specs.Usable.{brokenRow}
 use Rattle.dispatcher.specs.Looking.{standOf, aheadStand, CanBeReady}
 
--- Products of a number of slots, quanta or jobs and a number of the table are far from 64 bits.
-pub product-is-small : {n f : ℕ} → n ≤ 2_000_000_000 → f < 65_536 → n * f < 200_000_000_000_000
+-- Products of a number of slots, quanta or jobs, up to a period past the time limit, and a number of the table are far from 64 bits.
+pub product-is-small : {n f : ℕ} → n ≤ timeLimit + 65_536 → f < 65_536 → n * f < (timeLimit + 65_536) * 65_536
 product-is-small {n} h k = omega (arith, mul-le-mul {n₁ = n} h (le-pred-of-lt k))
 
 module _ (row : Row) (q t : ℕ) where

@@ -26,7 +26,7 @@ use Rattle.dispatcher.specs.Slot.{picksIn, recordIn}
 use Rattle.dispatcher.specs.Run.{Step, stepOf, recordBy, Run, placeBy, oneMore, run}
 use Rattle.dispatcher.specs.RunKept.{runFor}
 use Rattle.dispatcher.proofs.Placing.{picks-are-few}
-use Rattle.dispatcher.proofs.Kept.{goes, done-is-not-refused, done-makes-the-step}
+use Rattle.dispatcher.proofs.Kept.{goes, done-is-not-refused, done-makes-the-step, refusal-changes-nothing}
 use Rattle.dispatcher.proofs.RunKept.{next-run, before-too, going, place-behind, keeps-shares, quanta-are-records}
 
 -- for callers
@@ -56,6 +56,11 @@ pub record Written (table : Table) (from t : ℕ) (b : List ℕ) (next : ℕ) : 
   pub place : next ≡ placeOf b from t
   pub inside : next ≤ length b
   pub each : (j : ℕ) → j < t → SoundAt table b (placeOf b from j)
+
+-- The first n of them are sound records too.
+pub written-first : (table : Table) (from t : ℕ) (b : List ℕ) (next : ℕ) → Written table from t b next → (n : ℕ) → n ≤ t → Written table from n b (placeOf b from n)
+written-first table from t b next so n l =
+    record { place = refl; inside = omega (arith, places-rise b from n t l, so .place, so .inside); each = λ j k. so .each j (omega arith) }
 
 -- one record more
 module _ (table : Table) (from t : ℕ) (b : List ℕ) (next k : ℕ) (rows : List ℕ) (so : Written table from t b next) (room : next + length (recordOf k rows) ≤ length b) where
@@ -126,6 +131,10 @@ wrote s (Step.slot free) b place h =
       few = picks-are-few s (size free);
       same = refl;
     }
+
+-- A step that is refused leaves state and bytes as they were.
+refused-stays : (s : State) (step : Step) (b : List ℕ) (place : ℕ) → 1 < stepOf s step b place .said .number → (stepOf s step b place .state ≡ s) × (stepOf s step b place .bytes ≡ b)
+refused-stays s (Step.slot free) b place h = refusal-changes-nothing s free b place h
 
 module _ (table : Table) (steps : ℕ → Step) (buffer : List ℕ) (place : ℕ) where
   abbrev at : ℕ → Run
@@ -218,3 +227,28 @@ module _ (table : Table) (steps : ℕ → Step) (buffer : List ℕ) (place : ℕ
       go (suc n) z rest =
           let stays : at (suc m) ≡ at m = ap (λ x. oneMore x (at m) (steps m)) z in
           rw stays (rest (sym (ap (λ r. r .said .number) stays) ∙ e))
+
+  -- Whatever the last answer of a run is, its state and its bytes are those of one whose last answer is 0 or 1: a refusal changes nothing.
+  pub record ComesDone (r : Run) : Type 0 where
+    pub slots : ℕ
+    pub done : at slots .said .number < 2
+    pub state : r .state ≡ at slots .state
+    pub bytes : r .bytes ≡ at slots .bytes
+
+  pub comes-done : (m : ℕ) → ComesDone (at m)
+  unfolding run
+  comes-done zero = record { slots = 0; done = omega arith; state = refl; bytes = refl }
+  comes-done (suc m) = go (at m .said .number) refl (comes-done m)
+    where
+      next : at m .said .number ≡ 0 → Dec (at (suc m) .said .number < 2) → ComesDone (at (suc m))
+      next z (yes done) = record { slots = suc m; done = done; state = refl; bytes = refl }
+      next z (no refused) =
+          let r = at m in
+          let on = next-run table steps buffer place m z in
+          let above : 1 < at (suc m) .said .number = omega arith in
+          let same = refused-stays (r .state) (steps m) (r .bytes) (r .place) (rw on at above) in
+          record { slots = m; done = omega (arith, z); state = rw on (same .0); bytes = rw on (same .1) }
+
+      go : (n : ℕ) → at m .said .number ≡ n → ComesDone (at m) → ComesDone (at (suc m))
+      go zero z rest = next z (decLt (at (suc m) .said .number) 2)
+      go (suc n) z rest = let stays : at (suc m) ≡ at m = ap (λ x. oneMore x (at m) (steps m)) z in rw stays rest

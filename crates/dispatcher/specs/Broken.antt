@@ -35,7 +35,7 @@ abbrev pub outsideShare : ℕ → Row → ℕ → Bool
 outsideShare time row q = not (within row q time)
 
 -- "A state is broken (30) if its table has a fault 12 to 20 or 22, if time is above 1,000,000,000, if a row's quanta exceed time, or if it is
--- not stopped and some row is outside its share at its time."
+-- not stopped and some row is outside its share at its time." The time is held to the new limit: "30, 32 and 50 use the new limit" (02, Seven).
 -- "30 also for a remembered core not below M or given to two rows, or a remembered row not below n or on two cores" (02, One)
 unfoldable pub broken : State → Bool
 broken s =

@@ -26,11 +26,12 @@ abbrev pub replyOf : Answer → Reply
 replyOf (Window r d b D) = record { number = 0; r = r .0; d = d .0; b = b; D = D .0 }
 replyOf Refused = refusedReply
 
--- "i is not in 1 to 1,000,000,001": the last one is one past the time limit
+-- "the window question takes subtasks up to one past that", the time limit (02, Seven)
 abbrev pub lastSubtask : ℕ
 lastSubtask = timeLimit + 1
 
--- "It is refused if e = 0", if "e above p" (02, Six: "18 narrowed, in the table and in 50"), "or if i is not in 1 to 1,000,000,001"
+-- "It is refused if e = 0", if "e above p" (02, Six: "18 narrowed, in the table and in 50"), "or if i is not in 1 to 1,000,000,001", of which the last
+-- is higher now: "30, 32 and 50 use the new limit" (02, Seven)
 abbrev pub refused : ℕ → ℕ → ℕ → Bool
 refused e p i = eqb e 0 || ltb p e || not (leb 1 i && leb i lastSubtask)
 

@@ -2,6 +2,7 @@ use mathlib.Core.Path.{refl}
 use Prim.Native.Nat.{_+_, _-_, _*_, _/_, _≤_, _<_}
 use native.Mathlib.Nat.{mod-lt}
 use native.Mathlib.Omega.{arith}
+use Rattle.counts.specs.Limits.{timeLimit}
 use Rattle.dispatcher.proofs.Looking.{product-is-small, past-phase, owed-less, few-slots, below-period, key-of-whole, key-of-part}
 use borrow.Author.Needs.{needs}
 use Rattle.dispatcher.proofs.look.key.Statement.{statement}
@@ -19,7 +20,7 @@ cast-share c = search needs
 -- the products fit
 fits : (c : tie.After-struct-known3) →
     let a = c .before .before .before in
-    ((a .args .time - a .args .row .phase) * a .args .row .cost < 200_000_000_000_000) × (a .args .given * a .args .row .period < 200_000_000_000_000)
+    ((a .args .time - a .args .row .phase) * a .args .row .cost < (timeLimit + 65_536) * 65_536) × (a .args .given * a .args .row .period < (timeLimit + 65_536) * 65_536)
 fits c =
     let a = c .before .before .before in
     let cost : a .args .row .cost < 65_536 = search needs in
@@ -50,7 +51,7 @@ div-whole c = search needs
 -- the next quantum is due soon
 soon : (c : tie.After-struct-known3) →
     let a = c .before .before .before .args in
-    a .time + (a .given * a .row .period + a .row .period - (a .time - a .row .phase) * a .row .cost) / a .row .cost ≤ 1_000_065_536
+    a .time + (a .given * a .row .period + a .row .period - (a .time - a .row .phase) * a .row .cost) / a .row .cost ≤ timeLimit + 65_536
 soon c =
     let a = c .before .before .before in
     let period : a .args .row .period < 65_536 = search needs in

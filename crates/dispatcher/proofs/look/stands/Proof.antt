@@ -3,6 +3,7 @@ use Prim.Native.Nat.{_+_, _-_, _*_, _<_}
 use native.Mathlib.Omega.{arith}
 use borrow.Author.Tests.{eq-eqb, ne-eqb}
 use Rattle.pd2.specs.Ready.{originOf}
+use Rattle.counts.specs.Limits.{timeLimit}
 use Rattle.dispatcher.proofs.Looking.{product-is-small, past-time, before-phase, given-before-phase, owed, behind, ahead-but-ready, ahead-and-waits, ahead-and-outside, ahead-by-jobs}
 use borrow.Author.Needs.{needs}
 use Rattle.dispatcher.proofs.look.stands.Statement.{statement}
@@ -33,7 +34,7 @@ cast-period c = search needs
 -- the products fit
 fits : (c : tie.After-struct-known3) →
     let a = c .before .before .before .before .before in
-    ((a .args .time - a .args .row .phase) * a .args .row .cost < 200_000_000_000_000) × (a .args .given * a .args .row .period < 200_000_000_000_000)
+    ((a .args .time - a .args .row .phase) * a .args .row .cost < (timeLimit + 65_536) * 65_536) × (a .args .given * a .args .row .period < (timeLimit + 65_536) * 65_536)
 fits c =
     let now = c .before .before .before .before in
     let a = now .before in
