@@ -3,8 +3,9 @@
 // more moves all three on by a single division, so no window is asked for again.
 //
 // They are plain numbers in arrays of their own, so that they can be lent. Times have 32 bits here, half of what they have elsewhere, so
-// that more of them are compared at once where lateness is judged. That is enough: a trace has at most 1,000,000,000 slots, a quantum is
-// only given from its row's start on, and from there to the row's next deadline it is less than three times 2 to the 16.
+// that more of them are compared at once where lateness is judged. That is enough, wherever the time limit lies: a trace has at most
+// 1,000,000,000 slots, a quantum is only given from its row's start on, and from there to the row's next deadline it is less than three
+// times 2 to the 16.
 use counts::Slot;
 use table::Row;
 use table::Table;

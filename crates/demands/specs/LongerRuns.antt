@@ -24,7 +24,7 @@ pub record PassesWith (table : Table) (n : ℕ) (trace : List ℕ) : Type 0 wher
   pub checked : traceSaid table trace ≡ bare 0
   pub checked-by-bytes : (bytes : List ℕ) → tableNumber bytes ≡ 0 → tableIn bytes ≡ table → checkOf bytes trace ≡ bare 0
 
--- The first slots of a longer run, whatever its last answer, are a trace that passes, if they are no more than a trace covers.
+-- The first slots of a longer run, whatever its last answer, are a trace that passes, if they are no more than a trace covers: so are its first 1,000,000,000.
 abbrev pub FirstSlotsPass : Type 0
 FirstSlotsPass =
     (table : Table) (steps : ℕ → Step) (buffer : List ℕ) (m n : ℕ) →

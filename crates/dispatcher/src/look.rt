@@ -80,8 +80,7 @@ fn has_too_many(quanta: [Quanta; 32], n: usize, time: Slot) -> bool
     false
 }
 
-// Where a row stands, by its share and by what it has had, both times the period: so nothing is divided. All sums and products lie far below 64 bits, with times a
-// thousand times as long, too.
+// Where a row stands, by its share and by what it has had, both times the period: so nothing is divided. All sums and products lie far below 64 bits.
 fn stands(row: Row, given: u64, time: u64) -> Stand
     requires { ⌜ CanBe row × (time ≤ timeLimit) ⌝ }
     ensures { λ r. ⌜ r ≡ standOf (brokenRow false time row given) (ready row given time) ⌝ }
