@@ -121,11 +121,11 @@ def many(rows: int, slots: int, first: int = 0, free: int = 8) -> Picture:
 
 
 def big() -> Picture:
-    """The widest labels, and the highest slots."""
+    """The widest labels, and the highest slots that a trace can have."""
     edge = 999_999_995
     windows = [(999_999_990 + i, edge + i, edge + i + 2, 1, edge + 60_000) for i in range(8)]
     line = row(65535, "65534/65535", windows, {999_999_990 + i: edge + i for i in range(5)}, phase=65535, early=True)
-    refused = (1_000_000_000, "32, time is already 1,000,000,000")
+    refused = (1_000_000_000, "35, a set naming a core not below M, or a printer's k above M")
     return picture([line, row(0, "1/2", [], {})], 5 * [1], first=edge, end=edge + 8, cores=1, refused=refused)
 
 

@@ -34,9 +34,9 @@ def slot(state: bytes, free: int, length: int = 10) -> bytes:
 REQUESTS = {
     0: b"W" + bytes.fromhex("0800 0B00 0000 0300000000000000"),
     1: slot(state(VALUE, 1), 0),
-    30: slot(state(VALUE, 1_000_000_001), 3),
+    30: slot(state(VALUE, 1_000_000_000_001), 3),
     31: slot(state(VALUE, 1, stopped=1), 3),
-    32: slot(state(NO_ROWS, 1_000_000_000), 1),
+    32: slot(state(NO_ROWS, 1_000_000_000_000), 1),
     33: b"Y" + state(VALUE, 0) + b"\x03\x00",
     34: slot(state(VALUE, 0), 3, length=3),
     35: slot(state(VALUE, 0), 4),

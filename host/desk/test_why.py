@@ -207,7 +207,6 @@ class WithoutAnswer(unittest.TestCase):
     def test_refused_states(self) -> None:
         for number, text in [
             (30, "before slot 1 a tank had been picked more often, or less often, than its share allows"),
-            (32, "slot 1 is past the last slot of the dispatcher"),
             (33, "the record of slot 1 says that 2 cores were free, and the table has 2 cores"),
         ]:
             fake = Fake(TAKEN, check_answer(), why_answer(number))
@@ -221,7 +220,8 @@ class WithoutAnswer(unittest.TestCase):
 
     def test_what_only_another_probe_says(self) -> None:
         for answers in [
-            [why_answer(31)],  # no state is asked about that is stopped
+            [why_answer(31)],  # no state is asked about that is stopped,
+            [why_answer(32)],  # and none whose time a trace cannot have
             [why_answer(36)],
             [why_answer(0, 0), slot_answer(0, b"\2\2\0\2")],
             [why_answer(0, 5), slot_answer(0, b"\2\2\0\2")],
@@ -276,16 +276,16 @@ class Asking(unittest.TestCase):
                 f"{NOT_OURS}it has 4294967295 slots by its count, and 1000000000 is the most.",
                 f"{NOT_OURS}tank 11 was late at the start of slot 1, and there the dispatcher stops.",
                 f"{NOT_OURS}the record of slot 1 names tank 11, and the dispatcher picks tank 20.",
-                "By the dispatcher's rules tank 10 was not ready in slot 1: the first slot in which it is ready is 4294967296, past the last.",
+                "By the dispatcher's rules tank 10 was not ready in slot 1: the first slot in which it is ready is 4294967296.",
                 1,
             ],
         )
 
-    def test_a_slot_that_never_runs(self) -> None:
-        # The last slot has the number 999,999,999.
-        for first, text in [(999_999_999, "999999999."), (1_000_000_000, "1000000000, past the last.")]:
+    def test_a_slot_past_the_end_of_any_trace(self) -> None:
+        # The last slot of a trace has the number 999,999,999; the box runs on, and its slot is said like any other.
+        for first in [999_999_999, 1_000_000_000, 4_294_967_296, 999_999_999_999]:
             fake = Fake(TAKEN, check_answer(), why_answer(0, 2, first), slot_answer(0, b"\2\2\0\2"))
-            self.assertEqual(said(TABLE, TRACE, 10, 1, fake), [f"Tank 10 was not ready in slot 1: the first slot in which it is ready is {text}", 0])
+            self.assertEqual(said(TABLE, TRACE, 10, 1, fake), [f"Tank 10 was not ready in slot 1: the first slot in which it is ready is {first}.", 0])
 
     def test_a_record_with_more_tanks_than_cores(self) -> None:
         for many, names in [(8, "tanks 10, 10, 10, 10, 10, 10, 10 and 10"), (9, "9 tanks")]:

@@ -11,7 +11,7 @@ from probe import ROWS
 from words import NOT_OURS, counted
 
 COUNT, LONGEST_RECORD = 4, 2 + 0xFF  # bytes of the count, and of a record with as many rows as its field for them can say
-TRACE_LIMIT = 1_000_000_000  # the most slots of a trace; the dispatcher itself runs no slot with this number or a higher one
+TRACE_LIMIT = 1_000_000_000  # the most slots of a trace; the dispatcher itself runs on, to a time that no trace comes near
 
 
 class NoAnswer(Exception):

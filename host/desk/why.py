@@ -109,7 +109,6 @@ def refused(number: int, against: list[str], case: Case) -> str:
     has = words.counted(case.table.cores, "core")
     causes = {
         30: f"before slot {case.slot} a tank had been picked more often, or less often, than its share allows",
-        32: f"slot {case.slot} is past the last slot of the dispatcher",
         33: f"the record of slot {case.slot} says that {words.counted(case.k, 'core')} were free, and the table has {has}",
     }
     if number not in causes:
@@ -152,8 +151,7 @@ def reason(why: Why, table: Table, slot: int, k: int) -> str:
     if why.reason == PICKED:
         return f"was picked in slot {slot}"
     if why.reason == NOT_READY:
-        never = ", past the last" if why.first_slot >= TRACE_LIMIT else ""
-        return f"was not ready in slot {slot}: the first slot in which it is ready is {why.first_slot}{never}"
+        return f"was not ready in slot {slot}: the first slot in which it is ready is {why.first_slot}"
     if why.reason == NO_CORE_FREE:
         return f"was ready in slot {slot}, but no core was free"
     if why.reason == PASSED_OVER and why.rule in RULES:

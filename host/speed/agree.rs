@@ -8,7 +8,7 @@ use crate::random::Random;
 use crate::{boxes, checked, hurried, ours, plain};
 use second::slot::{fresh, slot_on, State};
 
-const SLOTS: u32 = 2_000;
+const SLOTS: u64 = 2_000;
 /// So many records of the proved code are compared too. Each needs a run from the first slot on, since only the last one is there.
 const RECORDS: usize = 100;
 const RANDOM_BOXES: usize = 30;
@@ -89,7 +89,7 @@ fn by_rust(table: &[u8], mut free: impl FnMut() -> u32) -> Result<(Vec<Entry>, S
     let mut checked = plain;
     let mut hurried = hurried::slots::State::fresh(table);
     let mut records = Vec::new();
-    while state.time < SLOTS.into() && !state.stopped {
+    while state.time < SLOTS && !state.stopped {
         let [mut by_second, mut by_plain, mut by_checked, mut by_hurried] = [[0; 10]; 4];
         let free = free();
         let (_, placed) = slot_on(&mut state, free, &mut by_second, 0);
@@ -123,7 +123,7 @@ fn by_rust(table: &[u8], mut free: impl FnMut() -> u32) -> Result<(Vec<Entry>, S
 fn by_ours(table: &[u8], k: u8, records: &[Entry]) -> Result<(), String> {
     for (number, record) in records.iter().enumerate().take(RECORDS) {
         let mut entry = [0; 10];
-        let time = ours::slots(table, k, number as u32 + 1, &mut entry);
+        let time = ours::slots(table, k, number as u64 + 1, &mut entry);
         let length = 2 + usize::from(record[1]);
         if time != number as u64 + 1 || entry[..length] != record[..length] {
             return Err(format!(

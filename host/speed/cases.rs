@@ -8,7 +8,7 @@ pub type Entry = [u8; 10];
 
 /// One of the programs that are measured: its calls.
 pub struct Program {
-    pub slots: fn(&[u8], u8, u32, &mut Entry) -> u64,
+    pub slots: fn(&[u8], u8, u64, &mut Entry) -> u64,
     pub trace_check: fn(&[u8], &[u8]) -> u8,
     pub table_check: fn(&[u8]) -> u8,
 }
@@ -42,7 +42,7 @@ pub fn program(name: &str) -> Result<Program, String> {
 }
 
 /// A case: does its work for a program and a number, and answers whether every answer was right.
-pub type Case = Box<dyn Fn(&Program, u32) -> bool>;
+pub type Case = Box<dyn Fn(&Program, u64) -> bool>;
 
 /// `trace`, `table`, or what is done with a box, and which box: `slots_BOX`, `first_BOX`, `fresh_BOX`. The number is that of checks, of tables read, of
 /// slots, of fresh states with their first slot, or of fresh states without, to be taken off. `through_worst` and `before_worst` are fresh states with
@@ -95,14 +95,12 @@ fn some_rows(name: &str) -> Option<Vec<u8>> {
 
 /// So many slots.
 fn slots(table: Vec<u8>, k: u8) -> Case {
-    Box::new(move |program, number| {
-        (program.slots)(&table, k, number, &mut [0; 10]) == number.into()
-    })
+    Box::new(move |program, number| (program.slots)(&table, k, number, &mut [0; 10]) == number)
 }
 
 /// So many times a fresh state, and so many slots of it.
-fn first_slots(table: Vec<u8>, k: u8, slots: u32) -> Case {
+fn first_slots(table: Vec<u8>, k: u8, slots: u64) -> Case {
     Box::new(move |program, number| {
-        (0..number).all(|_| (program.slots)(&table, k, slots, &mut [0; 10]) == slots.into())
+        (0..number).all(|_| (program.slots)(&table, k, slots, &mut [0; 10]) == slots)
     })
 }

@@ -33,7 +33,7 @@ pub use table::table_check;
 
 /// So many slots with the first k cores free, and the time at the end, as `zb_slots` gives it.
 #[inline(never)]
-pub fn slots(bytes: &[u8], k: u8, slots: u32, entry: &mut Entry) -> u64 {
+pub fn slots(bytes: &[u8], k: u8, slots: u64, entry: &mut Entry) -> u64 {
     let mut state = plain::slot::State::fresh(plain::table::read(bytes).unwrap_or_default());
     let free = plain::cores::first(k);
     for _ in 0..slots {

@@ -9,7 +9,7 @@ extern "C" {
         table: *const u8,
         length: usize,
         k: u8,
-        slots: u32,
+        slots: u64,
         entry: *mut u8,
         entry_length: usize,
     ) -> u64;
@@ -23,7 +23,7 @@ pub fn trace_check(table: &[u8], trace: &[u8]) -> u8 {
     unsafe { zb_trace_check(table.as_ptr(), table.len(), trace.as_ptr(), trace.len()) }
 }
 
-pub fn slots(table: &[u8], k: u8, slots: u32, entry: &mut Entry) -> u64 {
+pub fn slots(table: &[u8], k: u8, slots: u64, entry: &mut Entry) -> u64 {
     let start = entry.as_mut_ptr();
     unsafe { zb_slots(table.as_ptr(), table.len(), k, slots, start, entry.len()) }
 }

@@ -47,7 +47,7 @@ pub fn trace_check(table: &[u8], trace: &[u8]) -> u8 {
 
 /// So many slots with the first k cores free, and the time at the end, as `zb_slots` gives it.
 #[inline(never)]
-pub fn slots(bytes: &[u8], k: u8, slots: u32, entry: &mut Entry) -> u64 {
+pub fn slots(bytes: &[u8], k: u8, slots: u64, entry: &mut Entry) -> u64 {
     let mut state = State::fresh(table::read(bytes).unwrap_or_default());
     for _ in 0..slots {
         state.slot(cores::first(k), entry, 0);

@@ -19,15 +19,15 @@ use std::time::{Duration, Instant};
 /// So long the whole search may take, to a box.
 const TIME: Duration = Duration::from_secs(270);
 /// So many slots of a box are looked at, and of a changed box so many behind the worst one.
-const SLOTS: u32 = 14;
-const BEHIND: u32 = 4;
+const SLOTS: u64 = 14;
+const BEHIND: u64 = 4;
 /// So many boxes are changed in turn.
 const KEPT: usize = 6;
 
 #[derive(Clone)]
 struct Found {
     instructions: i64,
-    slot: u32,
+    slot: u64,
     candidate: Candidate,
 }
 
@@ -69,7 +69,7 @@ fn sort(found: &mut [Found]) {
     found.sort_by_key(|it| -it.instructions);
 }
 
-fn worst_slot(counter: &[&str], candidate: Candidate, slots: u32) -> Result<Found, String> {
+fn worst_slot(counter: &[&str], candidate: Candidate, slots: u64) -> Result<Found, String> {
     let counts = counted::each(counter, &candidate.table(), candidate.k, slots)?;
     let worst = counts.into_iter().zip(0..).max_by_key(|it| it.0);
     let (instructions, slot) = worst.ok_or("no slot was counted")?;

@@ -8,13 +8,13 @@
 #include "../c/zbrojomir.h"
 
 /* The crate slots_run. */
-uint64_t zb_slots(const uint8_t *table, size_t length, uint8_t k, uint32_t slots, uint8_t *entry, size_t entry_length);
+uint64_t zb_slots(const uint8_t *table, size_t length, uint8_t k, uint64_t slots, uint8_t *entry, size_t entry_length);
 
 #define LONGEST 16777216
 
 static uint8_t table[LONGEST], trace[LONGEST], entry[10], k;
 static size_t table_length, trace_length;
-static uint32_t slots;
+static uint64_t slots;
 static enum { SLOTS, TABLE_CHECK, TRACE_CHECK } asked;
 
 static inline __attribute__((always_inline)) uint64_t ask(void) {
@@ -51,7 +51,7 @@ int main(int words, char **word) {
     table_length = read_file(word[1], table);
     trace_length = read_file(word[2], trace);
     k = (uint8_t)atoi(word[3]);
-    slots = (uint32_t)atoi(word[4]);
+    slots = strtoull(word[4], NULL, 10);
     for (asked = SLOTS; asked <= TRACE_CHECK; asked++) {
         depths[asked] = depth(0);
     }

@@ -113,7 +113,7 @@ pub fn slots<F: Free>() -> Vec<Case<F>> {
     let slot = |line: &Line| match &line.parts[..] {
         [table, state, free, room, placed] if free.len() == F::WIDTH => {
             let case = Case {
-                state: state_of::<1>(table, state),
+                state: state_of(table, state),
                 free: F::read(free),
                 place: 0,
                 buffer: vec![0xEE; usize::from(room[0])],
@@ -134,7 +134,7 @@ pub fn questions() -> Vec<why::Case> {
             answer.extend(told);
             answer.resize(1 + TOLD, 0);
             Some(why::Case {
-                state: state_of::<4>(table, state),
+                state: state_of(table, state),
                 k: asked[0],
                 row: asked[1],
                 known: Some((answer, line.words.to_string())),
@@ -145,14 +145,14 @@ pub fn questions() -> Vec<why::Case> {
     lines().1.iter().filter_map(question).collect()
 }
 
-/// Time (4), stopped (1), the quanta of each row (so many bytes each), and what is remembered.
-fn state_of<const WIDTH: usize>(table: &[u8], bytes: &[u8]) -> State {
+/// Time (8), stopped (1), the quanta of each row (8 each), and what is remembered.
+fn state_of(table: &[u8], bytes: &[u8]) -> State {
     let mut state = fresh(read(table).expect("a table that is taken"));
-    let (time, rest) = bytes.split_at(4);
-    let (quanta, last) = rest[1..].split_at(WIDTH * usize::from(state.table.count));
+    let (time, rest) = bytes.split_at(u64::WIDTH);
+    let (quanta, last) = rest[1..].split_at(u64::WIDTH * usize::from(state.table.count));
     state.time = u64::read(time);
     state.stopped = bool::read(&rest[..1]);
-    for (of_row, quanta) in state.quanta.iter_mut().zip(quanta.chunks(WIDTH)) {
+    for (of_row, quanta) in state.quanta.iter_mut().zip(quanta.chunks(u64::WIDTH)) {
         *of_row = u64::read(quanta);
     }
     state.last = placement_of(last);
@@ -195,9 +195,10 @@ fn known<F: Free>(case: Case<F>, line: &Line, placed: Placement) -> Case<F> {
 }
 
 fn bytes_with(text: &str, names: &Names) -> Vec<u8> {
-    let bytes = |word: &str| match (names.get(word), word.split_once('*')) {
-        (Some(bytes), _) => bytes.clone(),
-        (_, Some((byte, times))) => bytes_of(byte).repeat(times.parse().expect("a number")),
+    let bytes = |word: &str| match (names.get(word), word.split_once('*'), word.strip_prefix("8:")) {
+        (Some(bytes), ..) => bytes.clone(),
+        (_, Some((byte, times)), _) => bytes_of(byte).repeat(times.parse().expect("a number")),
+        (_, _, Some(number)) => number.parse::<u64>().expect("a number").to_le_bytes().to_vec(),
         _ => bytes_of(word),
     };
     text.split_whitespace().flat_map(bytes).collect()

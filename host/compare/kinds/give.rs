@@ -55,6 +55,6 @@ fn wild_quanta(random: &mut Random) -> u64 {
     match random.below(4) {
         0 => low,
         1 => high,
-        _ => random.below(1_000_000_000) as u64,
+        _ => random.below(1_000_000_000_000) as u64,
     }
 }

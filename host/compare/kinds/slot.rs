@@ -174,6 +174,9 @@ fn with_room<F: Free>(random: &mut Random, state: State, k: u8) -> Case<F> {
 
 /// One that is not broken, or one of which something has another value.
 pub fn wild_state(random: &mut Random) -> State {
+    if random.one_in(40) {
+        return states::past_limit(random);
+    }
     let mut state = states::state(random);
     if random.one_in(3) {
         disturb(random, &mut state);
@@ -229,7 +232,9 @@ fn spoil_cost(random: &mut Random, state: &mut State) {
 fn other_time(random: &mut Random, time: u64) -> u64 {
     let (less, more) = (time.wrapping_sub(1), time.wrapping_add(1));
     let (last, past) = (LAST_TIME, LAST_TIME + 1);
-    random.pick(&[less, less, more, more, 0, last, past, u64::MAX])
+    // right in its low 4 bytes alone
+    let high = time.wrapping_add(1 << 32);
+    random.pick(&[less, less, more, more, 0, last, past, high, u64::MAX])
 }
 
 fn disturb_quanta(random: &mut Random, state: &mut State) {

@@ -13,7 +13,10 @@ pub struct Case<const BY_WALK: bool> {
     i: u64,
 }
 
-const LAST: u64 = 1_000_000_001;
+const LAST: u64 = 1_000_000_000_001;
+
+/// The last one before 02, Seven.
+const LAST_OF_01: u64 = 1_000_000_001;
 
 impl<const BY_WALK: bool> Kind for Case<BY_WALK> {
     /// The last i is refused by all of its 8 bytes, and would not be by the lower 4 of them.
@@ -23,8 +26,9 @@ impl<const BY_WALK: bool> Kind for Case<BY_WALK> {
         "bit (1 in 15): 0 | 1",
         "of a heavy row with bit 1, phase (1 in 15): 0 | above 0",
         "of a heavy row, slots from d to D (1 in 500): 0 | 1 to 9 | 10 to 999 | 1,000 or more",
-        "of a right row, i (1 in 300): 0 | 1,000,000,001 | 1,000,000,002 | \
-         right in its low 4 bytes alone",
+        "of a right row, i (1 in 300): 0 | 1,000,000,001 | 1,000,000,002 | 2^32 | \
+         1,000,000,000,001 | 1,000,000,000,002 | right in its low 4 bytes alone",
+        "answered with i (1 in 50): below 2^32 | 2^32 or more",
     ];
 
     fn wild(random: &mut Random) -> Self {
@@ -66,6 +70,7 @@ impl<const BY_WALK: bool> Kind for Case<BY_WALK> {
             let found = window(e, p, f, i);
             tally.saw("weight", weight::name(e, p));
             tally.saw("bit", found.bit);
+            tally.saw_each("answered with i", [i < 1 << 32, i >= 1 << 32]);
             if heavy(e, p) {
                 let phase = if f == 0 { "0" } else { "above 0" };
                 tally.saw_if(found.bit == 1, "of a heavy row with bit 1, phase", phase);
@@ -76,9 +81,11 @@ impl<const BY_WALK: bool> Kind for Case<BY_WALK> {
             }
         }
         let low = u64::from(i as u32);
-        let low_right = i != low && (1..=LAST).contains(&low);
+        let low_right = i > LAST && low > 0;
         if 0 < e && e <= p {
-            let met = [i == 0, i == LAST, i == LAST + 1, low_right];
+            let ends = [LAST_OF_01, LAST_OF_01 + 1, 1 << 32, LAST, LAST + 1];
+            let [old, past_old, wide, last, past] = ends.map(|end| i == end);
+            let met = [i == 0, old, past_old, wide, last, past, low_right];
             tally.saw_each("of a right row, i", met);
         }
     }
@@ -104,12 +111,14 @@ fn subtask(random: &mut Random, e: u16) -> u64 {
     let job = u64::from(e);
     let jobs = random.below(4) as u64;
     let any = random.between(1, LAST as usize) as u64;
-    let high = random.pick(&[1, 2, 1 << 31, u64::from(u32::MAX)]) << 32;
-    match random.below(8) {
-        0 => random.pick(&[0, LAST + 1, 1 << 32, u64::MAX, high + any, high + 1]),
+    let low = random.between(1, u32::MAX as usize) as u64;
+    let high = random.pick(&[1 << 9, 1 << 31, u64::from(u32::MAX)]) << 32;
+    match random.below(10) {
+        0 => random.pick(&[0, LAST + 1, u64::MAX, high + low, high + 1]),
         1 => random.pick(&[1, LAST - 1, LAST]),
-        2 => any,
-        3 => jobs * job + random.pick(&[0, 1]),
+        2 => random.pick(&[LAST_OF_01, LAST_OF_01 + 1, 1 << 32, (1 << 32) + low]),
+        3 => any,
+        4 => jobs * job + random.pick(&[0, 1]),
         _ => jobs * job + random.between(1, usize::from(e).max(1)) as u64,
     }
 }

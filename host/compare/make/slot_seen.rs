@@ -2,6 +2,7 @@
 
 use crate::kinds::slot::{Case, Free};
 use crate::make::cores_seen;
+use crate::make::states::LIMIT_OF_01;
 use crate::make::whole_core::is_whole;
 use crate::tally::{Group, Tally};
 use second::share::inside;
@@ -15,15 +16,22 @@ pub const CAUSES_OF_30: Group = "the only cause of 30 (1 in 2000): \
     core M | a core above M | a core of two rows | row n | a row above n | a row on two cores | \
     a row and its core twice | a count above 8";
 
+/// Rows inside their shares, and a memory without a fault; with 30 the time is the only cause.
+pub const LIMIT: Group = "answered at the time limit (1 in 150): \
+    0 or 1 in the last slot | 32 | 30 one past it";
+
 /// With what is counted of the way in which the free cores are told.
-pub const fn groups(free: Group) -> [Group; 18] {
+pub const fn groups(free: Group) -> [Group; 20] {
     [
         "answer (1 in 100): 0 | 1 | 30..32 | 34..35",
         CAUSES_OF_30,
         "decided by (1 in 150): deadline | bit | group deadline | row number",
         "picked (1 in 50): plain | early release | phase above 0",
         "a row with e = p (1 in 150): picked | late | ready, and one with b = 1 is picked",
-        "done at a time (1 in 60): below 1,000 | above 900,000,000",
+        "done at a time (1 in 60): below 1,000 | above 900,000,000,000",
+        "done at a time of (1 in 250): 999,999,999 | 1,000,000,000 | 1,000,000,001 | \
+         2^32 - 1 | 2^32 | 2^32 + 1",
+        LIMIT,
         "done with (1 in 100): k of 0 | M of 8 | n of 32 | a row not yet begun",
         "late row (1 in 200): above 0 | 31",
         "refused by a place (1 in 500): right in its low 4 bytes alone",
@@ -48,6 +56,7 @@ pub fn count<F: Free>(case: &Case<F>, answer: &[u8], tally: &mut Tally) {
         count_done(case, tally);
     }
     count_cause_of_30(&case.state, number, tally);
+    count_limit(&case.state, number, tally);
     let low_right = number == 34 && low_place_right(case);
     tally.saw_each("refused by a place", [low_right]);
     let late = |met| number == 1 && met;
@@ -62,6 +71,17 @@ pub fn count_cause_of_30(state: &State, number: u8, tally: &mut Tally) {
     if let (30, Some(cause)) = (number, only_cause(state)) {
         tally.saw("the only cause of 30", cause);
     }
+}
+
+/// Where the time limit is met, with an answer of this number.
+pub fn count_limit(state: &State, number: u8, tally: &mut Tally) {
+    let past = number == 30 && state.time == LAST_TIME + 1;
+    let met = [
+        number <= 1 && state.time == LAST_TIME - 1,
+        number == 32,
+        past && only_cause(state).is_some(),
+    ];
+    tally.saw_each("answered at the time limit", met);
 }
 
 /// The name of the cause for which a state is broken, if there is one alone: a slot answers 30 for each, so a cause shows only without another.
@@ -95,8 +115,11 @@ fn count_done<F: Free>(case: &Case<F>, tally: &mut Tally) {
         has(|row| row.phase > 0),
     ];
     tally.saw_each("picked", met);
-    let (early, late) = (state.time < 1_000, state.time > 900_000_000);
+    let (early, late) = (state.time < 1_000, state.time > 900_000_000_000);
     tally.saw_each("done at a time", [early, late]);
+    let (old, wide) = (LIMIT_OF_01, 1 << 32);
+    let times = [old - 1, old, old + 1, wide - 1, wide, wide + 1];
+    tally.saw_each("done at a time of", times.map(|time| state.time == time));
     let begins_later = |row: &Row| state.time < u64::from(row.phase);
     let met = [
         k == 0,

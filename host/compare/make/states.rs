@@ -9,6 +9,9 @@ use second::table::{write, Row, Table};
 
 const MOST_SLOTS: usize = 40;
 
+/// The time limit before 02, Seven.
+pub const LIMIT_OF_01: u64 = 1_000_000_000;
+
 pub fn state(random: &mut Random) -> State {
     let table = table(random);
     let mut state = match random.below(3) {
@@ -24,6 +27,12 @@ pub fn state(random: &mut Random) -> State {
         fill_unused(random, &mut state);
     }
     state
+}
+
+/// One that is broken by its time alone, in which every row is inside its share.
+pub fn past_limit(random: &mut Random) -> State {
+    let table = table(random);
+    inside_shares(random, table, LAST_TIME + 1)
 }
 
 /// A table without a fault.
@@ -57,16 +66,18 @@ pub fn inside_shares(random: &mut Random, table: Table, time: u64) -> State {
     state
 }
 
-/// Early, just past the largest phase, late, at the very end; often where jobs begin.
+/// Early, just past the largest phase, where 01 had its limit, where 32 bits end, late, at the very end; often where jobs begin.
 fn time(random: &mut Random, cycle: u64) -> u64 {
     let any = random.below(LAST_TIME as usize) as u64;
-    match random.below(12) {
+    match random.below(14) {
         0 => LAST_TIME,
         1 | 2 => LAST_TIME - random.between(1, 4) as u64,
         3 => any,
         4 | 5 => any / cycle * cycle,
         6 => 65_535 + random.below(120) as u64,
         7 => random.pick(&[1, 2, 3]) * cycle,
+        8 => LIMIT_OF_01 - 1 + random.below(3) as u64,
+        9 => (1 << 32) - 1 + random.below(3) as u64,
         _ => random.below(120) as u64,
     }
 }

@@ -1,16 +1,17 @@
 //! What is met in questions why a row waits.
 
 use crate::kinds::why::Case;
-use crate::make::slot_seen::{count_cause_of_30, rule_name, CAUSES_OF_30};
+use crate::make::slot_seen::{count_cause_of_30, count_limit, rule_name, CAUSES_OF_30, LIMIT};
 use crate::make::whole_core::is_whole;
 use crate::tally::{Group, Tally};
 use second::slot::{broken, ready, ready_rows, rule_between, Next, Rule, LAST_TIME};
 use second::table::Row;
 use second::why::{why, Reason};
 
-pub const GROUPS: [Group; 18] = [
+pub const GROUPS: [Group; 19] = [
     "answer (1 in 80): 0 | 30..33 | 36",
     CAUSES_OF_30,
+    LIMIT,
     "refused, and there is cause for another (1 in 2000): 30 before 31 | 30 before 32 | \
      30 before 33 | 30 before 36 | 31 before 32 | 31 before 33 | 31 before 36 | 32 before 33 | \
      32 before 36 | 33 before 36",
@@ -19,7 +20,7 @@ pub const GROUPS: [Group; 18] = [
     "36 with (1 in 500): n of 0 | n of 32 | something at the row's place",
     "reason (1 in 50): picked | not ready | no core free | passed over",
     "asked about a row with e = p (1 in 200): picked | not ready | no core free | passed over",
-    "answered with (1 in 250): row 31 | k of M | k of 8 | time above 900,000,000",
+    "answered with (1 in 250): row 31 | k of M | k of 8 | time above 900,000,000,000",
     "k of 0, and the row is (1 in 150): ready | not ready",
     "not ready (1 in 80): plain | early release | before its phase | after a phase above 0",
     "first slot (1 in 1000): the next | a later one | the time limit | past the time limit",
@@ -48,6 +49,7 @@ fn count_refused(case: &Case, number: u8, tally: &mut Tally) {
     let (state, table) = (&case.state, &case.state.table);
     tally.saw("answer", number);
     count_cause_of_30(state, number, tally);
+    count_limit(state, number, tally);
     let causes = [
         (30, broken(state)),
         (31, state.stopped),
@@ -82,9 +84,15 @@ fn count_answered(case: &Case, reason: Reason, tally: &mut Tally) {
     let number = usize::from(case.row);
     let (row, quanta) = (&state.table.rows[number], state.quanta[number]);
     tally.saw("answer", 0);
+    count_limit(state, 0, tally);
     tally.saw("reason", name(reason));
     tally.saw_if(is_whole(row), "asked about a row with e = p", name(reason));
-    let met = [case.row == 31, k == cores, k == 8, state.time > 900_000_000];
+    let met = [
+        case.row == 31,
+        k == cores,
+        k == 8,
+        state.time > 900_000_000_000,
+    ];
     tally.saw_each("answered with", met);
     let is_ready = ready(row, quanta, state.time);
     let none_free = [k == 0 && is_ready, k == 0 && !is_ready];

@@ -9,8 +9,13 @@ use crate::share;
 use crate::slot::{self, Answer};
 use crate::table::{self, Table};
 
-/// The most slots a trace may count.
-const MOST_SLOTS: u64 = 1_000_000_000;
+/// The most slots a trace may count: the same as ever, though states go on. 02, Seven: "Each trace
+/// still covers at most 1,000,000,000 slots from slot 0." slip: the time limit of a state
+const MOST_SLOTS: u64 = if cfg!(slip = "one_limit_for_both") {
+    slot::LAST_TIME
+} else {
+    1_000_000_000
+};
 
 /// The slot count and the bytes after it, or 40 or 47.
 fn read_count(trace: &[u8]) -> Result<(u64, &[u8]), u8> {
@@ -216,6 +221,30 @@ mod tests {
         assert_eq!(example(1_000_000_000, &[]), named(40, 0, 0));
         assert_eq!(example(1_000_000_001, &[]), named(47, 0, 0));
         assert_eq!(example(u32::MAX, &[2, 2, 0, 1]), named(47, 0, 0));
+    }
+
+    #[test]
+    fn a_trace_still_covers_at_most_1_000_000_000_slots() {
+        // 02, Seven: no record is there, or one that is wrong by itself
+        for records in [&[][..], &[2], &[2, 2, 0]] {
+            assert_eq!(example(1_000_000_000, records), named(40, 0, 0));
+        }
+        assert_eq!(example(1_000_000_000, &[3, 0]), named(41, 0, 0));
+        assert_eq!(example(1_000_000_000, &[2, 3]), named(42, 0, 0));
+        assert_eq!(example(1_000_000_000, &[2, 1, 3]), named(43, 0, 0));
+        assert_eq!(example(1_000_000_000, &[0, 0, 0, 0]), named(45, 0, 2));
+        // one slot more, and the most that four bytes can say: 47 before all these
+        for count in [1_000_000_001, 1_000_000_002, 3_567_587_328, u32::MAX] {
+            for records in [&[][..], &[2], &[3, 0], &[2, 3], &[2, 1, 3], &[0, 0, 0, 0]] {
+                assert_eq!(example(count, records), named(47, 0, 0));
+            }
+        }
+        // but after the table
+        let trace = 1_000_000_001u32.to_le_bytes();
+        assert_eq!(check(&EXAMPLE[..35], &trace), named(10, 0, 0));
+        assert_eq!(check(&EXAMPLE, &trace), named(47, 0, 0));
+        assert!(!well_formed(&EXAMPLE, &trace));
+        assert!(!within_shares(&EXAMPLE, &trace));
     }
 
     #[test]

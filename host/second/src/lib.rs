@@ -1,14 +1,20 @@
-//! A real-time dispatcher after the paper "Exact scope and rules", called 01 below, and after six
+//! A real-time dispatcher after the paper "Exact scope and rules", called 01 below, and after seven
 //! requests of the paper "More requests from customers": "A core for each picked row", called
 //! 02, One, "Why did tank 14 wait?", called 02, Two, "Half is heavy", called 02, Three, "The long
-//! walk", called 02, Four, "Writing tables", called 02, Five, and "Whole-core rows", called
-//! 02, Six. Where One, Three and Six change 01, they are followed; Two asks of the slot that is
-//! about to run and changes nothing; Four finds the group deadline by a formula and changes no
-//! answer; Five writes the tables that 01 reads and changes nothing else.
+//! walk", called 02, Four, "Writing tables", called 02, Five, "Whole-core rows", called 02, Six,
+//! and "Shorter slots", called 02, Seven. Where One, Three, Six and Seven change 01, they are
+//! followed; Two asks of the slot that is about to run and changes nothing; Four finds the group
+//! deadline by a formula and changes no answer; Five writes the tables that 01 reads and changes
+//! nothing else.
 //!
 //! Six lets a row have e = p, in a table, in a state and in a window asked for alone: "From then on
 //! 18 means e above p", and 50 likewise. Such a row has windows of one slot, b = 0 and D = d, and
 //! the formula of Four is not asked there. All else, the order, the shares, the sum, is as it was.
+//!
+//! Seven lets a state go on to time 1,000,000,000,000, and windows be asked for alone up to subtask
+//! 1,000,000,000,001, "one past that": "30, 32 and 50 use the new limit." The slot count of a trace
+//! and 47 stay: "Each trace still covers at most 1,000,000,000 slots from slot 0." That slots are
+//! shorter changes nothing else, since nothing here says how long one is.
 //!
 //! One module for each part of 01, and one for each of One, Two and Five; the papers' words stand
 //! in the comments beside the code that follows them, and their numbers stand in the code as they
@@ -40,8 +46,10 @@
 //! 02, Four: the first of these shows in `windows::window` and in the order, where D is found by
 //! the formula, the other in `windows::window_by_walk` and `questions::next_window`, where it is
 //! found by the walk. The next three are of 02, Five, and show in `writing::write_table` alone. The
-//! last three are of 02, Six, and show with e = p alone: the first wherever a table or a state is
-//! judged, the second in both windows asked for alone, the third in `windows::window`.
+//! next three are of 02, Six, and show with e = p alone: the first wherever a table or a state is
+//! judged, the second in both windows asked for alone, the third in `windows::window`. The last
+//! four are of 02, Seven: the first and the last show in a slot and in `why::why`, the second in
+//! both windows asked for alone, the third where a trace is judged.
 //!
 //! | name | place | the mistake |
 //! |---|---|---|
@@ -75,6 +83,10 @@
 //! | `whole_core_refused` | `table::above_its_period` | e = p is still refused with 18 |
 //! | `whole_core_window_refused` | `windows::refused` | e = p is still refused with 50 |
 //! | `whole_core_no_group` | `windows::group_deadline` | with e = p D is 0 |
+//! | `old_time_limit` | `slot::LAST_TIME` | 30 and 32 still use 1,000,000,000 |
+//! | `old_last_subtask` | `windows::LAST_SUBTASK` | 50 still uses 1,000,000,001 |
+//! | `one_limit_for_both` | `checker::MOST_SLOTS` | 47 uses the time limit; no count is above it |
+//! | `time_as_4_bytes` | `slot::state_refusal` | the time cut to 32 bits |
 
 // compilers that know the lint warn of a cfg name they were not told of; older ones do not know
 // the lint

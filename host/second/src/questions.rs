@@ -346,6 +346,34 @@ mod tests {
     }
 
     #[test]
+    fn the_limits_of_02_seven_mean_nothing_here() {
+        // 2/3: after 1,000,000,000,000 quanta, 500,000,000,000 whole jobs, subtask
+        // 1,000,000,000,001 is next; the one after it may not be asked for alone
+        let (quanta, job) = (1_000_000_000_000, 1_500_000_000_000);
+        assert_eq!(asked(2, 3, 0, quanta), (job, job + 2, 1, job, job + 3));
+        assert_eq!(
+            asked(2, 3, 0, quanta + 1),
+            (job + 1, job + 3, 0, job, job + 3)
+        );
+        // from 1,000,000,000,000 on, and one job later
+        let far = 2_500_000_000_003;
+        assert_eq!(
+            asked(2, 3, quanta, quanta + 2),
+            (far, far + 2, 1, far, far + 3)
+        );
+        // 1/1 at the last time of a state, and after it
+        let whole = row(1, 1, 0, 0);
+        for time in quanta - 1..=quanta + 2 {
+            assert_eq!(told(whole, time, time), (true, false, true));
+            assert_eq!(told(whole, time - 1, time), (true, true, false));
+            let rows = rows_of(&[(1, 1, 0, 0), (1, 1, 0, 0)]);
+            let given = quanta_of(&[time + 1, time]);
+            assert_eq!(picks(&rows, &given, 2, time, 8), marks_of(&[1]));
+            assert_eq!(lowest_late(&rows, &given, 2, time + 1), 1);
+        }
+    }
+
+    #[test]
     fn next_windows_that_are_not_answered() {
         for &(e, p) in &[(0, 0), (0, 1), (0, 65535), (1, 0), (2, 1), (65535, 65534)] {
             assert_eq!(next_window(e, p, 0, 0), None);

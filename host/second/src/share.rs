@@ -5,6 +5,9 @@
 //!
 //! With e = p (02, Six) the exact share is a, and the lines are the same. A plain row has a quanta,
 //! no more and no less; an early-release row has at least a, and at most its jobs begun in full.
+//!
+//! All is reckoned in 128 bits. Times go up to 1,000,000,000,000 (02, Seven), and a state that is
+//! yet to be judged may have any number of 64 bits as its time and as its quanta.
 
 use crate::table::Row;
 
@@ -130,6 +133,56 @@ mod tests {
         assert_eq!(allowed(row(2, 3, 4, 1), 5), [0, 1, 2]);
     }
 
+    /// The lowest and the highest count of quanta inside the share, sought around one that is.
+    fn limits(row: Row, time: u64, quanta: u64) -> (u64, u64) {
+        assert!(inside(&row, time, quanta));
+        let (mut lowest, mut highest) = (quanta, quanta);
+        while inside(&row, time, lowest - 1) {
+            lowest -= 1;
+        }
+        while inside(&row, time, highest + 1) {
+            highest += 1;
+        }
+        (lowest, highest)
+    }
+
+    #[test]
+    fn at_the_last_time() {
+        let last = 1_000_000_000_000;
+        // 1/2 has half of it, and 2/3 two thirds, 2,000,000,000,000 - 3q being 2 or -1
+        let half = 500_000_000_000;
+        assert_eq!(limits(row(1, 2, 0, 0), last, half), (half, half));
+        let thirds = 666_666_666_666;
+        assert_eq!(limits(row(2, 3, 0, 0), last, thirds), (thirds, thirds + 1));
+        // with e = p it has all of it, or all from the phase on
+        assert_eq!(limits(row(1, 1, 0, 0), last, last), (last, last));
+        let since = 999_999_934_465;
+        let whole = |kind| row(65535, 65535, 65535, kind);
+        assert_eq!(limits(whole(0), last, since), (since, since));
+        // early release: 15,259,020 jobs are done and the next has begun
+        let given = 15_259_021 * 65_535;
+        assert_eq!(limits(whole(1), last, since), (since, given));
+        // 1,000,000,000,000 is 15,259,021 periods of 65,535 and 58,765 slots more: of 1/65535 the
+        // next quantum may be given or not
+        let periods = 15_259_021;
+        let light = row(1, 65535, 0, 0);
+        assert_eq!(limits(light, last, periods), (periods, periods + 1));
+        // 65,535·1,000,000,000,000
+        assert_eq!(behind(&whole(0), last + 65_535, 0), 65_535_000_000_000_000);
+        assert_eq!(behind(&light, 0, last), -65_535_000_000_000_000);
+    }
+
+    #[test]
+    fn around_2_to_the_32nd() {
+        // 2/3: 2t - 3q; 2^32 - 1 is a multiple of 3, and 2/3 of it are 2,863,311,530
+        let (row, given) = (row(2, 3, 0, 0), 2_863_311_530);
+        assert_eq!(limits(row, 4_294_967_295, given), (given, given));
+        assert_eq!(limits(row, 4_294_967_296, given), (given, given + 1));
+        let given = given + 2;
+        assert_eq!(limits(row, 4_294_967_297, given), (given - 1, given));
+        assert_eq!(limits(row, 4_294_967_298, given), (given, given));
+    }
+
     #[test]
     fn wild_numbers() {
         for &kind in &[0, 1, 255] {
@@ -142,5 +195,9 @@ mod tests {
         }
         assert!(!inside(&row(1, 2, 0, 0), 0, u64::MAX));
         assert!(!inside(&row(1, 2, 0, 0), u64::MAX, 0));
+        // 65,535·(2^64 - 1)
+        let most = 1_208_907_372_870_555_465_154_560 - 65_535;
+        assert_eq!(behind(&row(65535, 65535, 0, 0), u64::MAX, 0), most);
+        assert_eq!(behind(&row(65535, 65535, 0, 0), 0, u64::MAX), -most);
     }
 }

@@ -8,8 +8,13 @@ use std::cmp::Ordering;
 
 pub use crate::cores::first_cores;
 
-/// The last time a state can have: "32: time is already 1,000,000,000".
-pub const LAST_TIME: u64 = 1_000_000_000;
+/// The last time a state can have. 01 has "32: time is already 1,000,000,000"; 02, Seven: "The time
+/// limit rises to 1,000,000,000,000". slip: the old limit
+pub const LAST_TIME: u64 = if cfg!(slip = "old_time_limit") {
+    1_000_000_000
+} else {
+    1_000_000_000_000
+};
 
 /// "The dispatcher's state holds the table, the time, a stopped mark and the quanta given to
 /// each row." And 02, One: "The state remembers which row ran on which core in the last slot".
@@ -247,7 +252,8 @@ pub fn deciding_rule(state: &State, k: u8) -> Option<Rule> {
 /// "A state is broken (30) if its table has a fault 12 to 20 or 22, if time is above
 /// 1,000,000,000, if a row's quanta exceed time, or if it is not stopped and some row is outside
 /// its share at its time." "Places past row n ... are ignored." And by 02, One "30 also" for what
-/// it misremembers. 18 is the table's own: since 02, Six a state may have rows with e = p.
+/// it misremembers. 18 is the table's own: since 02, Six a state may have rows with e = p. For the
+/// time the limit is that of 02, Seven: "30, 32 and 50 use the new limit."
 pub fn broken(state: &State) -> bool {
     if table::fault(&state.table) != 0 {
         return true;
@@ -339,6 +345,12 @@ pub(crate) fn write_record(buffer: &mut [u8], place: u64, k: u8, picked: &[u8]) 
 
 /// The refusals that hang on the state alone, in the order "30, 31, 32".
 pub(crate) fn state_refusal(state: &State) -> Option<u8> {
+    // slip: the time cut to 32 bits
+    #[cfg(slip = "time_as_4_bytes")]
+    let state = &State {
+        time: u64::from(state.time as u32),
+        ..*state
+    };
     // 30: "broken state"
     if broken(state) {
         return Some(30);
@@ -347,7 +359,7 @@ pub(crate) fn state_refusal(state: &State) -> Option<u8> {
     if state.stopped {
         return Some(31);
     }
-    // 32: "time is already 1,000,000,000"
+    // 32: "time is already 1,000,000,000", or what 02, Seven has in its place
     if state.time == LAST_TIME {
         return Some(32);
     }
@@ -404,10 +416,19 @@ pub fn slot_on(state: &mut State, free: u32, buffer: &mut [u8], place: u64) -> (
     (give_quanta(state, &picked), placement)
 }
 
+/// The time after a slot.
+fn one_higher(time: u64) -> u64 {
+    // slip: a time judged by its last four bytes may be the largest number; after that comes 0
+    if cfg!(slip = "time_as_4_bytes") {
+        return time.wrapping_add(1);
+    }
+    time + 1
+}
+
 /// The end of a slot that picked these rows, and its answer, 0 or 1.
 fn give_quanta(state: &mut State, picked: &[u8]) -> Answer {
     // "time is one higher, each picked row has one quantum more"
-    state.time += 1;
+    state.time = one_higher(state.time);
     for &row in picked {
         state.quanta[usize::from(row)] += 1;
     }
@@ -763,8 +784,8 @@ pub(crate) mod tests {
         assert_eq!(number(true, 3, 3, 3), 31);
         assert_eq!(number(true, 3, 4, 0), 30);
         assert_eq!(number(true, 3, 0, 4), 30);
-        assert_eq!(number(true, 1_000_000_000, 0, 0), 31);
-        assert_eq!(number(true, 1_000_000_001, 0, 0), 30);
+        assert_eq!(number(true, 1_000_000_000_000, 0, 0), 31);
+        assert_eq!(number(true, 1_000_000_000_001, 0, 0), 30);
         assert_eq!(number(false, u64::MAX, u64::MAX, u64::MAX), 30);
         assert_eq!(number(true, 5, u64::MAX, 0), 30);
     }
@@ -788,25 +809,25 @@ pub(crate) mod tests {
     fn the_last_slots() {
         // no row at all
         let mut state = fresh(value_of(1, 1, &[]));
-        state.time = 999_999_999;
+        state.time = 999_999_999_999;
         assert_eq!(picks(&mut state, 1), []);
-        assert_eq!(state.time, 1_000_000_000);
+        assert_eq!(state.time, 1_000_000_000_000);
         assert_eq!(refused(&state, 1, 9, 0), 32);
         // 32 goes before 35 and 34
         assert_eq!(refused(&state, 2, 0, 0), 32);
 
-        // 1/2 with 499,999,999 quanta: its next subtask 500,000,000 is due at 1,000,000,000
+        // 1/2 with 499,999,999,999 quanta: its next subtask is due at 1,000,000,000,000
         let mut state = fresh(value_of(2, 1, &[(1, 2, 0, 0)]));
-        state.time = 999_999_999;
-        state.quanta[0] = 499_999_999;
+        state.time = 999_999_999_999;
+        state.quanta[0] = 499_999_999_999;
         let mut missed = state;
         assert_eq!(picks(&mut state, 1), [0]);
-        assert_eq!(state.quanta[0], 500_000_000);
+        assert_eq!(state.quanta[0], 500_000_000_000);
         assert_eq!(refused(&state, 1, 9, 0), 32);
         let expected = Answer {
             number: 1,
             row: 0,
-            time: 1_000_000_000,
+            time: 1_000_000_000_000,
         };
         assert_eq!(slot(&mut missed, 0, &mut [0; 2], 0), expected);
         // 31 goes before 32
@@ -1041,16 +1062,17 @@ pub(crate) mod tests {
     fn the_last_slots_of_a_whole_core_row() {
         for kind in 0..2 {
             let mut state = fresh(value_of(1, 1, &[(1, 1, 0, kind)]));
-            state.time = 999_999_999;
-            state.quanta[0] = 999_999_999;
+            state.time = 999_999_999_999;
+            state.quanta[0] = 999_999_999_999;
             let mut missed = state;
             assert_eq!(
                 slot(&mut missed, 0, &mut [0; 2], 0),
-                late_at(0, 1_000_000_000)
+                late_at(0, 1_000_000_000_000)
             );
-            // its next subtask is 1,000,000,001, the last whose window may be asked for alone
+            // its next subtask is 1,000,000,000,001, the last whose window may be asked for alone
             assert_eq!(picks(&mut state, 1), [0]);
-            assert_eq!((state.time, state.quanta[0]), (LAST_TIME, 1_000_000_000));
+            assert_eq!(state.time, 1_000_000_000_000);
+            assert_eq!(state.quanta[0], 1_000_000_000_000);
             assert_eq!(refused(&state, 1, 9, 0), 32);
         }
     }
@@ -1079,6 +1101,365 @@ pub(crate) mod tests {
         // a ninth row is one too many
         let nine = fresh(value_of(12, 8, &[(4, 4, 0, 0); 9]));
         assert_eq!(refused(&nine, 0, 9, 0), 30);
+    }
+
+    // ---- shorter slots (02, Seven) ----
+
+    /// A state of rows by (e, p, f, kind), with so many quanta each, at a time; M = 2.
+    fn at(cycle: u32, rows: &[(u16, u16, u16, u8)], time: u64, quanta: &[u64]) -> State {
+        let mut state = fresh(value_of(cycle, 2, rows));
+        state.time = time;
+        state.quanta[..quanta.len()].copy_from_slice(quanta);
+        state
+    }
+
+    /// The slot's number, with both cores free.
+    fn number_of(state: &State) -> u8 {
+        slot(&mut state.clone(), 2, &mut [0; 4], 0).number
+    }
+
+    #[test]
+    fn the_old_last_time_is_a_time_like_any_other() {
+        // no row at all
+        let mut state = at(1, &[], 999_999_999, &[]);
+        for time in 999_999_999..1_000_000_009 {
+            assert_eq!(state.time, time);
+            assert_eq!(picks(&mut state, 2), []);
+        }
+        // 1/2, whose subtask 500,000,001 is 1,000,000,000 to 1,000,000,002
+        let half = [(1, 2, 0, 0)];
+        let mut state = at(2, &half, 999_999_999, &[499_999_999]);
+        assert_eq!(picks(&mut state, 1), [0]);
+        let mut missed = state;
+        assert_eq!(picks(&mut state, 1), [0]);
+        assert_eq!(picks(&mut state, 1), []);
+        assert_eq!(picks(&mut state, 1), [0]);
+        assert_eq!((state.time, state.quanta[0]), (1_000_000_003, 500_000_002));
+        assert_eq!(picks(&mut missed, 0), []);
+        assert_eq!(
+            slot(&mut missed, 0, &mut [0; 2], 0),
+            late_at(0, 1_000_000_002)
+        );
+        assert_eq!(refused(&missed, 0, 2, 0), 31);
+        // it has a share there: t - 2q is -1, 0 or 1
+        for (time, quanta) in [(1_000_000_000, 500_000_000), (1_000_000_001, 500_000_001)] {
+            let given = |quanta| number_of(&at(2, &half, time, &[quanta]));
+            assert_eq!(given(quanta - 2), 30);
+            assert_eq!(given(quanta), 0);
+            assert_eq!(given(quanta + 1), 30);
+        }
+        assert_eq!(number_of(&at(2, &half, 1_000_000_000, &[499_999_999])), 30);
+        assert_eq!(number_of(&at(2, &half, 1_000_000_001, &[500_000_000])), 0);
+    }
+
+    /// 01's example, about to run the slot at a multiple of 3, with its whole jobs given.
+    fn example_at(time: u64) -> State {
+        let mut state = fresh(table::read(&EXAMPLE).unwrap());
+        state.time = time;
+        for quanta in state.quanta.iter_mut().take(3) {
+            *quanta = time / 3 * 2;
+        }
+        state
+    }
+
+    #[test]
+    fn the_example_runs_across_the_old_limit_and_2_to_the_32nd() {
+        // 999,999,999 and 2^32 - 1 are multiples of 3
+        for time in [999_999_999, 4_294_967_295] {
+            let mut state = example_at(time);
+            assert_eq!(picks(&mut state, 2), [0, 1]);
+            assert_eq!(picks(&mut state, 2), [0, 2]);
+            assert_eq!(picks(&mut state, 2), [1, 2]);
+            let mut expected = example_at(time + 3);
+            expected.last = state.last;
+            assert_eq!(state, expected);
+        }
+        assert_eq!(example_at(4_294_967_298).quanta[0], 2_863_311_532);
+    }
+
+    #[test]
+    fn the_example_runs_to_the_last_time() {
+        // 999,999,999,996 is a multiple of 3
+        let mut state = example_at(999_999_999_996);
+        assert_eq!(placed(&mut state, &[0, 1]), [(0, 0), (1, 1)]);
+        assert_eq!(placed(&mut state, &[0, 1]), [(0, 0), (2, 1)]);
+        assert_eq!(placed(&mut state, &[0, 1]), [(1, 0), (2, 1)]);
+        // the last slot is the first of a cycle; row 1 stays
+        assert_eq!(placed(&mut state, &[0, 1]), [(0, 1), (1, 0)]);
+        assert_eq!(state.time, 1_000_000_000_000);
+        let given = [666_666_666_667, 666_666_666_667, 666_666_666_666, 0];
+        assert_eq!(state.quanta[..4], given);
+        assert_eq!(refused_on(&state, 0b11, 9, 0), 32);
+        assert_eq!(refused_on(&state, 0b100, 0, 0), 32);
+    }
+
+    #[test]
+    fn a_time_is_not_its_last_four_bytes() {
+        let half = [(1, 2, 0, 0)];
+        // those of 2^32 and of 2^33 are 0, where no quantum would be due
+        for time in [4_294_967_296, 8_589_934_592] {
+            for back in [0, 1] {
+                let time = time - back;
+                assert_eq!(number_of(&at(2, &half, time, &[time / 2])), 0);
+                assert_eq!(number_of(&at(2, &half, time, &[0])), 30);
+                assert_eq!(number_of(&at(2, &half, time, &[time / 2 - 1])), 30);
+                assert_eq!(number_of(&at(2, &half, time, &[(time + 1) / 2 + 1])), 30);
+            }
+            assert_eq!(number_of(&at(2, &half, time + 1, &[time / 2])), 0);
+            assert_eq!(number_of(&at(2, &half, time + 1, &[time / 2 + 1])), 0);
+            assert_eq!(number_of(&at(2, &half, time + 1, &[0])), 30);
+            assert_eq!(number_of(&at(2, &half, time + 1, &[1])), 30);
+        }
+        // those of the last time are 3,567,587,328, those of 996,432,412,672 are 0
+        assert_eq!(number_of(&at(1, &[], 3_567_587_328, &[])), 0);
+        assert_eq!(number_of(&at(1, &[], 996_432_412_672, &[])), 0);
+        assert_eq!(number_of(&at(1, &[], 1_000_000_000_000, &[])), 32);
+        let last = [500_000_000_000];
+        assert_eq!(number_of(&at(2, &half, 1_000_000_000_000, &last)), 32);
+        assert_eq!(number_of(&at(2, &half, 3_567_587_328, &last)), 30);
+        // those of 1,000,000,000,001 and of 2^64 - 1 would be times of a state
+        assert_eq!(number_of(&at(1, &[], 1_000_000_000_001, &[])), 30);
+        assert_eq!(number_of(&at(1, &[], u64::MAX, &[])), 30);
+    }
+
+    #[test]
+    fn quanta_across_2_to_the_32nd() {
+        // 1/1 has as many as there were slots
+        for kind in 0..2 {
+            let whole = [(1, 1, 0, kind)];
+            let mut state = at(1, &whole, 4_294_967_294, &[4_294_967_294]);
+            for given in 4_294_967_295..4_294_967_300 {
+                assert_eq!(picks(&mut state, 1), [0]);
+                assert_eq!((state.time, state.quanta[0]), (given, given));
+            }
+            assert_eq!(
+                slot(&mut state, 0, &mut [0; 2], 0),
+                late_at(0, 4_294_967_300)
+            );
+            // the last four bytes of 2^32 are 0
+            assert_eq!(number_of(&at(1, &whole, 4_294_967_296, &[0])), 30);
+            assert_eq!(number_of(&at(1, &whole, 0, &[4_294_967_296])), 30);
+        }
+    }
+
+    #[test]
+    fn the_share_in_the_last_slots() {
+        // 65534/65535 at 999,999,999,999: 15,259,021 periods, which are 999,999,941,235 slots and
+        // 999,984,682,214 quanta, and 58,764 slots more: 65,534·58,764 - 65,535·q is inside with
+        // 58,764 quanta (-58,764) and with one less (6,771)
+        let (long, jobs) = ([(65534, 65535, 0, 0)], 999_984_682_214);
+        let given = |time, more: u64| number_of(&at(65_535, &long, time, &[jobs + more]));
+        assert_eq!(given(999_999_999_999, 58_762), 30);
+        assert_eq!(given(999_999_999_999, 58_763), 0);
+        assert_eq!(given(999_999_999_999, 58_764), 0);
+        assert_eq!(given(999_999_999_999, 58_765), 30);
+        // at the last time it is one slot and one quantum more: 6,770 and -58,765
+        assert_eq!(given(1_000_000_000_000, 58_763), 30);
+        assert_eq!(given(1_000_000_000_000, 58_764), 32);
+        assert_eq!(given(1_000_000_000_000, 58_765), 32);
+        assert_eq!(given(1_000_000_000_000, 58_766), 30);
+        // early release 2/6 at 999,999,999,999, three slots into its job 166,666,666,667
+        let early = [(2, 6, 0, 1)];
+        let given = |quanta| number_of(&at(6, &early, 999_999_999_999, &[quanta]));
+        assert_eq!(given(333_333_333_332), 30);
+        assert_eq!(given(333_333_333_333), 0);
+        assert_eq!(given(333_333_333_334), 0);
+        assert_eq!(given(333_333_333_335), 30);
+        // 65535/65535 from 65,535 on: as many as slots since then, or for early release up to the
+        // end of the job that holds the next, 999,999,941,235
+        for kind in 0..2 {
+            let whole = [(65535, 65535, 65535, kind)];
+            let given = |q| number_of(&at(65_535, &whole, 1_000_000_000_000, &[q]));
+            let ahead = if kind == 1 { 32 } else { 30 };
+            assert_eq!(given(999_999_934_464), 30);
+            assert_eq!(given(999_999_934_465), 32);
+            assert_eq!(given(999_999_934_466), ahead);
+            assert_eq!(given(999_999_941_235), ahead);
+            assert_eq!(given(999_999_941_236), 30);
+        }
+    }
+
+    #[test]
+    fn ready_or_not_in_the_last_slot() {
+        // 65534/65535 as above: subtask 58,764 of its job is 999,999,999,998 to the last time,
+        // subtask 58,765 is one later, and subtask 58,766 starts with the last time
+        let long = [(65534, 65535, 0, 0)];
+        let mut behind = at(65_535, &long, 999_999_999_999, &[999_984_740_977]);
+        let mut missed = behind;
+        assert_eq!(picks(&mut behind, 1), [0]);
+        assert_eq!(
+            slot(&mut missed, 0, &mut [0; 2], 0),
+            late_at(0, 1_000_000_000_000)
+        );
+        let mut even = at(65_535, &long, 999_999_999_999, &[999_984_740_978]);
+        let mut waits = even;
+        assert_eq!(picks(&mut even, 1), [0]);
+        assert_eq!(picks(&mut waits, 0), []);
+        // early release 2/6: the second quantum of the job is ready, the next job is not
+        let early = [(2, 6, 0, 1)];
+        let mut state = at(6, &early, 999_999_999_998, &[333_333_333_333]);
+        assert_eq!(picks(&mut state, 1), [0]);
+        assert_eq!(picks(&mut state, 1), []);
+        assert_eq!(refused(&state, 1, 9, 0), 32);
+    }
+
+    /// The last slot of seven rows on eight cores. Row 0, light 3/8 with phase 6, is
+    /// 999,999,999,998 to 1,000,000,000,001, b 1, D 0. The next ones are 999,999,999,999 to
+    /// 1,000,000,000,001: 1/2 with phase 1 (b 0), 2/3 (b 1, D one later), 65534/65535 (b 1, D
+    /// 1,000,000,006,770, the end of its job), and 1/2 as row 1. Row 5, 1/1, is due at the last
+    /// time. Row 6, 1/2, is ready with the last time. The order is 5, 3, 2, 0, 1, 4.
+    pub(crate) fn the_last_slot_of_seven_rows() -> State {
+        let rows = [
+            (3, 8, 6, 0),
+            (1, 2, 1, 0),
+            (2, 3, 0, 0),
+            (65534, 65535, 0, 0),
+            (1, 2, 1, 0),
+            (1, 1, 0, 0),
+            (1, 2, 0, 0),
+        ];
+        let mut state = fresh(value_of(524_280, 8, &rows));
+        state.time = 999_999_999_999;
+        let quanta = [
+            374_999_999_997,
+            499_999_999_999,
+            666_666_666_666,
+            999_984_740_978,
+            499_999_999_999,
+            999_999_999_999,
+            500_000_000_000,
+        ];
+        state.quanta[..7].copy_from_slice(&quanta);
+        state
+    }
+
+    #[test]
+    fn the_order_in_the_last_slot() {
+        let state = the_last_slot_of_seven_rows();
+        let last = 1_000_000_000_000;
+        let next = |row, deadline, bit, group| Next {
+            row,
+            deadline,
+            bit,
+            group,
+        };
+        let expected = [
+            next(5, last, 0, last),
+            next(3, last + 1, 1, 1_000_000_006_770),
+            next(2, last + 1, 1, last + 2),
+            next(0, last + 1, 1, 0),
+            next(1, last + 1, 0, last + 1),
+            next(4, last + 1, 0, last + 1),
+        ];
+        assert_eq!(ready_rows(&state), expected);
+        let rules = [
+            Rule::Deadline,
+            Rule::GroupDeadline,
+            Rule::GroupDeadline,
+            Rule::Bit,
+            Rule::RowNumber,
+        ];
+        for (k, rule) in (1..).zip(rules) {
+            assert_eq!(deciding_rule(&state, k), Some(rule));
+        }
+        assert_eq!(picks(&mut state.clone(), 1), [5]);
+        assert_eq!(picks(&mut state.clone(), 2), [3, 5]);
+        assert_eq!(picks(&mut state.clone(), 3), [2, 3, 5]);
+        assert_eq!(picks(&mut state.clone(), 4), [0, 2, 3, 5]);
+        assert_eq!(picks(&mut state.clone(), 5), [0, 1, 2, 3, 5]);
+        assert_eq!(picks(&mut state.clone(), 6), [0, 1, 2, 3, 4, 5]);
+        // without a core row 5 alone is late
+        let mut none = state;
+        let expected = late_at(5, 1_000_000_000_000);
+        assert_eq!(slot(&mut none, 0, &mut [0; 2], 0), expected);
+        assert_eq!(refused(&none, 0, 2, 0), 31);
+    }
+
+    #[test]
+    fn broken_stopped_or_at_the_last_time() {
+        let mut state = the_last_slot_of_seven_rows();
+        assert_eq!(picks(&mut state, 8), [0, 1, 2, 3, 4, 5]);
+        let given = [
+            374_999_999_998,
+            500_000_000_000,
+            666_666_666_667,
+            999_984_740_979,
+            500_000_000_000,
+            1_000_000_000_000,
+            500_000_000_000,
+        ];
+        assert_eq!(state.quanta[..7], given);
+        assert_eq!(state.time, 1_000_000_000_000);
+        // 32, or 31 where it is stopped
+        let number = |change: &dyn Fn(&mut State)| {
+            let mut changed = state;
+            change(&mut changed);
+            let number = refused(&changed, 8, 9, 0);
+            changed.stopped = true;
+            (number, refused(&changed, 8, 9, 0))
+        };
+        assert_eq!(number(&|_| ()), (32, 31));
+        // outside a share: 1/1 has one less; 2/3 one more
+        assert_eq!(number(&|s| s.quanta[5] -= 1), (30, 31));
+        assert_eq!(number(&|s| s.quanta[2] += 1), (30, 31));
+        // quanta above time, in each row; places past n are ignored
+        for place in 0..7 {
+            assert_eq!(number(&|s| s.quanta[place] = 1_000_000_000_001), (30, 30));
+            assert_eq!(number(&|s| s.quanta[place] = u64::MAX), (30, 30));
+        }
+        assert_eq!(number(&|s| s.quanta[7] = u64::MAX), (32, 31));
+        // time above its limit, whatever the quanta; with one more for 1/1 every row is inside its
+        // share at 1,000,000,000,001
+        assert_eq!(number(&|s| s.time += 1), (30, 30));
+        let both = |s: &mut State| {
+            s.time += 1;
+            s.quanta[5] += 1;
+        };
+        let mut beyond = state;
+        both(&mut beyond);
+        for (row, quanta) in beyond.table.named_rows().iter().zip(beyond.quanta) {
+            assert!(share::inside(row, 1_000_000_000_001, quanta));
+        }
+        assert_eq!(number(&both), (30, 30));
+        assert_eq!(number(&|s| s.time = u64::MAX), (30, 30));
+        // memory and table
+        assert_eq!(number(&|s| s.last.count = 9), (30, 30));
+        assert_eq!(number(&|s| s.table.cycle += 1), (30, 30));
+        // 32 goes before 35 and 34
+        assert_eq!(refused(&state, 9, 9, 0), 32);
+        assert_eq!(refused(&state, 8, 0, 1), 32);
+    }
+
+    #[test]
+    fn wild_numbers_are_judged_without_a_fault_of_their_own() {
+        let wild = [
+            1_000_000_000_001,
+            1_099_511_627_776,
+            1 << 63,
+            u64::MAX - 1,
+            u64::MAX,
+        ];
+        // rows of both kinds whose e·a, p·q and jobs are the largest
+        let rows = [(65535, 65535, 0, 0), (65534, 65535, 65535, 1)];
+        for time in wild {
+            for quanta in [0, 1, time - 1, time, u64::MAX] {
+                for stopped in [false, true] {
+                    let mut state = at(65_535, &rows, time, &[quanta, quanta]);
+                    state.stopped = stopped;
+                    assert_eq!(refused(&state, 2, 9, 0), 30);
+                    // without rows the time alone breaks it
+                    state.table.count = 0;
+                    assert_eq!(refused(&state, 2, 9, 0), 30);
+                }
+            }
+            // a count of quanta alone
+            for known in [0, 999_999_999_999, 1_000_000_000_000] {
+                let mut state = at(65_535, &rows, known, &[known, time]);
+                assert_eq!(refused(&state, 2, 9, 0), 30);
+                state.stopped = true;
+                assert_eq!(refused(&state, 2, 9, 0), 30);
+            }
+        }
     }
 
     // ---- a core for each picked row ----
@@ -1221,7 +1602,7 @@ pub(crate) mod tests {
         }
         // 30, 31 and 32 go before it
         let mut state = fresh(value_of(6, 2, &[]));
-        state.time = 1_000_000_000;
+        state.time = 1_000_000_000_000;
         assert_eq!(refused_on(&state, 0b100, 9, 0), 32);
         state.stopped = true;
         assert_eq!(refused_on(&state, 0b100, 9, 0), 31);
@@ -1289,7 +1670,7 @@ pub(crate) mod tests {
         assert_eq!(refused_on(&stopped, 0b11, 9, 0), 30);
         // and before 32
         let mut state = fresh(value_of(1, 1, &[]));
-        state.time = 1_000_000_000;
+        state.time = 1_000_000_000_000;
         assert_eq!(refused_on(&state, 0b1, 9, 0), 32);
         state.last.count = 1;
         assert_eq!(refused_on(&state, 0b1, 9, 0), 30);
@@ -1495,6 +1876,74 @@ pub(crate) mod tests {
             }
         }
         assert!(lates > 50);
+    }
+
+    /// The same state so many slots later, a multiple of the cycle, with the whole jobs given to
+    /// each row in between. Every phase must be past.
+    pub(crate) fn later(state: &State, slots: u64) -> State {
+        let mut after = *state;
+        after.time += slots;
+        for (row, quanta) in state.table.named_rows().iter().zip(&mut after.quanta) {
+            *quanta += u64::from(row.cost) * (slots / u64::from(row.period));
+        }
+        after
+    }
+
+    /// Multiples of each cycle of `table_by_chance`, so that times 20 to 160 come to lie across
+    /// 1,000,000,000 and 2^32, and end with 1,000,000,000,000.
+    pub(crate) const LATER: [u64; 3] = [999_999_960, 4_294_967_160, 999_999_999_840];
+
+    /// A table of `table_by_chance` after 20 slots with all cores free, when every row has begun.
+    pub(crate) fn begun_by_chance(chance: &mut Chance) -> State {
+        let table = table_by_chance(chance);
+        let mut state = fresh(table);
+        for _ in 0..20 {
+            assert_eq!(slot(&mut state, table.cores, &mut [0; 10], 0), DONE);
+        }
+        state
+    }
+
+    #[test]
+    fn a_run_is_the_same_so_many_cycles_later() {
+        let mut chance = Chance(0x02_000A);
+        for slots in LATER {
+            let (mut lates, mut ends) = (0, 0);
+            for _ in 0..100 {
+                let mut state = begun_by_chance(&mut chance);
+                let cores = state.table.cores;
+                let always_full = chance.below(2) == 0;
+                let mut far = later(&state, slots);
+                for time in 20..160 {
+                    assert_eq!((state.time, far.time), (time, time + slots));
+                    let set = if always_full || chance.below(8) > 0 {
+                        first_cores(cores)
+                    } else {
+                        chance.below(1 << cores) as u32
+                    };
+                    let (mut record, mut expected) = ([0xEE; 10], [0xEE; 10]);
+                    let (near_answer, near) = slot_on(&mut state, set, &mut expected, 0);
+                    let (mut answer, placement) = slot_on(&mut far, set, &mut record, 0);
+                    assert_eq!((record, placement), (expected, near));
+                    assert_eq!(far, later(&state, slots));
+                    if answer.number == 1 {
+                        answer.time -= slots;
+                    }
+                    assert_eq!(answer, near_answer);
+                    if answer.number == 1 {
+                        lates += 1;
+                        break;
+                    }
+                    assert_eq!(answer, DONE);
+                }
+                if far.time == 1_000_000_000_000 {
+                    let expected = if far.stopped { 31 } else { 32 };
+                    assert_eq!(refused(&far, cores, 10, 0), expected);
+                    ends += 1;
+                }
+            }
+            assert!(lates > 20 && lates < 60, "{}", lates);
+            assert_eq!(ends > 30, slots == LATER[2], "{}", ends);
+        }
     }
 
     /// "picks, shares and traces stay as they are": a slot with any set against one with the first

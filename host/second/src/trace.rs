@@ -2,6 +2,9 @@
 //!
 //! "Slot count (4, at most 1,000,000,000), then one record a slot: cores free k (1), rows picked
 //! c (1), and c row numbers rising strictly (1 each). Slot 0 is first."
+//!
+//! A state may go on past that count since 02, Seven; a trace may not: "Each trace still covers at
+//! most 1,000,000,000 slots from slot 0."
 
 /// "Asked for slot s, the trace hands back the record itself": where it begins in the trace, and
 /// its length. "It is found exactly if the 4 count bytes are there, s is below the count, and
@@ -102,6 +105,21 @@ mod tests {
         assert_eq!(record(&trace, 0), (4, 257));
         trace.push(0);
         assert_eq!(record(&trace, 0), (4, 257));
+    }
+
+    #[test]
+    fn slots_that_no_trace_covers() {
+        // 1,000,000,001 is 3B9ACA01 in base 16: a count above its limit, which is not judged here
+        let trace = [0x01, 0xCA, 0x9A, 0x3B, 1, 0];
+        assert_eq!(record(&trace, 0), (4, 2));
+        // the last four bytes of 2^32 and 2^40 alone are 0
+        for slot in [1, 4_294_967_296, 1_099_511_627_776] {
+            assert_eq!(record(&trace, slot), (0, 0));
+        }
+        // 02, Seven: slots of a state, but none of a trace
+        for slot in [1_000_000_000, 1_000_000_001, 999_999_999_999] {
+            assert_eq!(record(&trace, slot), (0, 0));
+        }
     }
 
     #[test]

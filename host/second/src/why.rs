@@ -78,7 +78,7 @@ fn reason(state: &State, k: u8, number: u8) -> Reason {
     }
     if !slot::ready(row, quanta, state.time) {
         // the row gets no quantum before, so that its next subtask stays the same until then.
-        // Quanta are below 2^30 here and p and f below 2^16: the slot fits in 64 bits
+        // Quanta are below 2^40 here and p and f below 2^16: the slot fits in 64 bits
         let first_slot = slot::ready_from(row, quanta) as u64;
         return Reason::NotReady { first_slot };
     }
@@ -169,7 +169,8 @@ mod tests {
     use super::*;
     use crate::cores::tests::placement_of;
     use crate::never_late::{self, Chance};
-    use crate::slot::tests::{six_rows, table_by_chance};
+    use crate::slot::tests::{begun_by_chance, later, LATER};
+    use crate::slot::tests::{six_rows, table_by_chance, the_last_slot_of_seven_rows};
     use crate::slot::{fresh, slot};
     use crate::table::tests::{value_of, EXAMPLE};
     use crate::table::{self, Row, Table};
@@ -509,19 +510,175 @@ mod tests {
 
     #[test]
     fn the_first_slot_may_be_past_the_last_time() {
-        const LAST_SLOT: u64 = 999_999_999;
-        // 1/2 with 500,000,000 quanta: the next window starts at 2·500,000,000
-        let state = state_of(2, 1, &[(1, 2, 0, 0)], LAST_SLOT, &[500_000_000]);
-        assert_eq!(why(&state, 1, 0), not_ready(1_000_000_000));
-        // 1/50,000 with phase 40,000 and 20,000 quanta
-        let state = state_of(50_000, 1, &[(1, 50_000, 40_000, 0)], LAST_SLOT, &[20_000]);
-        assert_eq!(why(&state, 1, 0), not_ready(1_000_040_000));
-        assert_eq!(why(&state, 0, 0), not_ready(1_000_040_000));
-        // early release 60,000/65,535: in 999,999,999 slots 15,259 periods and a part of the next,
-        // whose job has been given in full; the job after it starts at 15,260·65,535
-        let given = 15_260 * 60_000;
+        const LAST_SLOT: u64 = 999_999_999_999;
+        // 1/2 with 500,000,000,000 quanta: the next window starts at 2·500,000,000,000
+        let state = state_of(2, 1, &[(1, 2, 0, 0)], LAST_SLOT, &[500_000_000_000]);
+        assert_eq!(why(&state, 1, 0), not_ready(1_000_000_000_000));
+        // 1/50,000 with phase 40,000 and 20,000,000 quanta
+        let row = [(1, 50_000, 40_000, 0)];
+        let state = state_of(50_000, 1, &row, LAST_SLOT, &[20_000_000]);
+        assert_eq!(why(&state, 1, 0), not_ready(1_000_000_040_000));
+        assert_eq!(why(&state, 0, 0), not_ready(1_000_000_040_000));
+        // early release 60,000/65,535: in 999,999,999,999 slots 15,259,021 periods and a part of
+        // the next, whose job has been given in full; the job after it starts at 15,259,022·65,535
+        let given = 15_259_022 * 60_000;
         let state = state_of(65_535, 1, &[(60_000, 65_535, 0, 1)], LAST_SLOT, &[given]);
-        assert_eq!(why(&state, 1, 0), not_ready(1_000_064_100));
+        assert_eq!(why(&state, 1, 0), not_ready(1_000_000_006_770));
+        // 1/65,535 with phase 58,763, in the slot after the first of its window 15,259,022: no row
+        // waits longer. In that first slot itself so many quanta are outside the share
+        let row = [(1, 65_535, 58_763, 0)];
+        let state = state_of(65_535, 1, &row, LAST_SLOT, &[15_259_022]);
+        assert_eq!(why(&state, 1, 0), not_ready(LAST_SLOT + 65_534));
+        let state = state_of(65_535, 1, &row, LAST_SLOT - 1, &[15_259_022]);
+        assert_eq!(why(&state, 1, 0), Err(30));
+    }
+
+    // ---- shorter slots (02, Seven) ----
+
+    #[test]
+    fn why_in_the_last_slot() {
+        // the order is 5, 3, 2, 0, 1, 4; row 6 is ready with the last time
+        let state = the_last_slot_of_seven_rows();
+        let waits = not_ready(1_000_000_000_000);
+        let by = passed_over;
+        // row 5 alone is due at the last time
+        let mut expected = [by(5, Rule::Deadline); 7];
+        expected[5] = PICKED;
+        expected[6] = waits;
+        assert_eq!(reasons(&state, 1), expected);
+        // row 3 has the latest group deadline
+        let expected = [
+            by(3, Rule::GroupDeadline),
+            by(3, Rule::Bit),
+            by(3, Rule::GroupDeadline),
+            PICKED,
+            by(3, Rule::Bit),
+            PICKED,
+            waits,
+        ];
+        assert_eq!(reasons(&state, 2), expected);
+        // row 2 is heavy and row 0 light
+        let expected = [
+            by(2, Rule::GroupDeadline),
+            by(2, Rule::Bit),
+            PICKED,
+            PICKED,
+            by(2, Rule::Bit),
+            PICKED,
+            waits,
+        ];
+        assert_eq!(reasons(&state, 3), expected);
+        let bit = by(0, Rule::Bit);
+        let expected = [PICKED, bit, PICKED, PICKED, bit, PICKED, waits];
+        assert_eq!(reasons(&state, 4), expected);
+        // rows 1 and 4 differ in nothing
+        let mut expected = [PICKED; 7];
+        expected[4] = by(1, Rule::RowNumber);
+        expected[6] = waits;
+        assert_eq!(reasons(&state, 5), expected);
+        expected[4] = PICKED;
+        assert_eq!(reasons(&state, 6), expected);
+        assert_eq!(reasons(&state, 8), expected);
+        let mut expected = [NO_CORE_FREE; 7];
+        expected[6] = waits;
+        assert_eq!(reasons(&state, 0), expected);
+        assert_eq!(why(&state, 9, 0), Err(33));
+        assert_eq!(why(&state, 8, 7), Err(36));
+    }
+
+    #[test]
+    fn why_at_the_last_time() {
+        // after that slot nothing is about to run any more
+        let mut state = the_last_slot_of_seven_rows();
+        assert_eq!(slot(&mut state, 8, &mut [0; 8], 0).number, 0);
+        assert_eq!(state.time, 1_000_000_000_000);
+        for (k, row) in [(0, 0), (8, 6), (9, 0), (8, 7), (255, 255)] {
+            let mut state = state;
+            assert_eq!(why(&state, k, row), Err(32));
+            state.stopped = true;
+            assert_eq!(why(&state, k, row), Err(31));
+            // one slot later there is no state
+            state.time += 1;
+            assert_eq!(why(&state, k, row), Err(30));
+            state.stopped = false;
+            assert_eq!(why(&state, k, row), Err(30));
+        }
+        // without a core in that slot row 5 is late
+        let mut state = the_last_slot_of_seven_rows();
+        assert_eq!(slot(&mut state, 0, &mut [0; 2], 0).number, 1);
+        assert_eq!(reasons(&state, 0), [Err(31); 7]);
+    }
+
+    #[test]
+    fn why_at_the_old_last_time() {
+        // 1/2 and 1/3 with all that was due: subtask 500,000,001 is 1,000,000,000 to 1,000,000,002,
+        // subtask 333,333,334 is 999,999,999 to 1,000,000,002, both with b = 0
+        let rows = [(1, 2, 0, 0), (1, 3, 0, 0)];
+        let given = [500_000_000, 333_333_333];
+        let state = state_of(6, 2, &rows, 1_000_000_000, &given);
+        let by_number = passed_over(0, Rule::RowNumber);
+        assert_eq!(reasons(&state, 2), [PICKED, PICKED]);
+        assert_eq!(reasons(&state, 1), [PICKED, by_number]);
+        assert_eq!(reasons(&state, 0), [NO_CORE_FREE; 2]);
+        // one slot later, after that choice
+        let given = [500_000_001, 333_333_333];
+        let state = state_of(6, 2, &rows, 1_000_000_001, &given);
+        assert_eq!(reasons(&state, 1), [not_ready(1_000_000_002), PICKED]);
+    }
+
+    #[test]
+    fn why_across_2_to_the_32nd() {
+        // three rows 2/3 as in 01's example: 2^32 - 1 is a multiple of 3
+        let mut state = fresh(table::read(&EXAMPLE).unwrap());
+        state.time = 4_294_967_295;
+        state.quanta[..3].copy_from_slice(&[2_863_311_530; 3]);
+        let by_number = passed_over(1, Rule::RowNumber);
+        assert_eq!(reasons(&state, 2), [PICKED, PICKED, by_number]);
+        slot(&mut state, 2, &mut [0; 4], 0);
+        let by_deadline = passed_over(2, Rule::Deadline);
+        assert_eq!(reasons(&state, 1), [by_deadline, by_deadline, PICKED]);
+        slot(&mut state, 2, &mut [0; 4], 0);
+        let waits = not_ready(4_294_967_298);
+        assert_eq!(reasons(&state, 2), [waits, PICKED, PICKED]);
+        // as if at 1 and 2, with the quanta of then
+        for (time, quanta) in [(4_294_967_297, [1, 1, 0]), (4_294_967_298, [2, 1, 1])] {
+            state.time = time;
+            state.quanta[..3].copy_from_slice(&quanta);
+            assert_eq!(reasons(&state, 2), [Err(30); 3]);
+        }
+    }
+
+    #[test]
+    fn the_reason_is_the_same_so_many_cycles_later() {
+        let mut chance = Chance(0x02_000B);
+        let mut counts = [0; 5];
+        for slots in LATER {
+            for _ in 0..60 {
+                let mut state = begun_by_chance(&mut chance);
+                let cores = state.table.cores;
+                for _ in 20..160 {
+                    let far = later(&state, slots);
+                    let k = chance.below(u64::from(cores) + 1) as u8;
+                    for row in 0..state.table.count {
+                        let mut expected = answer(&state, k, row);
+                        if expected.reason == 2 {
+                            expected.slot += slots;
+                        }
+                        assert_eq!(answer(&far, k, row), expected);
+                        counts[usize::from(expected.reason)] += 1;
+                    }
+                    assert_eq!(slot(&mut state, cores, &mut [0; 10], 0).number, 0);
+                }
+                let at_the_end = u8::from(slots == LATER[2]) * 32;
+                let far = later(&state, slots);
+                // nobody waits where there is no row
+                if state.table.count > 0 {
+                    assert_eq!(answer(&far, cores, 0).number, at_the_end);
+                }
+            }
+        }
+        assert_eq!(counts[0], 0);
+        assert!(counts[1..].iter().all(|&count| count > 500), "{:?}", counts);
     }
 
     // ---- refusals ----
@@ -583,15 +740,15 @@ mod tests {
         let sound = two_rows();
         // 32 before 33 and 36
         let mut state = sound;
-        state.time = 1_000_000_000;
-        state.quanta[0] = 500_000_000;
-        state.quanta[1] = 333_333_333;
+        state.time = 1_000_000_000_000;
+        state.quanta[0] = 500_000_000_000;
+        state.quanta[1] = 333_333_333_333;
         assert_eq!(refused_in_all_ways(&state), [32; 4]);
         // 31 before 32
         state.stopped = true;
         assert_eq!(refused_in_all_ways(&state), [31; 4]);
         // 30 before 31
-        state.time = 1_000_000_001;
+        state.time = 1_000_000_000_001;
         assert_eq!(refused_in_all_ways(&state), [30; 4]);
         // 31 alone, also of a state that is inside its shares
         let mut state = sound;
@@ -608,11 +765,11 @@ mod tests {
         assert_eq!(refused_in_all_ways(&state), [30; 4]);
         state.stopped = true;
         assert_eq!(refused_in_all_ways(&state), [31; 4]);
-        // 30 before 32: 1/2 has one quantum too few at 1,000,000,000
+        // 30 before 32: 1/2 has one quantum too few at 1,000,000,000,000
         let mut state = sound;
-        state.time = 1_000_000_000;
-        state.quanta[0] = 499_999_999;
-        state.quanta[1] = 333_333_333;
+        state.time = 1_000_000_000_000;
+        state.quanta[0] = 499_999_999_999;
+        state.quanta[1] = 333_333_333_333;
         assert_eq!(refused_in_all_ways(&state), [30; 4]);
     }
 
@@ -709,12 +866,16 @@ mod tests {
         state.time = u64::MAX;
         assert_eq!(bytes(&state, 2, 1), [30, 0, 0, 0, 0, 0, 0, 0, 0, 0, 0, 0]);
         let mut state = fresh(value_of(1, 1, &[]));
-        state.time = 1_000_000_000;
+        state.time = 1_000_000_000_000;
         assert_eq!(bytes(&state, 1, 0), [32, 0, 0, 0, 0, 0, 0, 0, 0, 0, 0, 0]);
         // 1,000,040,000 is 3B9B6640 in base 16
         let rows = [(1, 50_000, 40_000, 0)];
         let state = state_of(50_000, 1, &rows, 999_999_999, &[20_000]);
         let expected = [0, 2, 0x40, 0x66, 0x9B, 0x3B, 0, 0, 0, 0, 0, 0];
+        assert_eq!(bytes(&state, 1, 0), expected);
+        // 1,000,000,040,000 is E8D4A5AC40
+        let state = state_of(50_000, 1, &rows, 999_999_999_999, &[20_000_000]);
+        let expected = [0, 2, 0x40, 0xAC, 0xA5, 0xD4, 0xE8, 0, 0, 0, 0, 0];
         assert_eq!(bytes(&state, 1, 0), expected);
     }
 
@@ -943,7 +1104,7 @@ mod tests {
             // near the last time no row has its share by chance
             4 | 5 => {
                 state.table.count = 0;
-                state.time = 999_999_999 + chance.below(3);
+                state.time = 999_999_999_999 + chance.below(3);
             }
             _ => {}
         }

@@ -14,6 +14,15 @@
 //! windows of one slot, b = 0, and D = d." 01's lines say the same of it: with e = p subtask i
 //! starts at f + (i-1) and ends at f + i, and e divides i·p.
 
+/// The last subtask whose window may be asked for alone. 01 has "i is not in 1 to 1,000,000,001";
+/// 02, Seven: "The time limit rises to 1,000,000,000,000, and the window question takes subtasks up
+/// to one past that." slip: the old limit
+const LAST_SUBTASK: u64 = if cfg!(slip = "old_last_subtask") {
+    1_000_000_001
+} else {
+    1_000_000_000_001
+};
+
 /// What comes back when a window is asked for alone. `number` is 0 or 50.
 #[derive(Clone, Copy, PartialEq, Eq, Debug)]
 pub struct Window {
@@ -30,7 +39,8 @@ pub struct Window {
 
 /// "A window may be asked for alone, by e, p, f (each 0 to 65,535) and i. It is refused if
 /// e = 0, if e is not below p, or if i is not in 1 to 1,000,000,001; then r, d, b and D come
-/// back as 0." Of "not below p" 02, Six leaves "e above p".
+/// back as 0." Of "not below p" 02, Six leaves "e above p", and with 02, Seven i may go up to
+/// 1,000,000,000,001.
 pub fn window(e: u16, p: u16, f: u16, i: u64) -> Window {
     window_with(group_deadline, e, p, f, i)
 }
@@ -56,7 +66,7 @@ fn window_with(group: fn(u16, u16, u64, u64) -> u128, e: u16, p: u16, f: u16, i:
         };
     }
     let phase = u64::from(f);
-    // i is about 2^30 and p below 2^16 here, so that every time fits in 64 bits
+    // i is below 2^40 and p below 2^16 here, so that every time fits in 64 bits
     Window {
         number: 0,
         start: start(e, p, phase, i) as u64,
@@ -67,13 +77,14 @@ fn window_with(group: fn(u16, u16, u64, u64) -> u128, e: u16, p: u16, f: u16, i:
 }
 
 /// 50: "if e = 0, if e is not below p, or if i is not in 1 to 1,000,000,001", the second as 02, Six
-/// has it: "Refusals: 18 narrowed, in the table and in 50", and "18 means e above p".
+/// has it: "Refusals: 18 narrowed, in the table and in 50", and "18 means e above p". The third as
+/// 02, Seven has it: "30, 32 and 50 use the new limit."
 fn refused(e: u16, p: u16, i: u64) -> bool {
     // slip: e = p is still refused
     if cfg!(slip = "whole_core_window_refused") && e == p {
         return true;
     }
-    e == 0 || e > p || i < 1 || i > 1_000_000_001
+    e == 0 || e > p || i < 1 || i > LAST_SUBTASK
 }
 
 /// "start r = f + floor((i-1)·p/e)". With e = 0 or i = 0, where 01 knows no window, 0.
@@ -338,7 +349,7 @@ mod tests {
         // own deadline
         for e in 1..=32_767u16 {
             let job = u64::from(e);
-            for i in (1..=20).chain([job, job + 1, 2 * job, 1_000_000_001]) {
+            for i in (1..=20).chain([job, job + 1, 2 * job, 1_000_000_000_001]) {
                 let end = 65_535 + 2 * i;
                 assert_eq!(asked(e, 2 * e, 65_535, i), (end - 2, end, 0, end));
             }
@@ -376,6 +387,28 @@ mod tests {
 
     #[test]
     fn the_longest_walk_at_the_last_subtasks_that_may_be_asked() {
+        // 15,259,254 jobs of 65,534 are 999,999,951,636 subtasks and 1,000,015,210,890 slots;
+        // 1,000,000,000,001 is subtask 48,365 of the next job, which ends at time 1,000,015,276,425
+        assert_eq!(
+            asked(65534, 65535, 0, 1_000_000_000_001),
+            (1_000_015_259_254, 1_000_015_259_256, 1, 1_000_015_276_425)
+        );
+        assert_eq!(
+            asked(65534, 65535, 65535, 1_000_000_000_001),
+            (1_000_015_324_789, 1_000_015_324_791, 1, 1_000_015_341_960)
+        );
+        assert_eq!(
+            asked(65534, 65535, 0, 999_999_951_636),
+            (1_000_015_210_888, 1_000_015_210_890, 0, 1_000_015_210_890)
+        );
+        assert_eq!(
+            asked(65534, 65535, 0, 999_999_951_637),
+            (1_000_015_210_890, 1_000_015_210_892, 1, 1_000_015_276_425)
+        );
+    }
+
+    #[test]
+    fn the_longest_walk_at_the_old_last_subtask() {
         // 15,259 jobs of 65,534 are 999,983,306 subtasks and 999,998,565 slots; 1,000,000,001 is
         // subtask 16,695 of the next job, which ends at time 1,000,064,100
         assert_eq!(
@@ -448,21 +481,24 @@ mod tests {
         assert_eq!(agreed(1, 2, 0, 0).number, 50);
         assert_eq!(agreed(1, 2, 0, 1).number, 0);
         assert_eq!(agreed(1, 2, 0, 1_000_000_001).number, 0);
-        assert_eq!(agreed(1, 2, 0, 1_000_000_002).number, 50);
+        assert_eq!(agreed(1, 2, 0, 1_000_000_002).number, 0);
+        assert_eq!(agreed(1, 2, 0, 1_000_000_000_000).number, 0);
+        assert_eq!(agreed(1, 2, 0, 1_000_000_000_001).number, 0);
+        assert_eq!(agreed(1, 2, 0, 1_000_000_000_002).number, 50);
         assert_eq!(agreed(1, 2, 0, u64::MAX).number, 50);
-        // their last four bytes alone are 0, 1 and 1,000,000,001
-        assert_eq!(agreed(1, 2, 0, 4_294_967_296).number, 50);
-        assert_eq!(agreed(1, 2, 0, 4_294_967_297).number, 50);
-        assert_eq!(agreed(1, 2, 0, 5_294_967_297).number, 50);
-        // 65535·1,000,000,001 and 65535·1,000,000,002
+        // their last five bytes alone are 0, 1 and 1,000,000,000,001
+        assert_eq!(agreed(1, 2, 0, 1_099_511_627_776).number, 50);
+        assert_eq!(agreed(1, 2, 0, 1_099_511_627_777).number, 50);
+        assert_eq!(agreed(1, 2, 0, 2_099_511_627_777).number, 50);
+        // 65535·1,000,000,000,001 and 65535·1,000,000,000,002
         assert_eq!(
-            asked(1, 65535, 65535, 1_000_000_001),
-            (65_535_000_065_535, 65_535_000_131_070, 0, 0)
+            asked(1, 65535, 65535, 1_000_000_000_001),
+            (65_535_000_000_065_535, 65_535_000_000_131_070, 0, 0)
         );
-        // 2/3: start 3,000,000,000/2; the next subtask, past what may be asked, ends the group
+        // 2/3: start 3,000,000,000,000/2; the next subtask, past what may be asked, ends the group
         assert_eq!(
-            asked(2, 3, 0, 1_000_000_001),
-            (1_500_000_000, 1_500_000_002, 1, 1_500_000_003)
+            asked(2, 3, 0, 1_000_000_000_001),
+            (1_500_000_000_000, 1_500_000_000_002, 1, 1_500_000_000_003)
         );
     }
 
@@ -477,7 +513,7 @@ mod tests {
         };
         // e = 0, also where it is p
         assert_eq!(agreed(0, 0, 0, 1), refused);
-        assert_eq!(agreed(0, 0, 65535, 1_000_000_001), refused);
+        assert_eq!(agreed(0, 0, 65535, 1_000_000_000_001), refused);
         assert_eq!(agreed(0, 5, 3, 1), refused);
         // e above p, also above p = 0
         assert_eq!(agreed(2, 1, 3, 1), refused);
@@ -487,13 +523,13 @@ mod tests {
         assert_eq!(agreed(65535, 0, 0, 1), refused);
         // i
         assert_eq!(agreed(2, 3, 4, 0), refused);
-        assert_eq!(agreed(2, 3, 4, 1_000_000_002), refused);
+        assert_eq!(agreed(2, 3, 4, 1_000_000_000_002), refused);
         assert_eq!(agreed(2, 3, 4, u64::MAX), refused);
         // of a light row too, of the longest walk, and with e = p
         assert_eq!(agreed(1, 3, 4, 0), refused);
-        assert_eq!(agreed(65534, 65535, 0, 1_000_000_002), refused);
+        assert_eq!(agreed(65534, 65535, 0, 1_000_000_000_002), refused);
         assert_eq!(agreed(1, 1, 0, 0), refused);
-        assert_eq!(agreed(1, 1, 0, 1_000_000_002), refused);
+        assert_eq!(agreed(1, 1, 0, 1_000_000_000_002), refused);
         assert_eq!(agreed(65535, 65535, 0, u64::MAX), refused);
     }
 
@@ -619,7 +655,7 @@ mod tests {
         for p in 1..=40u16 {
             for e in (p + 1) / 2..=p {
                 for back in 0..=u64::from(e) {
-                    agreed(e, p, 65_535, 1_000_000_001 - back);
+                    agreed(e, p, 65_535, 1_000_000_000_001 - back);
                 }
             }
         }
@@ -634,7 +670,7 @@ mod tests {
                 }
             }
         }
-        for &i in &[1, 2, 32_767, 32_768, 1_000_000_001] {
+        for &i in &[1, 2, 32_767, 32_768, 1_000_000_000_001] {
             assert_eq!(agreed(32_767, 65_535, 65_535, i).group, 0);
             assert_eq!(agreed(1, 65_535, 0, i).group, 0);
         }
@@ -671,14 +707,14 @@ mod tests {
 
     #[test]
     fn the_largest_whole_core_row_at_the_last_subtask() {
-        // r is f + (i-1), with f = 65,535 and i = 1,000,000,001
+        // r is f + (i-1), with f = 65,535 and i = 1,000,000,000,001
         assert_eq!(
-            asked(65535, 65535, 65535, 1_000_000_001),
-            (1_000_065_535, 1_000_065_536, 0, 1_000_065_536)
+            asked(65535, 65535, 65535, 1_000_000_000_001),
+            (1_000_000_065_535, 1_000_000_065_536, 0, 1_000_000_065_536)
         );
         assert_eq!(
-            asked(65535, 65535, 0, 1_000_000_001),
-            (1_000_000_000, 1_000_000_001, 0, 1_000_000_001)
+            asked(65535, 65535, 0, 1_000_000_000_001),
+            (1_000_000_000_000, 1_000_000_000_001, 0, 1_000_000_000_001)
         );
         // the last subtask of the first job, and the first of the second
         assert_eq!(asked(65535, 65535, 0, 65535), (65534, 65535, 0, 65535));
@@ -701,7 +737,7 @@ mod tests {
     fn every_window_of_a_whole_core_row_is_one_slot() {
         for e in (1..=500u16).chain(65_036..=65_535) {
             let job = u64::from(e);
-            for i in [1, 2, job, job + 1, 2 * job, 1_000_000_001] {
+            for i in [1, 2, job, job + 1, 2 * job, 1_000_000_000_001] {
                 let end = 65_535 + i;
                 assert_eq!(asked(e, e, 65_535, i), (end - 1, end, 0, end));
             }
@@ -713,12 +749,158 @@ mod tests {
     fn with_e_equal_to_p_the_group_deadline_is_the_deadline() {
         // windows are one slot long, and e divides i·e; of the parts alone i may be anything
         for &e in &[1, 2, 3, 65_535] {
-            for &i in &[1, 2, 3, 65_535, 65_536, 1_000_000_002, u64::MAX] {
+            for &i in &[1, 2, 3, 65_535, 65_536, 1_000_000_000_002, u64::MAX] {
                 assert_eq!(start(e, e, 9, i), 8 + u128::from(i));
                 assert_eq!(deadline(e, e, 9, i), 9 + u128::from(i));
                 assert_eq!(bit(e, e, i), 0);
                 assert_eq!(group_deadline(e, e, 9, i), 9 + u128::from(i));
                 assert_eq!(walked_group_deadline(e, e, 9, i), 9 + u128::from(i));
+            }
+        }
+    }
+
+    // ---- shorter slots (02, Seven) ----
+
+    #[test]
+    fn windows_of_2_3_up_to_the_last_that_may_be_asked() {
+        // subtask 2m + 1 is 3m to 3m + 2, b 1; subtask 2m + 2 is 3m + 1 to 3m + 3, b 0; D is 3m + 3
+        // for both. The old last subtask and the next: m = 500,000,000
+        let third = 1_500_000_000;
+        assert_eq!(
+            asked(2, 3, 0, 1_000_000_001),
+            (third, third + 2, 1, third + 3)
+        );
+        assert_eq!(
+            asked(2, 3, 0, 1_000_000_002),
+            (third + 1, third + 3, 0, third + 3)
+        );
+        // 2^32 - 1 and 2^32: m = 2^31 - 1; 2^32 + 1: m = 2^31, and 3·2^31 = 6,442,450,944
+        assert_eq!(
+            asked(2, 3, 0, 4_294_967_295),
+            (6_442_450_941, 6_442_450_943, 1, 6_442_450_944)
+        );
+        assert_eq!(
+            asked(2, 3, 0, 4_294_967_296),
+            (6_442_450_942, 6_442_450_944, 0, 6_442_450_944)
+        );
+        assert_eq!(
+            asked(2, 3, 0, 4_294_967_297),
+            (6_442_450_944, 6_442_450_946, 1, 6_442_450_947)
+        );
+        // 1,000,000,000,000 less 1, and itself: m = 499,999,999,999; one more: 500,000,000,000
+        assert_eq!(
+            asked(2, 3, 0, 999_999_999_999),
+            (1_499_999_999_997, 1_499_999_999_999, 1, 1_500_000_000_000)
+        );
+        assert_eq!(
+            asked(2, 3, 0, 1_000_000_000_000),
+            (1_499_999_999_998, 1_500_000_000_000, 0, 1_500_000_000_000)
+        );
+        assert_eq!(
+            asked(2, 3, 65535, 1_000_000_000_001),
+            (1_500_000_065_535, 1_500_000_065_537, 1, 1_500_000_065_538)
+        );
+    }
+
+    #[test]
+    fn windows_of_8_11_up_to_the_last_that_may_be_asked() {
+        // the windows of a job, of 8 quanta and 11 slots, are those of the bench
+        let job = 1_375_000_000;
+        assert_eq!(asked(8, 11, 0, 1_000_000_001), (job, job + 2, 1, job + 4));
+        assert_eq!(
+            asked(8, 11, 0, 1_000_000_002),
+            (job + 1, job + 3, 1, job + 4)
+        );
+        // 2^32 ends job 2^29; 11·2^29 = 5,905,580,032
+        let job = 5_905_580_032;
+        assert_eq!(asked(8, 11, 0, 4_294_967_295), (job - 3, job - 1, 1, job));
+        assert_eq!(asked(8, 11, 0, 4_294_967_296), (job - 2, job, 0, job));
+        assert_eq!(asked(8, 11, 0, 4_294_967_297), (job, job + 2, 1, job + 4));
+        // 1,000,000,000,000 ends job 125,000,000,000
+        let job = 1_375_000_000_000;
+        assert_eq!(asked(8, 11, 0, 1_000_000_000_000), (job - 2, job, 0, job));
+        assert_eq!(
+            asked(8, 11, 0, 1_000_000_000_001),
+            (job, job + 2, 1, job + 4)
+        );
+    }
+
+    #[test]
+    fn windows_of_a_light_row_up_to_the_last_that_may_be_asked() {
+        // 5/16: subtask 1 of a job is 0 to 4, b 1, and 5 is 12 to 16, b 0. 2^32 is 5·858,993,459
+        // and 1 more, 16·858,993,459 = 13,743,895,344
+        assert_eq!(
+            asked(5, 16, 0, 4_294_967_296),
+            (13_743_895_344, 13_743_895_348, 1, 0)
+        );
+        // 1,000,000,000,000 ends job 200,000,000,000
+        assert_eq!(
+            asked(5, 16, 0, 1_000_000_000_000),
+            (3_199_999_999_996, 3_200_000_000_000, 0, 0)
+        );
+        assert_eq!(
+            asked(5, 16, 0, 1_000_000_000_001),
+            (3_200_000_000_000, 3_200_000_000_004, 1, 0)
+        );
+        // 1/65535 from 65,535 on: r = 65,535·i; the last end is far past every time of a state
+        assert_eq!(
+            asked(1, 65535, 65535, 1_000_000_000_000),
+            (65_535_000_000_000_000, 65_535_000_000_065_535, 0, 0)
+        );
+    }
+
+    #[test]
+    fn a_subtask_is_not_its_last_four_bytes() {
+        // 1/2: 2i - 2 to 2i. Of 2^32, 2^32 + 1 and 5,294,967,297 they are 0, 1 and 1,000,000,001
+        for i in [4_294_967_296, 4_294_967_297, 5_294_967_297] {
+            assert_eq!(asked(1, 2, 0, i), (2 * i - 2, 2 * i, 0, 2 * i));
+        }
+        // those of 996,432,412,672 are 0, and those of the last are 3,567,587,329
+        let due = |i| asked(1, 2, 0, i).1;
+        assert_eq!(due(996_432_412_672), 1_992_864_825_344);
+        assert_eq!(due(3_567_587_329), 7_135_174_658);
+        assert_eq!(due(1_000_000_000_001), 2_000_000_000_002);
+    }
+
+    #[test]
+    fn past_the_last_subtask_every_window_is_refused() {
+        let beyond = [
+            1_000_000_000_002,
+            1_000_000_000_003,
+            1_099_511_627_776,
+            1 << 63,
+            u64::MAX - 1,
+            u64::MAX,
+        ];
+        for i in beyond {
+            for (e, p) in [(1, 1), (1, 2), (2, 3), (1, 65_535), (65_534, 65_535)] {
+                for f in [0, 65_535] {
+                    let answer = agreed(e, p, f, i);
+                    assert_eq!(answer.number, 50);
+                    assert_eq!((answer.start, answer.deadline), (0, 0));
+                    assert_eq!((answer.bit, answer.group), (0, 0));
+                }
+            }
+        }
+    }
+
+    /// So many jobs later every window is the same, later by so many periods.
+    #[test]
+    fn windows_are_the_same_so_many_jobs_later() {
+        // up to the last subtask that may be asked, and across 1,000,000,001 and 2^32
+        for &last in &[1_000_000_000_001, 4_294_967_300, 1_000_000_004] {
+            for p in 1..=40u16 {
+                for e in 1..=p {
+                    let jobs = last / u64::from(e) - 2;
+                    let (given, later) = (u64::from(e) * jobs, u64::from(p) * jobs);
+                    // of the two jobs that follow, and of what is left of the third
+                    for i in 1..=last - given {
+                        let (r, d, b, group) = asked(e, p, 9, i);
+                        let group = if group == 0 { 0 } else { group + later };
+                        let expected = (r + later, d + later, b, group);
+                        assert_eq!(asked(e, p, 9, given + i), expected);
+                    }
+                }
             }
         }
     }

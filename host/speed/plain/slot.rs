@@ -4,7 +4,7 @@ use super::cores::{self, Placement};
 use super::picks::{picks, Picks};
 use super::table::{self, Table};
 
-pub const TIME_LIMIT: u64 = 1_000_000_000;
+pub const TIME_LIMIT: u64 = 1_000_000_000_000;
 
 #[derive(Clone, Copy, PartialEq, Eq, Debug)]
 pub struct State {

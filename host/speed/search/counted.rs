@@ -19,7 +19,7 @@ extern "C" {
 const IDLE: usize = 3;
 
 /// For each of these slots its instructions. The counter is a command that runs this program and counts.
-pub fn each(counter: &[&str], table: &[u8], k: u8, slots: u32) -> Result<Vec<i64>, String> {
+pub fn each(counter: &[&str], table: &[u8], k: u8, slots: u64) -> Result<Vec<i64>, String> {
     let hex: String = table.iter().map(|byte| format!("{:02X}", byte)).collect();
     let (program, words) = counter.split_first().ok_or("no counter is named")?;
     let run = Command::new(program)
@@ -47,7 +47,7 @@ pub fn each(counter: &[&str], table: &[u8], k: u8, slots: u32) -> Result<Vec<i64
 /// To be counted: children that run no slot, and then 0, 1, 2 and so on, up to so many.
 pub fn children(table: &str, k: &str, slots: &str) -> Result<String, String> {
     let table = bytes_of(table);
-    let (k, slots) = match (k.parse(), slots.parse::<u32>()) {
+    let (k, slots) = match (k.parse(), slots.parse::<u64>()) {
         (Ok(k), Ok(slots)) => (k, slots),
         _ => return Err(format!("no numbers: {} {}", k, slots)),
     };
@@ -55,7 +55,7 @@ pub fn children(table: &str, k: &str, slots: &str) -> Result<String, String> {
     // what the emulator has translated once, the children have
     ours::slots(&table, k, slots, &mut entry);
     let idle = [0; IDLE].into_iter();
-    let runs: Vec<u32> = idle.chain(0..=slots).collect();
+    let runs: Vec<u64> = idle.chain(0..=slots).collect();
     for number in runs {
         unsafe {
             let child = fork();
