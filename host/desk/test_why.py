@@ -273,7 +273,7 @@ class Asking(unittest.TestCase):
         self.assertEqual(
             said(TABLE, given, 10, 1, fake),
             [
-                f"{NOT_OURS}it has 4294967295 slots by its count, and 1000000000 is the most.",
+                "By its count this is no trace: it has 4294967295 slots, and 1000000000 is the most, of a longer run too.",
                 f"{NOT_OURS}tank 11 was late at the start of slot 1, and there the dispatcher stops.",
                 f"{NOT_OURS}the record of slot 1 names tank 11, and the dispatcher picks tank 20.",
                 "By the dispatcher's rules tank 10 was not ready in slot 1: the first slot in which it is ready is 4294967296.",
@@ -549,10 +549,12 @@ class AgainstProbe(unittest.TestCase):
         self.assert_said(TABLE, twice, 10, 1, f"{NOT_OURS}{text}.", f"Tank 10 was ready in slot 1, {passed}", 1)
 
     def test_a_count_that_no_trace_has(self) -> None:
-        text = f"{NOT_OURS}it has 1000000001 slots by its count, and 1000000000 is the most."
+        text = "By its count this is no trace: it has 1000000001 slots, and 1000000000 is the most, of a longer run too."
         for count, expected in [(1_000_000_000, []), (1_000_000_001, [text])]:
             given = struct.pack("<I", count) + TRACE[4:8]
             self.assert_said(TABLE, given, 10, 0, *expected, "Tank 10 was picked in slot 0.", len(expected))
+        past = "Slot 1000000000 is in no trace: the last one that a trace can have is 999999999."
+        self.assert_said(TABLE, struct.pack("<I", 1_000_000_001), 10, 1_000_000_000, past, 1)
 
     def test_what_is_not_there(self) -> None:
         self.assert_said(TABLE, TRACE, 14, 0, "Tank 14 is not in the table, which has tanks 10, 11 and 20.", 1)

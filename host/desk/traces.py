@@ -35,6 +35,8 @@ def read(file: IO[bytes], slot: int, rows: int) -> Past:
     slots = read_count(file)
     if slot >= slots:
         raise NoAnswer(f"Slot {slot} is not in the trace, which has {slots_named(slots)}.")
+    if slot >= TRACE_LIMIT:
+        raise NoAnswer(f"Slot {slot} is in no trace: the last one that a trace can have is {TRACE_LIMIT - 1}.")
     length, quanta = 0, ROWS * [0]
     for earlier in endings.watched(range(slot), "reading the trace", slot):
         record = read_record(file, earlier, rows)

@@ -62,13 +62,13 @@ def said(table: bytes, taken: Table, trace: IO[bytes], tank: int, slot: int, pro
     except NoAnswer as none:
         return Said((str(none),), 1)
     checked = verdict.check_start(table, trace, slot, case.past.length, probe, archive)
-    against = count_faults(case) + check_faults(checked, case)
+    too_long, foreign = count_faults(case), check_faults(checked, case)
     why = probe.why(case.state, case.k, case.row)
     if why.number != 0:
-        return Said((*against_trace(against), refused(why.number, against, case)), 1)
+        return Said((*too_long, *not_ours(foreign), refused(why.number, foreign, case)), 1)
     picked = dispatched(case, probe)
-    against += record_faults(picked, case)
-    return Said((*against_trace(against), answer(why, picked, case)), 1 if against else 0)
+    against = too_long + not_ours(foreign + record_faults(picked, case))
+    return Said((*against, answer(why, picked, case)), 1 if against else 0)
 
 
 def read_case(taken: Table, trace: IO[bytes], tank: int, slot: int) -> Case:
@@ -78,15 +78,17 @@ def read_case(taken: Table, trace: IO[bytes], tank: int, slot: int) -> Case:
     return Case(taken, tank, taken.tanks.index(tank), slot, past)
 
 
-def against_trace(faults: list[str]) -> list[str]:
+def not_ours(faults: list[str]) -> list[str]:
     return [f"{words.NOT_OURS}{fault}." for fault in faults]
 
 
 def count_faults(case: Case) -> list[str]:
-    """What is wrong with the trace's own count, which the check is not shown: it sees a trace that ends before the slot."""
+    """What is wrong with the trace's own count, which the check is not shown: it sees a trace that ends before the slot. The records may still be the
+    dispatcher's, which runs on where a trace ends.
+    """
     if case.past.slots <= TRACE_LIMIT:
         return []
-    return [f"it has {case.past.slots} slots by its count, and {TRACE_LIMIT} is the most"]
+    return [f"By its count this is no trace: it has {case.past.slots} slots, and {TRACE_LIMIT} is the most, of a longer run too."]
 
 
 def check_faults(checked: Check, case: Case) -> list[str]:

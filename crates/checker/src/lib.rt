@@ -41,7 +41,7 @@ pub enum Answer {
     TooLong,
 }
 
-// The most slots that a trace may have.
+// The most slots that a trace may have, whatever the time limit is: so the slots of a check have 32 bits, as their count has.
 const SLOT_LIMIT: u32 = 1_000_000_000;
 
 // When a place that holds no row is due: past the end of every trace, so that no such place is counted among the late ones.

@@ -13,6 +13,7 @@ pub mod Bench
 pub mod Laws
 pub mod Confession
 pub mod ShutOut
+pub mod RunsOn
 pub mod NeverLate
 pub mod Cores
 pub mod Why

@@ -53,6 +53,7 @@ use Rattle.dispatcher.proofs.Kept.{Goes, goes-back, not-refused-is-done, refusa
 use Rattle.dispatcher.proofs.Places.{bare-unless-late}
 use Rattle.demands.proofs.Three.{done-with-0, Running, fresh-runs, still-runs}
 use Rattle.demands.specs.NeverLate.{WithCores, NeverLateWith, NeverLate}
+use Rattle.demands.proofs.RunsOn.{runs-on}
 
 -- A sound table whose rows need at most c cores.
 module _ (table : Table) (c : ℕ) (sound : faultOf table ≡ 0) (few : load (table .cycle) (rowsOf table) ≤ c * table .cycle) where
@@ -187,6 +188,7 @@ never-late =
     record {
       all-cores = λ bytes e. let sound = taken-value-has-no-fault bytes e in never-late-with (tableIn bytes) (tableIn bytes .cores) sound (sum-is-within (tableIn bytes) sound);
       some-cores = never-late-with;
+      runs-on = λ table c sound few. runs-on table c sound (never-late-with table c sound few);
       example-taken = refl;
       example-full = refl;
       example-late-with-one = late-with-one;

@@ -1,5 +1,5 @@
 -- The trace of a run that is no longer than a trace passes the check, or the check names the row and the time that the run named. Assumes nothing.
-use Prim.Native.Nat.{ℕ, zero, suc, _+_, _≤_, _<_, zero-le}
+use Prim.Native.Nat.{ℕ, zero, suc, _+_, _≤_, _<_}
 use mathlib.Core.Path.{_≡_, refl, sym, ap, _∙_, subst}
 use mathlib.Core.List.{List, [], _∷_}
 use mathlib.Core.Bool.{true}
@@ -33,22 +33,15 @@ use Rattle.checker.proofs.Sound.{InTime, passes-exactly}
 use Rattle.checker.proofs.Rows.{within-was-ready, within-not-late}
 use Rattle.checker.proofs.Passes.{checked-as-table}
 use Rattle.checker.proofs.Late.{late-is-said}
-use Rattle.demands.specs.RunPasses.{withSlotCount, traceOf, SaysTheSame, IsTrace, RunPasses}
-use Rattle.demands.proofs.WithCount.{slots-are, count-is, is-well-formed, records-pass}
+use Rattle.demands.specs.RunPasses.{withSlotCount, traceOf, SaysTheSame, IsTraceOf, RunPasses}
+use Rattle.demands.proofs.WithCount.{slots-are, count-is, is-well-formed, is-trace-of, records-pass}
 
--- What is known of a run is known of its trace, if it is of its records with the count in front.
-module _ (table : Table) (r : Run) (n : ℕ) (clock : timeOf (r .state) ≡ n) (so : Written table firstPlace n (r .bytes) (r .place)) (few : n ≤ slotLimit) where
-  trace-of-run : SaysTheSame (r .said) (traceSaid table (withSlotCount n (r .bytes) (r .place))) → IsTrace table r
-  trace-of-run says =
-      let same : traceOf r ≡ withSlotCount n (r .bytes) (r .place) = ap (λ t. withSlotCount t (r .bytes) (r .place)) clock in
-      let said : SaysTheSame (r .said) (traceSaid table (traceOf r)) = rw same says in
-      record {
-        slots = rw clock (slots-are table n (r .bytes) (r .place) so few);
-        limit = rw clock few;
-        well-formed = rw same (is-well-formed table n (r .bytes) (r .place) so few);
-        checked = said;
-        checked-by-bytes = λ bytes e t. rw (checked-as-table table (traceOf r) bytes e t) said;
-      }
+-- What a trace of the run is: its count is the run's time.
+abbrev IsTrace : Table → Run → Type 0
+IsTrace table r = IsTraceOf table (timeOf (r .state)) (r .said) (traceOf r)
+
+trace-of-run : (table : Table) (r : Run) (n : ℕ) → timeOf (r .state) ≡ n → IsTraceOf table n (r .said) (withSlotCount n (r .bytes) (r .place)) → IsTrace table r
+trace-of-run table r n clock is = subst (λ t. IsTraceOf table t (r .said) (withSlotCount t (r .bytes) (r .place))) (sym clock) is
 
 module _ (table : Table) (steps : ℕ → Step) (buffer : List ℕ) (sound : faultOf table ≡ 0) (starts : firstPlace ≤ length buffer) where
   abbrev at : ℕ → Run
@@ -62,13 +55,9 @@ module _ (table : Table) (steps : ℕ → Step) (buffer : List ℕ) (sound : fau
         let clock = going table steps buffer firstPlace sound m e .clock in
         let written = written-going table steps buffer firstPlace sound starts m e in
         let short : m ≤ slotLimit = omega (arith, few, clock) in
-        trace-of-run table (at m) m clock written short
-        record {
-          passes = λ z.
-              records-pass table m (at m .bytes) (at m .place) written short sound
-              (λ t row k l. shares-written table steps buffer firstPlace sound starts m e row t l k) .checked;
-          late = λ z. absurd (omega (arith, e, z));
-        }
+        let passes = records-pass table m (at m .bytes) (at m .place) written short sound (λ t row k l. shares-written table steps buffer firstPlace sound starts m e row t l k) in
+        trace-of-run table (at m) m clock
+        (is-trace-of table m (at m .bytes) (at m .place) written short (record { passes = λ z. passes; late = λ z. absurd (omega (arith, e, z)) }))
 
   -- A run of m slots that answered 0, and one more that answered 1.
   module _ (m : ℕ) (few : timeOf (at (suc m) .state) ≤ slotLimit) (e : at m .said .number ≡ 0) (is-late : at (suc m) .said .number ≡ 1) where
@@ -131,11 +120,12 @@ module _ (table : Table) (steps : ℕ → Step) (buffer : List ℕ) (sound : fau
         let slots = slots-are table (m + 1) (last .bytes) (last .place) late-written (late-clock .1) in
         let well = is-well-formed table (m + 1) (last .bytes) (last .place) late-written (late-clock .1) in
         let said = late-is-said table late-trace m (last .said .row) lowest-counted (first .1) well (slots ∙ add-one m) in-time-before last-readied in
-        trace-of-run table last (m + 1) (late-clock .0) late-written (late-clock .1)
+        trace-of-run table last (m + 1) (late-clock .0)
+        (is-trace-of table (m + 1) (last .bytes) (last .place) late-written (late-clock .1)
         record {
           passes = λ z. absurd (omega (arith, is-late, z));
           late = λ z. said ∙ ap (named 45 (last .said .row)) (sym (first .0));
-        }
+        })
 
 -- So of a table without fault, in a buffer with a place for the first record.
 run-of-sound-passes : (table : Table) (steps : ℕ → Step) (buffer : List ℕ) → faultOf table ≡ 0 → firstPlace ≤ length buffer → (m : ℕ) →
@@ -149,7 +139,7 @@ run-of-sound-passes table steps buffer sound starts m h few = go (run table step
         rw (ends .same) (named-late table steps buffer sound starts (ends .slots) (rw (ends .same) at few) (ends .before) (ends .late))
     go (suc (suc number)) e l = absurd (omega arith)
 
--- A run of no slots has the empty trace, which passes for every table.
+-- The empty trace passes for every table.
 module _ (table : Table) where
   abbrev no-records : List ℕ
   no-records = 0 ∷ 0 ∷ 0 ∷ 0 ∷ []
@@ -159,7 +149,7 @@ module _ (table : Table) where
   nothing-behind (suc n) [] = refl
   nothing-behind (suc n) (x ∷ b) = nothing-behind n b
 
-  no-slots : (b : List ℕ) → withSlotCount 0 b firstPlace ≡ no-records
+  pub no-slots : (b : List ℕ) → withSlotCount 0 b firstPlace ≡ no-records
   unfolding bytesOf
   no-slots b = ap (λ rest. 0 ∷ 0 ∷ 0 ∷ 0 ∷ rest) (nothing-behind firstPlace b)
 
@@ -170,18 +160,20 @@ module _ (table : Table) where
   nothing-is-found : traceSaid table no-records ≡ bare 0
   nothing-is-found = passes-exactly table no-records .1 (empty-is-well-formed, λ t l. absurd (omega arith))
 
-  empty-is-trace : (steps : ℕ → Step) (buffer : List ℕ) → IsTrace table (run table steps buffer firstPlace 0)
-  unfolding run
-  empty-is-trace steps buffer =
-      let same = no-slots buffer in
+  pub empty-is-trace : IsTraceOf table 0 (bare 0) no-records
+  empty-is-trace =
       let said : SaysTheSame (bare 0) (traceSaid table no-records) = record { passes = λ z. nothing-is-found; late = λ z. absurd (omega (arith, z)) } in
       record {
-        slots = rw same refl;
-        limit = zero-le;
-        well-formed = rw same empty-is-well-formed;
-        checked = rw same said;
-        checked-by-bytes = λ bytes e t. rw (same, checked-as-table table no-records bytes e t) said;
+        slots = refl;
+        well-formed = empty-is-well-formed;
+        checked = said;
+        checked-by-bytes = λ bytes e t. rw (checked-as-table table no-records bytes e t) said;
       }
+
+  -- It is that of a run of no slots.
+  nothing-is-trace : (steps : ℕ → Step) (buffer : List ℕ) → IsTrace table (run table steps buffer firstPlace 0)
+  unfolding run
+  nothing-is-trace steps buffer = rw (no-slots buffer) empty-is-trace
 
 -- The first step is refused if the table has a fault, or if the place lies past the buffer,
 module _ (table : Table) (buffer : List ℕ) where
@@ -207,7 +199,7 @@ module _ (table : Table) (steps : ℕ → Step) (buffer : List ℕ) where
           stays zero e l = absurd (omega arith)
           stays (suc number) e l = rw e l
 
-  -- So a run of which something is done has no step.
+  -- So if the last answer is 0 or 1 no step was made.
   pub nothing-done : (faultOf table ≡ 0 → ⊥) ⊎ (length buffer < firstPlace) → (m : ℕ) → run table steps buffer firstPlace m .said .number < 2 → m ≡ 0
   nothing-done why zero l = refl
   nothing-done why (suc m) l = absurd (omega (arith, all-refused (first-refused table buffer why (steps 0)) m))
@@ -217,7 +209,7 @@ pub run-passes : RunPasses
 run-passes table steps buffer m h few = go (ℕ-discrete (faultOf table) 0) (decLe firstPlace (length buffer))
   where
     nothing : (faultOf table ≡ 0 → ⊥) ⊎ (length buffer < firstPlace) → IsTrace table (run table steps buffer firstPlace m)
-    nothing why = rw (nothing-done table steps buffer why m h) (empty-is-trace table steps buffer)
+    nothing why = rw (nothing-done table steps buffer why m h) (nothing-is-trace table steps buffer)
 
     go : Dec (faultOf table ≡ 0) → Dec (firstPlace ≤ length buffer) → IsTrace table (run table steps buffer firstPlace m)
     go (yes sound) (yes starts) = run-of-sound-passes table steps buffer sound starts m h few

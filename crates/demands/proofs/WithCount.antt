@@ -14,15 +14,16 @@ use Rattle.table.specs.Value.{faultOf, rowsOf}
 use Rattle.pd2.specs.Share.{within}
 use Rattle.pd2.specs.Choice.{rowAt}
 use Rattle.trace.specs.Records.{freeAt, pickedAt, pastRecord, placeOf, firstPlace, slotsIn, placeIn, timesNamed, timesNamedFrom}
+use Rattle.trace.specs.Said.{Said, bare}
 use Rattle.trace.proofs.Records.{places-rise, stand-from, ends-before}
 use Rattle.trace.proofs.Agree.{Agree, place-agrees, count-agrees}
 use Rattle.dispatcher.proofs.Written.{sound-there, Written}
 use Rattle.checker.specs.Causes.{slotLimit, badRows}
+use Rattle.checker.specs.Check.{traceSaid}
 use Rattle.checker.specs.WellFormed.{SoundRecord, WellFormed}
 use Rattle.checker.proofs.Sound.{listed-not-bad}
 use Rattle.checker.proofs.Passes.{passes-in-shares, checked-as-table}
-use Rattle.demands.specs.RunPasses.{WordBytesAreRead, withSlotCount}
-use Rattle.demands.specs.LongerRuns.{PassesWith}
+use Rattle.demands.specs.RunPasses.{WordBytesAreRead, withSlotCount, SaysTheSame, IsTraceOf}
 
 -- A number in four bytes is read as that number.
 pub word-bytes-are-read : WordBytesAreRead
@@ -86,7 +87,7 @@ module _ (table : Table) (n : ℕ) (b : List ℕ) (next : ℕ) (so : Written tab
         numbers = ap (badRows (length (rowsOf table)) 0) (at .rows) ∙ listed-not-bad (at .listed) (length (rowsOf table));
       }
 
-  -- So the trace is well formed.
+  -- So the trace is well formed,
   pub is-well-formed : WellFormed table trace
   is-well-formed =
       record {
@@ -96,9 +97,13 @@ module _ (table : Table) (n : ℕ) (b : List ℕ) (next : ℕ) (so : Written tab
         end = le-ltb (placeIn trace (slotsIn trace)) (length trace) (omega (arith, ap (placeIn trace) slots-are, place-is n (omega arith), how-long, so .place));
       }
 
-  -- It passes if every row is within its share at each time, by the records.
+  -- and is one of whoever says what the check says.
+  pub is-trace-of : {said : Said} → SaysTheSame said (traceSaid table trace) → IsTraceOf table n said trace
+  is-trace-of says =
+      record { slots = slots-are; well-formed = is-well-formed; checked = says; checked-by-bytes = λ bytes e same. rw (checked-as-table table trace bytes e same) says }
+
+  -- If every row is within its share at each time, by the records, it passes.
   pub records-pass : faultOf table ≡ 0 →
-      ((t row : ℕ) → t ≤ n → row < length (rowsOf table) → within (rowAt (rowsOf table) row) (timesNamedFrom b firstPlace row t) t ≡ true) → PassesWith table n trace
+      ((t row : ℕ) → t ≤ n → row < length (rowsOf table) → within (rowAt (rowsOf table) row) (timesNamedFrom b firstPlace row t) t ≡ true) → traceSaid table trace ≡ bare 0
   records-pass sound shares =
-      let said = passes-in-shares table trace sound is-well-formed .1 (λ t row k l. rw (count-is row t (omega (arith, slots-are))) (shares t row (omega (arith, slots-are)) l)) in
-      record { slots = slots-are; well-formed = is-well-formed; checked = said; checked-by-bytes = λ bytes e same. checked-as-table table trace bytes e same ∙ said }
+      passes-in-shares table trace sound is-well-formed .1 (λ t row k l. rw (count-is row t (omega (arith, slots-are))) (shares t row (omega (arith, slots-are)) l))

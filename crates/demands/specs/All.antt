@@ -30,7 +30,7 @@ pub record All : Type 0 where
   pub one : DemandOne
   pub two : DemandTwo
   pub three : DemandThree
-  -- the bench values that 01 marks P, one as 02, Three mends it, and our own table of 01's numbers, orders and limits
+  -- the bench values that 01 marks P, one as 02, Three mends it, and our own table of the numbers, orders and limits of 01 and 02
   pub bench : BenchHolds
   pub laws : LawsHold
   -- what the last version did wrong

@@ -42,9 +42,22 @@ NeverLateWithAllCores = (bytes : List ℕ) → tableNumber bytes ≡ 0 → Never
 abbrev pub NeverLateWithSome : Type 0
 NeverLateWithSome = (table : Table) (c : ℕ) → faultOf table ≡ 0 → load (table .cycle) (rowsOf table) ≤ c * table .cycle → NeverLateWith table c
 
+-- A step that has at least c cores free, all of them the table's own.
+abbrev pub HasOwnCores : Table → ℕ → Step → Type 0
+HasOwnCores table c (Step.slot free) = (c ≤ size free) × ((core : ℕ) → getD free core false ≡ true → core < table .cores)
+
+-- So a run of such steps goes on up to the time limit, in a buffer that has ten bytes for each slot: every answer is 0.
+abbrev pub RunsOn : Type 0
+RunsOn =
+    (table : Table) (c : ℕ) → faultOf table ≡ 0 → load (table .cycle) (rowsOf table) ≤ c * table .cycle → (steps : ℕ → Step) → ((t : ℕ) → HasOwnCores table c (steps t)) →
+    (buffer : List ℕ) (place m : ℕ) → m ≤ timeLimit → place + 10 * m ≤ length buffer →
+    let r = run table steps buffer place m in
+    (r .said ≡ bare 0) × (timeOf (r .state) ≡ m)
+
 pub record NeverLate : Type 0 where
   pub all-cores : NeverLateWithAllCores
   pub some-cores : NeverLateWithSome
+  pub runs-on : RunsOn
   -- 01's example is such a table, and takes all of its two cores.
   pub example-taken : tableNumber example ≡ 0
   pub example-full : load (tableIn example .cycle) (rowsOf (tableIn example)) ≡ tableIn example .cores * tableIn example .cycle

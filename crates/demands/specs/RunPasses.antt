@@ -33,14 +33,12 @@ pub record SaysTheSame (said checked : Said) : Type 0 where
   pub passes : said .number ≡ 0 → checked ≡ bare 0
   pub late : said .number ≡ 1 → checked ≡ named 45 (said .row) (said .time)
 
--- What the trace of a run is: its slots are within the limit, it is well formed, and the check says the same as the run, for the table and for
--- any bytes that read as the table.
-pub record IsTrace (table : Table) (r : Run) : Type 0 where
-  pub slots : slotsIn (traceOf r) ≡ timeOf (r .state)
-  pub limit : timeOf (r .state) ≤ slotLimit
-  pub well-formed : WellFormed table (traceOf r)
-  pub checked : SaysTheSame (r .said) (traceSaid table (traceOf r))
-  pub checked-by-bytes : (bytes : List ℕ) → tableNumber bytes ≡ 0 → tableIn bytes ≡ table → SaysTheSame (r .said) (checkOf bytes (traceOf r))
+-- A trace of n slots, of a run whose last answer is `said`: it is well formed, and the check says the same as the run, for the table and for any bytes that read as the table.
+pub record IsTraceOf (table : Table) (n : ℕ) (said : Said) (trace : List ℕ) : Type 0 where
+  pub slots : slotsIn trace ≡ n
+  pub well-formed : WellFormed table trace
+  pub checked : SaysTheSame said (traceSaid table trace)
+  pub checked-by-bytes : (bytes : List ℕ) → tableNumber bytes ≡ 0 → tableIn bytes ≡ table → SaysTheSame said (checkOf bytes trace)
 
 -- "Each trace still covers at most 1,000,000,000 slots from slot 0" (02, Seven): the records of a run whose last answer is 0 or 1, if they are no more than that, with their
 -- count in front are a well-formed trace; the checker passes it, or answers 45 with the same row and time as the run's 1.
@@ -48,4 +46,4 @@ abbrev pub RunPasses : Type 0
 RunPasses =
     (table : Table) (steps : ℕ → Step) (buffer : List ℕ) (m : ℕ) →
     let r = run table steps buffer firstPlace m in
-    r .said .number < 2 → timeOf (r .state) ≤ slotLimit → IsTrace table r
+    r .said .number < 2 → timeOf (r .state) ≤ slotLimit → IsTraceOf table (timeOf (r .state)) (r .said) (traceOf r)

@@ -11,10 +11,11 @@ use Rattle.counts.specs.Limits.{timeLimit}
 use Rattle.windows.specs.Question.{lastSubtask, windowReply, replyOf}
 use Rattle.dispatcher.specs.declared.State.{State}
 use Rattle.dispatcher.specs.State.{timeOf}
+use Rattle.why.specs.Answer as why
 use Rattle.checker.specs.declared.Answer.{Answer as Checked}
 use Rattle.checker.specs.Causes.{slotLimit}
-use Rattle.demands.specs.Inputs.{Bytes, CanAskWindow, Possible}
-use Rattle.demands.specs.ShutOut.{Dispatcher, IsDispatcher, numberOf, Answerer, IsAnswerer, IsChecker, numberChecked, IsTraceCheck}
+use Rattle.demands.specs.Inputs.{Bytes, CanAskWindow, Possible, CanAsk}
+use Rattle.demands.specs.ShutOut.{Dispatcher, IsDispatcher, numberOf, Explainer, IsExplainer, Answerer, IsAnswerer, IsChecker, numberChecked, IsTraceCheck}
 
 -- "a tenth of a millisecond": so many slots are in so many hours
 abbrev pub slotsInHours : ℕ → ℕ
@@ -32,6 +33,13 @@ abbrev pub TimeIn32Bits : Dispatcher → Type 0
 TimeIn32Bits slot =
     (s : State) (free : List Bool) (buffer : List ℕ) (place : ℕ) → Possible s free buffer place → numberOf (slot s free buffer place) < 2 →
     timeOf (slot s free buffer place .0 .state) < 2 ^ 32
+
+-- who says why a row waits and gives no reason from the last slot on, or never says 32,
+abbrev pub ReasonsEndTooEarly : Explainer → Type 0
+ReasonsEndTooEarly explain = (s : State) (k row : ℕ) → CanAsk s k row → 999_999_999_999 ≤ timeOf s → why.numberOf (explain s k row) ≡ 0 → ⊥
+
+abbrev pub ReasonsNeverEnd : Explainer → Type 0
+ReasonsNeverEnd explain = (s : State) (k row : ℕ) → CanAsk s k row → why.numberOf (explain s k row) ≡ 32 → ⊥
 
 -- who answers the window question and refuses the last subtask with all behind it (so also one that ends with the limit of 01), or refuses none,
 abbrev pub LastIsRefused : Answerer → Type 0
@@ -58,6 +66,8 @@ pub record ShorterSlots : Type 0 where
   pub ends-too-early : (slot : Dispatcher) → IsDispatcher slot → EndsTooEarly slot → ⊥
   pub never-ends : (slot : Dispatcher) → IsDispatcher slot → NeverEnds slot → ⊥
   pub time-in-32-bits : (slot : Dispatcher) → IsDispatcher slot → TimeIn32Bits slot → ⊥
+  pub reasons-end-too-early : (explain : Explainer) → IsExplainer explain → ReasonsEndTooEarly explain → ⊥
+  pub reasons-never-end : (explain : Explainer) → IsExplainer explain → ReasonsNeverEnd explain → ⊥
   pub last-is-refused : (window : Answerer) → IsAnswerer window → LastIsRefused window → ⊥
   pub no-last-subtask : (window : Answerer) → IsAnswerer window → NoLastSubtask window → ⊥
   pub takes-any-count : (check : List ℕ → List ℕ → Checked) → IsChecker check → TakesAnyCount (numberChecked check) → ⊥

@@ -228,26 +228,27 @@ module _ (table : Table) (steps : ℕ → Step) (buffer : List ℕ) (place : ℕ
           let stays : at (suc m) ≡ at m = ap (λ x. oneMore x (at m) (steps m)) z in
           rw stays (rest (sym (ap (λ r. r .said .number) stays) ∙ e))
 
-  -- Whatever the last answer of a run is, its state and its bytes are those of one whose last answer is 0 or 1: a refusal changes nothing.
+  -- Whatever the last answer of a run is, its state and its bytes are those of one whose last answer is 0 or 1, and 1 only if its own is: a refusal changes nothing.
   pub record ComesDone (r : Run) : Type 0 where
     pub slots : ℕ
     pub done : at slots .said .number < 2
+    pub late : at slots .said .number ≡ 1 → r .said .number ≡ 1
     pub state : r .state ≡ at slots .state
     pub bytes : r .bytes ≡ at slots .bytes
 
   pub comes-done : (m : ℕ) → ComesDone (at m)
   unfolding run
-  comes-done zero = record { slots = 0; done = omega arith; state = refl; bytes = refl }
+  comes-done zero = record { slots = 0; done = omega arith; late = λ e. e; state = refl; bytes = refl }
   comes-done (suc m) = go (at m .said .number) refl (comes-done m)
     where
       next : at m .said .number ≡ 0 → Dec (at (suc m) .said .number < 2) → ComesDone (at (suc m))
-      next z (yes done) = record { slots = suc m; done = done; state = refl; bytes = refl }
+      next z (yes done) = record { slots = suc m; done = done; late = λ e. e; state = refl; bytes = refl }
       next z (no refused) =
           let r = at m in
           let on = next-run table steps buffer place m z in
           let above : 1 < at (suc m) .said .number = omega arith in
           let same = refused-stays (r .state) (steps m) (r .bytes) (r .place) (rw on at above) in
-          record { slots = m; done = omega (arith, z); state = rw on (same .0); bytes = rw on (same .1) }
+          record { slots = m; done = omega (arith, z); late = λ e. absurd (omega (arith, z, e)); state = rw on (same .0); bytes = rw on (same .1) }
 
       go : (n : ℕ) → at m .said .number ≡ n → ComesDone (at m) → ComesDone (at (suc m))
       go zero z rest = next z (decLt (at (suc m) .said .number) 2)

@@ -67,7 +67,8 @@ stoppedBy late s = record { table = s .table; time = s .time; stopped = ltb 0 (l
 abbrev pub lacksRoom : List ℕ → ℕ → ℕ → Bool
 lacksRoom buffer place c = ltb (length buffer) place || ltb (length buffer - place) (2 + c)
 
--- "Order for a slot: 30, 31, 32, 33, 34", and "35 for a set naming a core not below M .. in the place of 33".
+-- "Order for a slot: 30, 31, 32, 33, 34", and "35 for a set naming a core not below M .. in the place of 33" (02, One). 32, "time is already 1,000,000,000", has the limit of Seven: "30, 32 and 50
+-- use the new limit" (02).
 abbrev pub slotTests : State → List Bool → List ℕ → ℕ → List Test
 slotTests s free buffer place =
     (broken s says 30)

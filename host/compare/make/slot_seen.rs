@@ -6,7 +6,7 @@ use crate::make::states::LIMIT_OF_01;
 use crate::make::whole_core::is_whole;
 use crate::tally::{Group, Tally};
 use second::share::inside;
-use second::slot::{deciding_rule, ready_rows, Next, Rule, State, LAST_TIME};
+use second::slot::{broken, deciding_rule, ready_rows, Next, Rule, State, LAST_TIME};
 use second::table::{fault, Row};
 
 pub const CAUSES_OF_30: Group = "the only cause of 30 (1 in 2000): \
@@ -21,7 +21,7 @@ pub const LIMIT: Group = "answered at the time limit (1 in 150): \
     0 or 1 in the last slot | 32 | 30 one past it";
 
 /// With what is counted of the way in which the free cores are told.
-pub const fn groups(free: Group) -> [Group; 20] {
+pub const fn groups(free: Group) -> [Group; 21] {
     [
         "answer (1 in 100): 0 | 1 | 30..32 | 34..35",
         CAUSES_OF_30,
@@ -35,6 +35,7 @@ pub const fn groups(free: Group) -> [Group; 20] {
         "done with (1 in 100): k of 0 | M of 8 | n of 32 | a row not yet begun",
         "late row (1 in 200): above 0 | 31",
         "refused by a place (1 in 500): right in its low 4 bytes alone",
+        "30 by a time (1 in 1000): right in its low 4 bytes alone",
         "moves (1 in 100): 0 | 1 | 2 or more",
         "a picked row (1 in 20): stays | moves | is new",
         "cores that are not (1 in 50): the lowest | each row's own or the lowest",
@@ -59,6 +60,8 @@ pub fn count<F: Free>(case: &Case<F>, answer: &[u8], tally: &mut Tally) {
     count_limit(&case.state, number, tally);
     let low_right = number == 34 && low_place_right(case);
     tally.saw_each("refused by a place", [low_right]);
+    let low_time = number == 30 && low_time_right(&case.state);
+    tally.saw_each("30 by a time", [low_time]);
     let late = |met| number == 1 && met;
     tally.saw_each("late row", [late(answer[1] > 0), late(answer[1] == 31)]);
     if number <= 1 {
@@ -156,6 +159,12 @@ fn low_place_right<F: Free>(case: &Case<F>) -> bool {
     let mut low = case.clone();
     low.place = u64::from(case.place as u32);
     case.place != low.place && low.slot().answer.number <= 1
+}
+
+/// With the rest of its time 0, the state is not broken.
+fn low_time_right(state: &State) -> bool {
+    let time = u64::from(state.time as u32);
+    state.time != time && !broken(&State { time, ..*state })
 }
 
 pub fn rule_name(rule: Rule) -> &'static str {

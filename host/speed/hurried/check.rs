@@ -1,4 +1,5 @@
-//! The trace check, for a table that is known to be sound: readiness by each row's next window, lateness by the rows' deadlines on a wheel.
+//! The trace check, for a table that is known to be sound: readiness by each row's next window, lateness by the rows' deadlines on a wheel. Its times
+//! have 32 bits, as in a run, and it does not test whether there are more slots than a trace may have.
 
 use super::row::rows_of;
 use super::wheel::Wheel;
