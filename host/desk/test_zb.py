@@ -387,12 +387,14 @@ class Windows(unittest.TestCase):
             (["2", "3", "4", "1"], "2/3 with f = 4, i = 1: 4 to 6, b 1, D 7"),
             (["1", "1", "1"], "1/1, i = 1: 0 to 1, b 0, D 1"),  # 02, Six: one slot, b = 0, D = d
             (["5/5", "2", "3"], "5/5 with f = 2, i = 3: 4 to 5, b 0, D 5"),
+            # 02, Seven: 125,000,000,000 jobs of 8/11 on, 11 slots each
+            (["8", "11", "1000000000001"], "8/11, i = 1000000000001: 1375000000000 to 1375000000002, b 1, D 1375000000004"),
         ]:
             self.assertEqual(ran("window", *arguments), (0, line + "\n", ""))
         self.assertEqual(len(ran("window", "8/11", "1-8")[1].splitlines()), 8)
 
     def test_refused(self) -> None:
-        for arguments in [["2", "1", "1"], ["0", "0", "1"], ["8", "11", "0"], ["8", "11", "1000000002"]]:
+        for arguments in [["2", "1", "1"], ["0", "0", "1"], ["8", "11", "0"], ["8", "11", "1000000000002"]]:
             status, out, _ = ran("window", *arguments)
             self.assertEqual(status, 1)
             self.assertTrue(out.endswith(": 50, window refused\n"))
