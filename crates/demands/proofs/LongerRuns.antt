@@ -32,7 +32,7 @@ module _ (table : Table) (steps : ℕ → Step) (buffer : List ℕ) (sound : fau
   abbrev at : ℕ → Run
   at = run table steps buffer firstPlace
 
-  -- The first n of m slots whose records are sound, and in which all shares are kept up to then, pass.
+  -- The first n of t slots whose records are sound, and in which all shares are kept up to then, pass.
   first-pass : (t : ℕ) (b : List ℕ) (next : ℕ) → Written table firstPlace t b next → n ≤ t →
       ((u row : ℕ) → u ≤ n → row < length (rowsOf table) → within (rowAt (rowsOf table) row) (timesNamedFrom b firstPlace row u) u ≡ true) →
       IsTraceOf table n (bare 0) (withSlotCount n b (placeOf b firstPlace n))

@@ -24,7 +24,7 @@ FirstSlotsPass =
     let r = run table steps buffer firstPlace m in
     n ≤ timeOf (r .state) → (r .said .number ≡ 1 → n < timeOf (r .state)) → n ≤ slotLimit → IsTraceOf table n (bare 0) (firstSlots r n)
 
--- More than that are no trace: a count above the limit is refused with 47, whatever stands behind it, as long as four bytes hold it,
+-- More than that are no trace: a count above the limit is refused with 47, whatever stands behind it, as long as four bytes hold it.
 pub record IsTooLong (table : Table) (trace : List ℕ) : Type 0 where
   pub checked : traceSaid table trace ≡ bare 47
   pub checked-by-bytes : (bytes : List ℕ) → tableNumber bytes ≡ 0 → checkOf bytes trace ≡ bare 47
