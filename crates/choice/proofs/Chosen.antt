@@ -27,7 +27,7 @@ use Rattle.choice.specs.Choice.{saysReadyIn, chosen, ChosenAsPd2}
 
 -- Where every row is answered, the rows that are chosen are those that PD2 picks.
 pub chosen-as-pd2 : ChosenAsPd2
-chosen-as-pd2 rows quanta t k all =
+chosen-as-pd2 rows quanta favours t k all =
     same-list (picked (saysReadyIn rows quanta t) goesBefore n k) (picked (readyIn rows quanta t) goesBefore n k) n
     (same-picked (saysReadyIn rows quanta t) (readyIn rows quanta t) goesBefore goesBefore n k (λ i l. yes-when-answered (readyIn rows quanta t i) (all i l)) (λ i j l m. refl))
   where
@@ -35,7 +35,7 @@ chosen-as-pd2 rows quanta t k all =
     n = length rows
 
     goesBefore : ℕ → ℕ → Bool
-    goesBefore = goesBeforeBy before rows quanta
+    goesBefore = goesBeforeBy before rows quanta favours
 
 -- Marks that name the same rows are the same,
 same-marks : (a b : List Bool) → length a ≡ length b → marked a ≡ marked b → a ≡ b
@@ -59,9 +59,9 @@ first-in-place rows quanta n many long {few} e =
     record { few = omega arith; all = length-take few rows ∙ omega arith; long = long }
 
 -- and they are the rows in question.
-pub same-chosen : (rows : List Row) (quanta : List ℕ) (n t k : ℕ) → length rows ≡ 32 → {few cores : ℕ} → few ≡ min n 32 → cores ≡ min k 8 →
-    chosen (take few rows) quanta t cores ≡ chosen (take n rows) quanta t (min k 8)
-same-chosen rows quanta n t k many {few} e f = rw f (ap (λ first. chosen first quanta t (min k 8)) (go (decLt n 32)))
+pub same-chosen : (rows : List Row) (quanta : List ℕ) (favours : ℕ → Bool) (n t k : ℕ) → length rows ≡ 32 → {few cores : ℕ} → few ≡ min n 32 → cores ≡ min k 8 →
+    chosen (take few rows) quanta favours t cores ≡ chosen (take n rows) quanta favours t (min k 8)
+same-chosen rows quanta favours n t k many {few} e f = rw f (ap (λ first. chosen first quanta favours t (min k 8)) (go (decLt n 32)))
   where
     go : Dec (n < 32) → take few rows ≡ take n rows
     go (yes l) = let same : few ≡ n = omega arith in ap (λ m. take m rows) same

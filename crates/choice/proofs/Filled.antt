@@ -13,8 +13,8 @@ use Rattle.facts.proofs.Filling.{Filled, filling-begins, fills-one-more}
 use Rattle.counts.specs.declared.Quanta.{Quanta}
 use Rattle.counts.specs.Limits.{most}
 use Rattle.table.specs.declared.Row.{Row}
-use Rattle.pd2.specs.Order.{rankOf}
-use Rattle.pd2.specs.Choice.{rowAt, quantaAt}
+use Rattle.pd2.specs.Order.{rankOf, withFavour}
+use Rattle.pd2.specs.Choice.{rowAt, quantaAt, rankAt}
 use Rattle.trace.specs.Record.{marked}
 use Rattle.choice.specs.Arrays.{InPlace}
 use Rattle.counts.specs.Numbers.{numbersOf}
@@ -33,12 +33,12 @@ marks-are a n marks {i} so same few = (
 )
 
 -- The keys of the first i rows stand in the array.
-pub record Keyed (rows : List Row) (quanta : List ℕ) (t : ℕ) (keys : List ℕ) (i : ℕ) : Type 0 where
-  pub keyed : Filled (λ j. keyOf (rowAt rows j) j (quantaAt quanta j) t) most 0 32 i keys
-  pub low : (j : ℕ) → j < i → saysReadyIn rows quanta t j ≡ true → (keyIn keys j < most) × HasKey (rankOf (rowAt rows j) j (quantaAt quanta j))
+pub record Keyed (rows : List Row) (quanta : List ℕ) (favours : ℕ → Bool) (t : ℕ) (keys : List ℕ) (i : ℕ) : Type 0 where
+  pub keyed : Filled (λ j. keyOf (rowAt rows j) j (quantaAt quanta j) (favours j) t) most 0 32 i keys
+  pub low : (j : ℕ) → j < i → saysReadyIn rows quanta t j ≡ true → (keyIn keys j < most) × HasKey (rankAt rows quanta favours j)
 
-pub no-keys-yet : (rows : List Row) (quanta : List ℕ) (t : ℕ) → Keyed rows quanta t (replicate 32 most) 0
-no-keys-yet rows quanta t = record { keyed = filling-begins _ _ _ _; low = λ j l. absurd (omega arith) }
+pub no-keys-yet : (rows : List Row) (quanta : List ℕ) (favours : ℕ → Bool) (t : ℕ) → Keyed rows quanta favours t (replicate 32 most) 0
+no-keys-yet rows quanta favours t = record { keyed = filling-begins _ _ _ _; low = λ j l. absurd (omega arith) }
 
 module _ {rows : List Row} {quanta : List Quanta} {n : ℕ} (place : InPlace rows quanta n) (r : Row) (q : Quanta) {i : ℕ} (l : i < length (take n rows)) where
   there : i < length quanta
@@ -48,10 +48,11 @@ module _ {rows : List Row} {quanta : List Quanta} {n : ℕ} (place : InPlace row
   room = omega (arith, place .few, place .all)
 
   -- one key more
-  pub one-more-keyed : {t : ℕ} {keys : List ℕ} {v : ℕ} → Keyed (take n rows) (numbersOf quanta) t keys i →
-      (v ≡ keyOf (getD rows i r) i (getD quanta i q .0) t) × (saysReady (getD rows i r) (getD quanta i q .0) t ≡ true → (v < most) × HasKey (rankOf (getD rows i r) i (getD quanta i q .0))) →
-      Keyed (take n rows) (numbersOf quanta) t (set keys i v) (i + 1)
-  one-more-keyed {t} {keys} {v} so key =
+  pub one-more-keyed : {favours : ℕ → Bool} {t : ℕ} {keys : List ℕ} {v : ℕ} → Keyed (take n rows) (numbersOf quanta) favours t keys i →
+      (v ≡ keyOf (getD rows i r) i (getD quanta i q .0) (favours i) t)
+      × (saysReady (getD rows i r) (getD quanta i q .0) t ≡ true → (v < most) × HasKey (withFavour (rankOf (getD rows i r) i (getD quanta i q .0)) (favours i))) →
+      Keyed (take n rows) (numbersOf quanta) favours t (set keys i v) (i + 1)
+  one-more-keyed {favours} {t} {keys} {v} so key =
       let is = rw (row-there rows n i r l, number-there quanta i q there) at key in
       record { keyed = fills-one-more _ _ _ _ (so .keyed) room (is .0); low = λ j m h. low j m h (decLt j i) (is .1) }
     where
@@ -59,7 +60,7 @@ module _ {rows : List Row} {quanta : List Quanta} {n : ℕ} (place : InPlace row
       isReady j = saysReadyIn (take n rows) (numbersOf quanta) t j ≡ true
 
       hasKey : ℕ → Type 0
-      hasKey j = HasKey (rankOf (rowAt (take n rows) j) j (quantaAt (numbersOf quanta) j))
+      hasKey j = HasKey (rankAt (take n rows) (numbersOf quanta) favours j)
 
       low : (j : ℕ) → j < i + 1 → isReady j → Dec (j < i) → (isReady i → (v < most) × hasKey i) → (keyIn (set keys i v) j < most) × hasKey j
       low j m h (yes k) own = rw (getD-set-other keys i j v 0 (λ same. omega arith)) (so .low j k h)
@@ -67,6 +68,6 @@ module _ {rows : List Row} {quanta : List Quanta} {n : ℕ} (place : InPlace row
           let same : j ≡ i = omega arith in
           rw (same, getD-set-same keys i v 0 (omega (arith, so .keyed .long, room))) (own (rw same at h))
 
-module _ (rows : List Row) (quanta : List ℕ) where
-  pub all-keyed : {t : ℕ} {keys : List ℕ} {i : ℕ} → Keyed rows quanta t keys i → length rows ≤ i → KeysAre rows quanta t keys
+module _ (rows : List Row) (quanta : List ℕ) {favours : ℕ → Bool} where
+  pub all-keyed : {t : ℕ} {keys : List ℕ} {i : ℕ} → Keyed rows quanta favours t keys i → length rows ≤ i → KeysAre rows quanta favours t keys
   all-keyed so h = record { each = λ j l. so .keyed .first j (omega arith); low = λ j l r. so .low j (omega arith) r .0; has = λ j l r. so .low j (omega arith) r .1 }

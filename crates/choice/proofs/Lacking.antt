@@ -1,4 +1,4 @@
--- The key of a ready row by what its next quantum lacks. Assumes nothing.
+-- How the key of a ready row begins, by what its next quantum lacks. Assumes nothing.
 use Prim.Native.Nat.{ℕ, _+_, _-_, _*_, _/_, _%_, _≤_, _<_}
 use mathlib.Core.Path.{_≡_, refl, ap, _∙_}
 use mathlib.Core.Bool.{true, cond}
@@ -15,22 +15,21 @@ use Rattle.pd2.specs.Ready.{originOf, ready}
 use Rattle.pd2.specs.Order.{Rank, rankOf}
 use Rattle.pd2.specs.Share.{CanBe}
 use Rattle.pd2.proofs.Readiness.{ready-is-due-within-period}
-use Rattle.choice.specs.Keys.{behind, keyFor}
+use Rattle.choice.specs.Keys.{behind, frontOf}
 
 -- For callers: at time t, a slots after the row's origin, its next quantum lacks so much.
-module _ (row : Row) (can : CanBe row) (i q t a lacking : ℕ) (from : t ≡ originOf row + a) (sum : (q + 1) * row .period ≡ lacking + a * row .cost) where
+module _ (row : Row) (can : CanBe row) (q t a lacking : ℕ) (from : t ≡ originOf row + a) (sum : (q + 1) * row .period ≡ lacking + a * row .cost) where
   abbrev x : Rank
-  x = rankOf row i q
+  x = rankOf row 0 q
 
-  by-parts : {d b far : ℕ} → x .d ≡ d → x .b ≡ b → behind x ≡ far → keyFor x ≡ ((2 * d + (1 - b)) * 65_536 + (65_535 - far)) * 64 + i
-  unfolding keyFor
+  by-parts : {d b far : ℕ} → x .d ≡ d → x .b ≡ b → behind x ≡ far → frontOf x ≡ (2 * d + (1 - b)) * 65_536 + (65_535 - far)
   by-parts {d} {b} pd pb pf =
-      ap (λ y. ((2 * y + (1 - x .b)) * 65_536 + (65_535 - behind x)) * 64 + i) pd
-      ∙ (ap (λ y. ((2 * d + (1 - y)) * 65_536 + (65_535 - behind x)) * 64 + i) pb
-      ∙ ap (λ y. ((2 * d + (1 - b)) * 65_536 + (65_535 - y)) * 64 + i) pf)
+      ap (λ y. (2 * y + (1 - x .b)) * 65_536 + (65_535 - behind x)) pd
+      ∙ (ap (λ y. (2 * d + (1 - y)) * 65_536 + (65_535 - behind x)) pb
+      ∙ ap (λ y. (2 * d + (1 - b)) * 65_536 + (65_535 - y)) pf)
 
   -- Where it lacks whole slots, b is 0,
-  pub whole-key : lacking % row .cost ≡ 0 → keyFor x ≡ ((2 * (t + lacking / row .cost) + 1) * 65_536 + 65_535) * 64 + i
+  pub whole-key : lacking % row .cost ≡ 0 → frontOf x ≡ (2 * (t + lacking / row .cost) + 1) * 65_536 + 65_535
   whole-key whole =
       let law = whole-lacking (row .cost) (row .period) (originOf row) (q + 1) a lacking (can .cost) sum whole in
       by-parts {far = 0} (law .0 ∙ omega arith) (law .1) (rw (law .1) refl)
@@ -57,7 +56,7 @@ module _ (row : Row) (can : CanBe row) (i q t a lacking : ℕ) (from : t ≡ ori
             let far = part-behind (row .cost) (row .period) (originOf row) (q + 1) a lacking (can .cost) sum part below-one (omega arith) (omega arith) in
             rw (le-ltb (2 * row .cost) (row .period) (omega arith)) (omega (arith, far))
 
-    pub part-key : {far : ℕ} → behind x ≡ far → keyFor x ≡ ((2 * (t + lacking / row .cost) + 2) * 65_536 + (65_535 - far)) * 64 + i
+    pub part-key : {far : ℕ} → behind x ≡ far → frontOf x ≡ (2 * (t + lacking / row .cost) + 2) * 65_536 + (65_535 - far)
     part-key {far} is = by-parts (law .0) (law .1) is ∙ omega arith
 
   -- It lacks no more slots than a period has, if the row is ready.

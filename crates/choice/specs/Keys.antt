@@ -3,24 +3,31 @@
 use Prim.Native.Nat.{ℕ, _+_, _-_, _*_, _≤_, _<_, min}
 use mathlib.Core.Path.{_≡_}
 use mathlib.Core.List.{List}
-use mathlib.Core.Bool.{true, cond}
+use mathlib.Core.Bool.{Bool, true, cond}
 use mathlib.Core.Logic.{_⊎_}
 use lib.Dec.{ltb, eqb}
 use lib.ListN.{length, getD}
 use Rattle.facts.specs.Counting.{howMany}
 use Rattle.counts.specs.Limits.{most}
 use Rattle.table.specs.declared.Row.{Row}
-use Rattle.pd2.specs.Order.{Rank, rankOf, before}
-use Rattle.pd2.specs.Choice.{rowAt, quantaAt}
+use Rattle.pd2.specs.Order.{Rank, rankOf, withFavour, before}
+use Rattle.pd2.specs.Choice.{rowAt, quantaAt, rankAt}
 use Rattle.choice.specs.Choice.{saysReady, saysReadyIn}
 
 -- How far D lies behind d; 0 for a light row, and where b is 0, since D is not asked for then.
 abbrev pub behind : Rank → ℕ
 behind x = cond (eqb (x .b) 1) (x .D - x .d) 0
 
--- The key of a rank: d, b, how far D lies behind d, and the row, in the order in which the rules look at them. D has 16 bits and the row 5, and one between them is left free.
+-- How a key begins: with d, b and how far D lies behind d, in the order in which the rules look at them.
+abbrev pub frontOf : Rank → ℕ
+frontOf x = (2 * x .d + (1 - x .b)) * 65_536 + (65_535 - behind x)
+
+-- How it ends, in 6 bits: with who is favoured, since such a row goes first, and with the row's number.
+abbrev pub endOf : Bool → ℕ → ℕ
+endOf favoured row = cond favoured row (32 + row)
+
 unfoldable pub keyFor : Rank → ℕ
-keyFor x = ((2 * x .d + (1 - x .b)) * 65_536 + (65_535 - behind x)) * 64 + x .row
+keyFor x = frontOf x * 64 + endOf (x .favoured) (x .row)
 
 -- A rank whose parts stand apart in its key. Every row that has a next window has such a rank; that the key of a ready row is below 64 bits is said apart (`low`).
 pub record HasKey (x : Rank) : Type 0 where
@@ -32,17 +39,17 @@ pub record HasKey (x : Rank) : Type 0 where
 abbrev pub KeysOrderAsPd2 : Type 0
 KeysOrderAsPd2 = (x y : Rank) → HasKey x → HasKey y → before x y ≡ ltb (keyFor x) (keyFor y)
 
--- The key of row i; one that is not ready has the largest number there is.
-unfoldable pub keyOf : Row → ℕ → ℕ → ℕ → ℕ
-keyOf row i q t = cond (saysReady row q t) (keyFor (rankOf row i q)) most
+-- The key of row i, favoured or not; one that is not ready has the largest number there is.
+unfoldable pub keyOf : Row → ℕ → ℕ → Bool → ℕ → ℕ
+keyOf row i q favoured t = cond (saysReady row q t) (keyFor (withFavour (rankOf row i q) favoured)) most
 
 abbrev pub keyIn : List ℕ → ℕ → ℕ
 keyIn keys i = getD keys i 0
 
-pub record KeysAre (rows : List Row) (quanta : List ℕ) (t : ℕ) (keys : List ℕ) : Type 0 where
-  pub each : (i : ℕ) → i < length rows → keyIn keys i ≡ keyOf (rowAt rows i) i (quantaAt quanta i) t
+pub record KeysAre (rows : List Row) (quanta : List ℕ) (favours : ℕ → Bool) (t : ℕ) (keys : List ℕ) : Type 0 where
+  pub each : (i : ℕ) → i < length rows → keyIn keys i ≡ keyOf (rowAt rows i) i (quantaAt quanta i) (favours i) t
   pub low : (i : ℕ) → i < length rows → saysReadyIn rows quanta t i ≡ true → keyIn keys i < most
-  pub has : (i : ℕ) → i < length rows → saysReadyIn rows quanta t i ≡ true → HasKey (rankOf (rowAt rows i) i (quantaAt quanta i))
+  pub has : (i : ℕ) → i < length rows → saysReadyIn rows quanta t i ≡ true → HasKey (rankAt rows quanta favours i)
 
 -- The first key that is left out when the k smallest of n are taken: the largest number with no more than k of them below it.
 pub record FirstLeft (key : ℕ → ℕ) (n k first : ℕ) : Type 0 where

@@ -12,7 +12,7 @@ use Rattle.facts.proofs.Counting.{same-count}
 use Rattle.table.specs.Limits.{coreLimit}
 use Rattle.trace.specs.Records.{names}
 use Rattle.cores.specs.declared.Placement.{Placement}
-use Rattle.cores.specs.Placement.{rowIn, coreIn, placesOf, placement, ranOn}
+use Rattle.cores.specs.Placement.{rowIn, coreIn, placesOf, placement, ranOn, ranBefore}
 use Rattle.cores.specs.Cores.{letsStay, stays, ownCore, wanted, leftOver, inTurn, coresFor, placedFor}
 use Rattle.cores.specs.Fault.{badPlace, misremembers}
 
@@ -45,13 +45,19 @@ module _ {a b : Placement} (alike : AlikeIn a b) where
   -- Both have a fault or neither has,
   pub faults-alike : (isRow : ℕ → Bool) (cores : ℕ) → misremembers a isRow cores ≡ misremembers b isRow cores
   unfolding misremembers
-  faults-alike isRow cores = ap₂ _||_ (ap (ltb coreLimit) (alike .count)) (same-some _ _ (placesOf a) (placesOf b) as-long bad)
+  faults-alike isRow cores = ap₂ _||_ (ap (λ count. ltb coreLimit count || ltb cores count) (alike .count)) (same-some _ _ (placesOf a) (placesOf b) as-long bad)
     where
       bad : (i : ℕ) → i < placesOf a → badPlace a isRow cores i ≡ badPlace b isRow cores i
       bad i l =
           ap₂ _||_
+          (ap₂ _||_
           (ap₂ _||_ (ap₂ _||_ (ap (leb cores) (alike .cores i l)) (twice (coreIn a) (coreIn b) (alike .cores) i l)) (ap (λ row. not (isRow row)) (alike .rows i l)))
-          (twice (rowIn a) (rowIn b) (alike .rows) i l)
+          (twice (rowIn a) (rowIn b) (alike .rows) i l))
+          (same-some _ _ i i refl (λ j m. ap₂ leb (alike .rows i l) (alike .rows j (omega arith))))
+
+  -- the same rows ran,
+  pub ran-alike : (row : ℕ) → ranBefore a row ≡ ranBefore b row
+  ran-alike row = same-some _ _ (placesOf a) (placesOf b) as-long (λ i l. ap (λ r. eqb r row) (alike .rows i l))
 
   lets-alike : (free : List ℕ) (row i : ℕ) → i < placesOf a → letsStay a free row i ≡ letsStay b free row i
   lets-alike free row i l = ap₂ (λ r c. eqb r row && names free c) (alike .rows i l) (alike .cores i l)

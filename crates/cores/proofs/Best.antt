@@ -105,7 +105,7 @@ module _ (last : Placement) (apart : Apart last) (free rows : List ℕ) (up : Ri
         apart = all-apart last free apart (leftOver last rows free) rows enough (left-rises last rows free rises) rows-rise not-own;
       }
 
-  found-moves : moves last rows (coresFor last free rows) ≡ tally (mustMove last free) rows
+  pub found-moves : moves last rows (coresFor last free rows) ≡ tally (mustMove last free) rows
   unfolding coresFor
   found-moves = as-few last free (leftOver last rows free) rows enough (left-is-free last rows free)
 

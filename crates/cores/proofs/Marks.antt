@@ -1,5 +1,5 @@
 -- For the code: marks of the numbers that have been met. Assumes nothing.
-use Prim.Native.Nat.{ℕ, _+_, _<_}
+use Prim.Native.Nat.{ℕ, _+_, _≤_, _<_}
 use mathlib.Core.Path.{_≡_, refl, sym, ap, _∙_}
 use mathlib.Core.List.{List}
 use mathlib.Core.Bool.{Bool, true, false}
@@ -37,3 +37,11 @@ module _ (at : ℕ → ℕ) (size : ℕ) where
           getD-set-other marks (at i) x true false (λ e. n (sym e))
           ∙ so .says x h
           ∙ ap (ltb 0) (sym (uncounted-if-failed (λ j. eqb (at j) x) i (ne-eqb (at i) x n)))
+
+  -- A number that is too large has no mark.
+  pub marks-no-more : {i : ℕ} {marks : List Bool} → Marked at size i marks → size ≤ at i → Marked at size (i + 1) marks
+  marks-no-more {i} so l =
+      record {
+        long = so .long;
+        says = λ x h. so .says x h ∙ ap (ltb 0) (sym (uncounted-if-failed (λ j. eqb (at j) x) i (ne-eqb (at i) x (λ e. omega arith))));
+      }

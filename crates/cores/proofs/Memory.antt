@@ -1,21 +1,26 @@
 -- What a memory says of rows and cores. Assumes nothing.
-use Prim.Native.Nat.{ℕ, _<_}
+use Prim.Native.Nat.{ℕ, _≤_, _<_}
 use mathlib.Core.Path.{_≡_, refl, sym, ap, _∙_}
 use mathlib.Core.List.{List}
-use mathlib.Core.Bool.{Bool, true, _&&_, true≢false}
+use mathlib.Core.Bool.{Bool, true, false, _&&_, true≢false}
 use mathlib.Core.Logic.{⊎-elim}
 use native.Mathlib.Decide.{decLt}
 use native.Mathlib.Omega.{arith}
-use borrow.Author.Tests.{eqb-true, eq-eqb}
+use borrow.Author.Tests.{eqb-true, eq-eqb, ne-eqb}
 use lib.Dec.{eqb}
+use lib.ListN.{length, getD}
+use lib.Seq.{getD-take}
 use Rattle.facts.specs.Counting.{some}
 use Rattle.facts.proofs.Some.{some-or-none, some-if, none-if}
 use Rattle.facts.proofs.Loops.{found}
 use Rattle.facts.proofs.Tests.{both, hold-both}
+use Rattle.table.specs.Limits.{coreLimit}
 use Rattle.trace.specs.Records.{names}
+use Rattle.trace.proofs.Names.{named-at}
 use Rattle.cores.specs.declared.Placement.{Placement}
-use Rattle.cores.specs.Placement.{placesOf, rowIn, coreIn, ranOn, ranBefore}
+use Rattle.cores.specs.Placement.{placesOf, rowIn, coreIn, rowsPlaced, ranOn, ranBefore}
 use Rattle.cores.specs.Cores.{letsStay, stays, ownCore, Apart}
+use Rattle.cores.proofs.Naming.{stands-at}
 
 -- If some number passes, one can be named.
 pub found-if-some : (a : ℕ → Bool) (n : ℕ) → some a n ≡ true → (i : ℕ) × (i < n) × (a i ≡ true)
@@ -36,6 +41,24 @@ module _ (last : Placement) where
   -- A row that ran on a core ran.
   pub ran-if-on : (row core : ℕ) → ranOn last row core ≡ true → ranBefore last row ≡ true
   ran-if-on row core h = let f = place-of row core h in some-if _ (placesOf last) (f .0) (f .1) (eq-eqb (rowIn last (f .0)) row (f .2))
+
+  -- Where all its places are there, the rows that ran are those that it names.
+  pub ran-is-named : last .count ≤ coreLimit → length (rowsPlaced last) ≡ last .count → (row : ℕ) → ranBefore last row ≡ names (rowsPlaced last) row
+  ran-is-named few long row = go (names (rowsPlaced last) row) refl
+    where
+      row-at : (i : ℕ) → i < last .count → getD (rowsPlaced last) i 0 ≡ rowIn last i
+      row-at i l = getD-take (last .count) (last .rows) i 0 l
+
+      go : (t : Bool) → names (rowsPlaced last) row ≡ t → ranBefore last row ≡ t
+      go true h =
+          let at = stands-at (rowsPlaced last) row h in
+          let there : at .0 < last .count = omega (arith, at .1, long) in
+          some-if (λ i. eqb (rowIn last i) row) (placesOf last) (at .0) (omega arith) (eq-eqb _ row (sym (row-at (at .0) there) ∙ at .2))
+      go false h =
+          none-if (λ i. eqb (rowIn last i) row) (placesOf last)
+          (λ i l.
+          let there : i < last .count = omega arith in
+          ne-eqb (rowIn last i) row (λ e. true≢false (sym (named-at (rowsPlaced last) i (omega (arith, long))) ∙ (ap (names (rowsPlaced last)) (row-at i there ∙ e) ∙ h))))
 
   module _ (free : List ℕ) (row : ℕ) where
     -- the place that gives a row its own core

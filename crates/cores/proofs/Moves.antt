@@ -1,22 +1,34 @@
 -- The fewest moves that a placement can have, and who stays where it has no more. Assumes nothing.
 use Prim.Native.Nat.{ℕ, zero, suc, _+_, _≤_, _<_}
-use mathlib.Core.Path.{_≡_, refl, sym, _∙_}
+use mathlib.Core.Path.{_≡_, refl, sym, ap, _∙_}
 use mathlib.Core.List.{List, [], _∷_}
 use mathlib.Core.Bool.{Bool, true, false, cond, not, _&&_, true≢false, and-true, and-false}
 use native.Mathlib.Omega.{arith}
-use borrow.Author.Tests.{not-false}
+use borrow.Author.Tests.{not-false, eqb-true}
+use lib.Dec.{eqb}
 use lib.ListN.{length, getD}
 use Rattle.trace.specs.Records.{names}
 use Rattle.cores.specs.declared.Placement.{Placement}
-use Rattle.cores.specs.Placement.{ranOn, ranBefore, moved}
+use Rattle.cores.specs.Placement.{placesOf, rowIn, coreIn, ranOn, ranBefore, moved}
 use Rattle.cores.specs.Best.{moves}
 use Rattle.cores.specs.Cores.{stays, ownCore, Apart}
-use Rattle.cores.proofs.Naming.{holds-not, tally}
-use Rattle.cores.proofs.Memory.{ran-if-on, own-is-ran-on, stays-if-free, on-one-core}
+use Rattle.cores.proofs.Naming.{holds-not, tally, tally-none}
+use Rattle.cores.proofs.Memory.{found-if-some, ran-there, ran-if-on, own-is-ran-on, stays-if-free, on-one-core}
 
 -- A row that moves in every placement: it ran, and on no core that is free.
 abbrev pub mustMove : Placement → List ℕ → ℕ → Bool
 mustMove last free row = not (stays last free row) && ranBefore last row
+
+-- Where each core is free on which a row ran, no row must move.
+pub none-must-move : (last : Placement) (free : List ℕ) → ((i : ℕ) → i < placesOf last → names free (coreIn last i) ≡ true) → (rows : List ℕ) → tally (mustMove last free) rows ≡ 0
+none-must-move last free all rows = tally-none (mustMove last free) rows (λ row _. stays-here row (ranBefore last row) refl)
+  where
+    stays-here : (row : ℕ) (t : Bool) → ranBefore last row ≡ t → mustMove last free row ≡ false
+    stays-here row true h =
+        let f = found-if-some (λ i. eqb (rowIn last i) row) (placesOf last) h in
+        let ran : ranOn last row (coreIn last (f .0)) ≡ true = ap (λ r. ranOn last r (coreIn last (f .0))) (sym (eqb-true _ _ (f .2))) ∙ ran-there last (f .0) (f .1) in
+        rw (stays-if-free last free row (coreIn last (f .0)) (all (f .0) (f .1)) ran) refl
+    stays-here row false h = rw h (and-false (not (stays last free row)))
 
 -- Each of these cores is free.
 abbrev pub AllFree : List ℕ → List ℕ → Type 0

@@ -28,6 +28,7 @@ no-fault rows cores isRow m same few rise is-row differ is-core =
         rows = λ i j l h e. let b : j < length rows = omega arith in omega (arith, rise i j l b, row-at i (omega arith), row-at j b);
         cores = λ i j l h e. let b : j < length cores = omega arith in differ i j l b (sym (core-at i (omega arith)) ∙ e ∙ core-at j b);
       };
+      rising = λ i j l h. let b : j < length rows = omega arith in omega (arith, rise i j l b, row-at i (omega arith), row-at j b);
       core = λ i l. rw (core-at i (omega arith)) (is-core i (omega arith));
       row = λ i l. rw (row-at i (omega arith)) (is-row i (omega arith));
     })

@@ -7,15 +7,13 @@ use native.Mathlib.Decide.{decLt}
 use native.Mathlib.Omega.{arith}
 use borrow.Author.Tests.{lt-ltb, le-ltb, ltb-true, le-leb, lt-leb, leb-false}
 use lib.Dec.{ltb, leb}
-use lib.ListN.{length, getD, length-map, List·getD-map}
-use lib.Seq.{ext-getD}
+use lib.ListN.{length, getD}
 use Rattle.facts.specs.Counting.{some, howMany}
-use Rattle.facts.specs.Places.{places}
 use Rattle.facts.proofs.Counting.{same-count, how-many-below, counts-no-more}
 use Rattle.facts.proofs.Some.{some-if, none-if, each-fails}
 use Rattle.facts.proofs.Listing.{as-many-listed, listed-rise}
-use Rattle.facts.proofs.Filling.{getD-any, Filled}
-use Rattle.facts.proofs.Places.{how-many-places, place-at}
+use Rattle.facts.proofs.Filling.{Filled}
+use Rattle.facts.proofs.Places.{marks-long, mark-at, are-marks}
 use Rattle.facts.proofs.Tests.{both, hold-both}
 use Rattle.trace.specs.Record.{marked}
 use Rattle.trace.specs.Records.{names}
@@ -57,13 +55,10 @@ module _ (cores : ℕ) (free : List Bool) (there : namesPast cores free ≡ fals
 
 module _ (k : ℕ) where
   as-long : length (firstCores k) ≡ setLimit
-  as-long = length-map (places 0 1 setLimit) (λ core. ltb core k) ∙ how-many-places 0 1 setLimit
+  as-long = marks-long (λ core. ltb core k) setLimit
 
   marked-at : (core : ℕ) → core < setLimit → getD (firstCores k) core false ≡ ltb core k
-  marked-at core l =
-      getD-any (firstCores k) core false (ltb 0 k) (rw as-long l)
-      ∙ List·getD-map (λ core. ltb core k) (places 0 1 setLimit) core 0
-      ∙ ap (λ i. ltb i k) (place-at 0 1 setLimit core 0 l ∙ omega arith)
+  marked-at = mark-at (λ core. ltb core k) setLimit
 
   as-many-as-k : k ≤ setLimit → size (firstCores k) ≡ k
   as-many-as-k h =
@@ -113,5 +108,4 @@ past-if-some cores free long number = ap (ltb 0) number ∙ ap (some (λ core. g
 -- Marks that have been filled so are the first k cores.
 pub filled-are-first : (k : ℕ) {i : ℕ} {free : List Bool} → Filled (λ core. ltb core k) false false 32 i free → 32 ≤ i → free ≡ firstCores k
 filled-are-first k {i} {free} so h =
-    ext-getD false free (firstCores k) (so .long ∙ sym (as-long k))
-    (λ core l. let low : core < 32 = omega (arith, so .long) in so .first core (omega arith) ∙ sym (marked-at k core low))
+    are-marks (λ core. ltb core k) setLimit (so .long) (λ core l. so .first core (omega arith))

@@ -5,7 +5,8 @@ use mathlib.Core.Bool.{Bool, not, _&&_}
 use lib.Dec.{eqb}
 use lib.ListN.{length, getD, take, replicate}
 use Rattle.facts.specs.Counting.{some}
-use Rattle.table.specs.Limits.{coreLimit}
+use Rattle.facts.specs.Places.{marksOf}
+use Rattle.table.specs.Limits.{coreLimit, rowLimit}
 use Rattle.cores.specs.declared.Placement.{Placement}
 
 -- The row at place i, and its core. Places past the count mean nothing.
@@ -44,6 +45,10 @@ ranOn last row core = some (λ i. eqb (rowIn last i) row && eqb (coreIn last i) 
 -- a row ran,
 abbrev pub ranBefore : Placement → ℕ → Bool
 ranBefore last row = some (λ i. eqb (rowIn last i) row) (placesOf last)
+
+-- as marks, one for each number that a row may have,
+abbrev pub ranMarks : Placement → List Bool
+ranMarks last = marksOf (ranBefore last) rowLimit
 
 -- and "a row picked in this slot and the one before, on another core".
 abbrev pub moved : Placement → ℕ → ℕ → Bool

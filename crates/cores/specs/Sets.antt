@@ -2,12 +2,12 @@
 -- numbers 0 to 31, so that it can also name cores that are not there.
 use Prim.Native.Nat.{ℕ, _≤_, _<_}
 use mathlib.Core.Path.{_≡_}
-use mathlib.Core.List.{List, map}
+use mathlib.Core.List.{List}
 use mathlib.Core.Bool.{Bool, false, _&&_}
 use lib.Dec.{ltb, leb}
 use lib.ListN.{length, getD}
 use Rattle.facts.specs.Counting.{some}
-use Rattle.facts.specs.Places.{places}
+use Rattle.facts.specs.Places.{marksOf}
 use Rattle.trace.specs.Record.{marked}
 
 -- how many numbers a set can name
@@ -24,7 +24,7 @@ namesPast cores free = some (λ core. getD free core false && leb cores core) (l
 
 -- "the printer's k means the first k cores"
 abbrev pub firstCores : ℕ → List Bool
-firstCores k = map (λ core. ltb core k) (places 0 1 setLimit)
+firstCores k = marksOf (λ core. ltb core k) setLimit
 
 -- "or a printer's k above M": the first k cores are those below k; they name one past M exactly if k is above M, and else there are k of them.
 pub record FirstAre (cores k : ℕ) : Type 0 where

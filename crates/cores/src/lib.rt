@@ -8,7 +8,7 @@ ghost use lib.Dec.{leb};
 ghost use lib.ListN.{getD};
 ghost use Rattle.facts.specs.Counting.{howMany};
 ghost use Rattle.trace.specs.Record.{marked};
-ghost use Rattle.cores.specs.Placement.{nobody};
+ghost use Rattle.cores.specs.Placement.{nobody, ranMarks};
 ghost use Rattle.cores.specs.Cores.{placedFor};
 ghost use Rattle.cores.specs.Fault.{below, misremembers};
 ghost use Rattle.cores.specs.Sets.{size, namesPast, firstCores};
@@ -34,7 +34,8 @@ impl Placement {
         }
     }
 
-    // Whether this is no memory of a slot on so many cores with n rows. Every byte has a mark, so that wild numbers need no test of their own.
+    // Whether this is no memory of a slot on so many cores with n rows. Every byte has a mark, so that wild cores need no test of their own; rows that rise
+    // stand in one place each.
     pub fn is_faulty(self, cores: u8, n: u8) -> bool
         ensures { λ r. ⌜ r ≡ misremembers self (below n) cores ⌝ }
     {
@@ -42,8 +43,11 @@ impl Placement {
         if 8 < count {
             return true;
         }
+        if cores < self.count {
+            return true;
+        }
         let mut used = [false; 256];
-        let mut ran = [false; 256];
+        let mut least: u16 = 0;
         let mut i: usize = 0;
         while i < count {
             let core = self.cores[i];
@@ -57,14 +61,31 @@ impl Placement {
             if n <= row {
                 return true;
             }
-            if ran[row as usize] {
+            if (row as u16) < least {
                 return true;
             }
             used[core as usize] = true;
-            ran[row as usize] = true;
+            least = row as u16 + 1;
             i += 1;
         }
         false
+    }
+
+    // The rows that ran, as marks. The memory may be wild: a number that no row can have is not marked.
+    pub fn ran(self) -> [bool; 32]
+        ensures { λ r. ⌜ r ≡ ranMarks self ⌝ }
+    {
+        let mut marks = [false; 32];
+        let many = turns::at_most_8(self.count as usize);
+        let mut i: usize = 0;
+        while i < many {
+            let row = self.rows[i] as usize;
+            if row < 32 {
+                marks[row] = true;
+            }
+            i += 1;
+        }
+        marks
     }
 }
 

@@ -56,7 +56,7 @@ fn picked(rows: &[u8]) -> [u8; 256]
 }
 
 // How many places are looked at: all eight where there are more, or the count is wild.
-fn at_most_8(count: usize) -> usize
+pub(crate) fn at_most_8(count: usize) -> usize
     ensures { λ r. ⌜ (r ≡ min count coreLimit) × (r ≤ coreLimit) ⌝ }
 {
     if count < 8 { count } else { 8 }

@@ -18,6 +18,7 @@ use Rattle.demands.proofs.LongWalk.{long-walk}
 use Rattle.demands.proofs.WritingTables.{writing-tables}
 use Rattle.demands.proofs.WholeCore.{whole-core}
 use Rattle.demands.proofs.ShorterSlots.{shorter-slots}
+use Rattle.demands.proofs.KindTies.{kind-ties}
 
 pub all : All
 all =
@@ -40,4 +41,5 @@ all =
       writing-tables = writing-tables;
       whole-core = whole-core;
       shorter-slots = shorter-slots;
+      kind-ties = kind-ties;
     }

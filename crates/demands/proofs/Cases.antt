@@ -31,6 +31,7 @@ why-cases =
       bit = refl;
       group-deadline = refl;
       row-number = refl;
+      ran-before = refl;
       broken = refl;
       stopped = refl;
       at-limit = refl;

@@ -10,7 +10,7 @@ use Rattle.pd2.specs.Ready.{originOf}
 use Rattle.pd2.proofs.Rows.{give-is-determined, lowest-late-is-determined}
 use Rattle.trace.proofs.Determined.{write-is-determined, record-is-determined-but-for-its-name}
 use Rattle.counts.specs.Numbers.{numbersOf}
-use Rattle.choice.specs.Choice.{chosen}
+use Rattle.choice.specs.Choice.{favoursMarked, chosen}
 use Rattle.choice.specs.Keys.{keyIn}
 use Rattle.choice.proofs.Chosen.{picks-are-determined}
 use Rattle.choice.proofs.Left.{first-left-is-determined}
@@ -58,10 +58,11 @@ every-promise-determines =
       trace-write = λ part free marks. write-is-determined part free marks;
       trace-record-but-for-its-name = λ trace at slot name. record-is-determined-but-for-its-name (record { ptr = at; name = 0; now = trace }) (slot .0) name;
       trace-begins = λ trace slot. by-value;
-      choice-picks = λ rows quanta n time k. picks-are-determined (chosen (take n rows) (numbersOf quanta) (time .0) (min k 8));
+      choice-picks = λ rows quanta favoured n time k. picks-are-determined (chosen (take n rows) (numbersOf quanta) (favoursMarked favoured) (time .0) (min k 8));
       choice-first-left = λ keys n k. first-left-is-determined (keyIn keys) (min n 32) (min k 8);
       cores-Placement-nobody = by-value;
       cores-Placement-is-faulty = λ self cores n. by-value;
+      cores-Placement-ran = λ self. by-value;
       cores-how-many = λ free a b p q. p .0 ∙ sym (q .0);
       cores-names-past = λ free cores. by-value;
       cores-first = λ k. by-value;
@@ -69,6 +70,7 @@ every-promise-determines =
       dispatcher-Answer-told = λ self. dispatcher.told-is-determined self;
       dispatcher-State-fresh = λ table. dispatcher.fresh-is-determined table;
       dispatcher-State-is-broken = λ self. by-value;
+      dispatcher-State-favoured = λ self. by-value;
       dispatcher-State-slot = λ self free buffer place a b p q.
           dispatcher.slot-is-determined self free buffer place a b (p .0, (p .1, (p .2, p .3))) (q .0, (q .1, (q .2, q .3)));
       why-Answer-told = λ self. by-value;

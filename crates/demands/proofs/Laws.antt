@@ -46,6 +46,7 @@ use Rattle.demands.specs.WriteLaws.{writeLaws}
 use Rattle.demands.specs.SlotLaws.{slotLaws}
 use Rattle.demands.specs.CoreLaws.{coreLaws}
 use Rattle.demands.specs.WhyLaws.{whyLaws}
+use Rattle.demands.specs.KindLaws.{kindLaws}
 use Rattle.demands.specs.TraceLaws.{partLaws, traceLaws}
 use Rattle.demands.specs.PrinterLaws.{idleSlots, printerLaws}
 use Rattle.demands.specs.Laws.{windowLaws, LawsHold}
@@ -89,6 +90,10 @@ why-laws : allLawsHold whyLaws ≡ true
 unfolding ceilDiv atFirst howMany those firstFound rising start deadline bit windowLength jobStart heavy stops stopTime groupDeadline load faultOf ready lower upper before picked names misremembers broken ruleFor lowestPicked readyFrom reasonOf whyOf allLawsHold
 why-laws = refl
 
+kind-laws : allLawsHold kindLaws ≡ true
+unfolding ceilDiv atFirst howMany those firstFound rising places padded start deadline bit windowLength jobStart heavy stops stopTime groupDeadline windowReply load faultOf tableNumber reading ready late lower upper before picked given withFront withRecord placeOf names isFound misremembers wanted leftOver inTurn coresFor broken refusal slotOf badRows recordsFindings traceSaid checkOf freeIn unfit digitsBy decimal spaced slotsText textOf bytesOf same allLawsHold alikeRows risingRows idleSlots ruleFor lowestPicked readyFrom reasonOf whyOf
+kind-laws = refl
+
 part-laws : allLawsHold partLaws ≡ true
 unfolding ceilDiv atFirst howMany those firstFound rising places padded start deadline bit windowLength jobStart heavy stops stopTime groupDeadline windowReply load faultOf tableNumber reading ready late lower upper before picked given withFront withRecord placeOf names isFound misremembers wanted leftOver inTurn coresFor broken refusal slotOf badRows recordsFindings traceSaid checkOf freeIn unfit digitsBy decimal spaced slotsText textOf bytesOf same allLawsHold alikeRows risingRows idleSlots
 part-laws = refl
@@ -106,4 +111,4 @@ laws-hold =
     both-hold windowLaws _ window-laws
     (both-hold tableLaws _ table-laws
     (both-hold readingOrder _ reading-laws
-    (both-hold valueLaws _ value-laws (both-hold writeLaws _ write-laws (both-hold slotLaws _ slot-laws (both-hold coreLaws _ core-laws (both-hold whyLaws _ why-laws (both-hold partLaws _ part-laws (both-hold traceLaws _ trace-laws printer-laws)))))))))
+    (both-hold valueLaws _ value-laws (both-hold writeLaws _ write-laws (both-hold slotLaws _ slot-laws (both-hold coreLaws _ core-laws (both-hold whyLaws _ why-laws (both-hold kindLaws _ kind-laws (both-hold partLaws _ part-laws (both-hold traceLaws _ trace-laws printer-laws))))))))))

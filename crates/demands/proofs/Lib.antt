@@ -22,4 +22,5 @@ pub mod LongWalk
 pub mod WritingTables
 pub mod WholeCore
 pub mod ShorterSlots
+pub mod KindTies
 pub mod All

@@ -46,6 +46,7 @@ window-means e p f i = record { start-is = refl; deadline-is = refl; bit-is = re
 table-means : (s : List ℕ) → TableMeans s
 table-means s =
     record {
+      format = refl;
       cycle = omega arith;
       cores = refl;
       boards = λ j l. read-there (byte s) 0 coreLimit 6 1 0 l ∙ ap (byte s) {x = 6 + 1 * j} {y = 6 + j} (omega arith);
@@ -93,7 +94,7 @@ row-means row q t =
     }
 
 order-means : (rows : List Row) (quanta : List ℕ) (j i : ℕ) → OrderMeans rows quanta j i
-order-means rows quanta j i = record { ready-is = λ t. refl; rank-is = λ row q. refl; goes-before = refl }
+order-means rows quanta j i = record { ready-is = λ t. refl; rank-is = λ row q. refl; favour-is = λ x favoured. refl; goes-before = λ favours. refl }
 
 -- A test that one number is below another fails where it is not.
 below-fails : (a b : ℕ) → (ltb a b ≡ false) ↔ (b ≤ a)

@@ -28,7 +28,7 @@ use Rattle.pd2.specs.Ready.{ready, late}
 use Rattle.pd2.specs.Share.{lower, upper}
 use Rattle.pd2.specs.Order.{before}
 use Rattle.pd2.specs.Picks.{picked}
-use Rattle.pd2.specs.Choice.{rowAt, quantaAt, readyIn, goesBeforeBy, given}
+use Rattle.pd2.specs.Choice.{rowAt, quantaAt, readyIn, favoursNobody, goesBeforeBy, given}
 use Rattle.trace.specs.Record.{withFront, withRecord}
 use Rattle.trace.specs.Records.{names}
 use Rattle.trace.specs.Said.{bare, named}
@@ -45,7 +45,7 @@ use Rattle.dispatcher.specs.declared.State.{State}
 use Rattle.dispatcher.specs.State.{quantaIn, timeOf}
 use Rattle.dispatcher.specs.Broken.{broken}
 use Rattle.dispatcher.specs.Run.{Step, run}
-use Rattle.dispatcher.specs.Slot.{picksIn, placedIn, refusal, slotOf}
+use Rattle.dispatcher.specs.Slot.{favouredIn, picksIn, placedIn, refusal, slotOf}
 use Rattle.dispatcher.proofs.Whole.{is-whole}
 use Rattle.dispatcher.proofs.Ran.{places-stay}
 use Rattle.dispatcher.proofs.Placing.{picks-are-few}
@@ -62,34 +62,36 @@ module _ (table : Table) (c : ℕ) (sound : faultOf table ≡ 0) (few : load (ta
       let all = table-is-box table sound in
       record { long = all .long; can = all .can; divides = all .divides; within = omega (arith, sum-is-load (table .cycle) (rowsOf table)) }
 
-  -- Row i is picked in slot t, with k cores free, by the quanta that were given before.
-  abbrev isPicked : List ℕ → ℕ → ℕ → ℕ → Bool
-  isPicked quanta t k i = picked (readyIn (rowsOf table) quanta t) (goesBeforeBy before (rowsOf table) quanta) (length (rowsOf table)) k i
+  -- Row i is picked in slot t, with k cores free, by the quanta that were given before, and by who is favoured.
+  abbrev isPicked : List ℕ → (ℕ → Bool) → ℕ → ℕ → ℕ → Bool
+  isPicked quanta favours t k i = picked (readyIn (rowsOf table) quanta t) (goesBeforeBy before (rowsOf table) quanta favours) (length (rowsOf table)) k i
 
-  -- The quanta at each time up to T, and the cores that each slot had: they grew by PD2's picks.
+  -- The quanta at each time up to T, and the cores that each slot had and whom it favoured: they grew by PD2's picks.
   record Course (T : ℕ) (last : List ℕ) : Type 0 where
     quanta : ℕ → List ℕ
+    favours : ℕ → ℕ → Bool
     free : ℕ → ℕ
     enough : (t : ℕ) → c ≤ free t
     now : quanta T ≡ last
-    grown : (t i : ℕ) → t < T → i < length (rowsOf table) → quantaAt (quanta (t + 1)) i ≡ quantaAt (quanta t) i + cond (isPicked (quanta t) t (free t) i) 1 0
+    grown : (t i : ℕ) → t < T → i < length (rowsOf table) → quantaAt (quanta (t + 1)) i ≡ quantaAt (quanta t) i + cond (isPicked (quanta t) (favours t) t (free t) i) 1 0
 
   -- So nobody is late at the last time.
   nobody-late : (T : ℕ) (last : List ℕ) → Course T last → (i : ℕ) → i < length (rowsOf table) → late (rowAt (rowsOf table) i) (quantaAt last i) T ≡ false
   nobody-late T last course i l =
       ap (λ q. late (rowAt (rowsOf table) i) (quantaAt q i) T) (sym (course .now))
-      ∙ pd2-never-late (rowsOf table) (table .cycle) c T (course .quanta) (course .free) box (λ t _. course .enough t) (course .grown) T i (omega arith) l
+      ∙ pd2-never-late (rowsOf table) (table .cycle) c T (course .quanta) (course .favours) (course .free) box (λ t _. course .enough t) (course .grown) T i (omega arith) l
 
   -- A course with no slot yet,
   begins : (last : List ℕ) → Course 0 last
-  begins last = record { quanta = λ t. last; free = λ t. c; enough = λ t. omega arith; now = refl; grown = λ t i l. absurd (omega arith) }
+  begins last = record { quanta = λ t. last; favours = λ t. favoursNobody; free = λ t. c; enough = λ t. omega arith; now = refl; grown = λ t i l. absurd (omega arith) }
 
   -- and with one slot more.
-  goes-on : (T : ℕ) (last next : List ℕ) (k : ℕ) → Course T last → c ≤ k →
-      ((i : ℕ) → i < length (rowsOf table) → quantaAt next i ≡ quantaAt last i + cond (isPicked last T k i) 1 0) → Course (T + 1) next
-  goes-on T last next k course more step =
+  goes-on : (T : ℕ) (last next : List ℕ) (favoured : ℕ → Bool) (k : ℕ) → Course T last → c ≤ k →
+      ((i : ℕ) → i < length (rowsOf table) → quantaAt next i ≡ quantaAt last i + cond (isPicked last favoured T k i) 1 0) → Course (T + 1) next
+  goes-on T last next favoured k course more step =
       record {
         quanta = quanta;
+        favours = favours;
         free = free;
         enough = λ t. go-enough (ltb t T) (course .enough t);
         now = rw (lt-leb (T + 1) T (omega arith));
@@ -99,6 +101,9 @@ module _ (table : Table) (c : ℕ) (sound : faultOf table ≡ 0) (few : load (ta
       quanta : ℕ → List ℕ
       quanta t = cond (leb t T) (course .quanta t) next
 
+      favours : ℕ → ℕ → Bool
+      favours t = cond (ltb t T) (course .favours t) favoured
+
       free : ℕ → ℕ
       free t = cond (ltb t T) (course .free t) k
 
@@ -106,7 +111,7 @@ module _ (table : Table) (c : ℕ) (sound : faultOf table ≡ 0) (few : load (ta
       go-enough true l = l
       go-enough false l = more
 
-      go : (t i : ℕ) → i < length (rowsOf table) → Dec (t < T) → t ≤ T → quantaAt (quanta (t + 1)) i ≡ quantaAt (quanta t) i + cond (isPicked (quanta t) t (free t) i) 1 0
+      go : (t i : ℕ) → i < length (rowsOf table) → Dec (t < T) → t ≤ T → quantaAt (quanta (t + 1)) i ≡ quantaAt (quanta t) i + cond (isPicked (quanta t) (favours t) t (free t) i) 1 0
       go t i m (yes l) h = rw (le-leb t T h, le-leb (t + 1) T (omega arith), lt-ltb t T l) (course .grown t i l m)
       go t i m (no l) h =
           let same : t ≡ T = omega arith in
@@ -123,10 +128,10 @@ module _ (table : Table) (c : ℕ) (sound : faultOf table ≡ 0) (few : load (ta
       Course (timeOf (slotOf s free buffer place .state)) (quantaIn (slotOf s free buffer place .state))
   course-after s free buffer place so more done =
       rw (ap (λ x. x .state) (done-makes-the-step s free buffer place done))
-      (goes-on (timeOf s) (quantaIn s) _ (size free) (so .course) more
+      (goes-on (timeOf s) (quantaIn s) _ (favouredIn s) (size free) (so .course) more
       (λ i l. quanta-after s free (is-whole s (so .known .whole)) (so .long) i ∙ ap (λ b. quantaAt (quantaIn s) i + cond b 1 0) (named i l)))
     where
-      named : (i : ℕ) → i < length (rowsOf table) → names (picksIn s (size free)) i ≡ isPicked (quantaIn s) (timeOf s) (size free) i
+      named : (i : ℕ) → i < length (rowsOf table) → names (picksIn s (size free)) i ≡ isPicked (quantaIn s) (favouredIn s) (timeOf s) (size free) i
       named i l = rw (so .known .same) (listed-are-named _ _ i ∙ rw (lt-ltb i (length (rowsOf table)) l) refl)
 
   -- so it does not answer 1,

@@ -13,7 +13,7 @@ use Rattle.pd2.specs.Choice.{rowAt, quantaAt}
 use Rattle.pd2.proofs.Share.{row-can-be}
 use Rattle.cores.specs.Sets.{size, namesPast}
 use Rattle.cores.specs.Fault.{Remembers}
-use Rattle.cores.proofs.Fault.{misremembers-or-remembers}
+use Rattle.cores.proofs.Fault.{misremembers-or-remembers, no-more-than-cores}
 use Rattle.cores.proofs.Past.{past-exactly, there-exactly}
 use Rattle.dispatcher.specs.declared.State.{State}
 use Rattle.dispatcher.specs.State.{rowsIn, isRow, quantaIn, timeOf}
@@ -40,6 +40,8 @@ broken-exactly s = (
         cores-apart = λ i j l m. remembers w .apart .cores i j l (omega (arith, m, remembers w .few));
         rows-there = λ i l. ltb-true (getD (s .last .rows) i 0) (length (rowsIn s)) (remembers w .row i (omega (arith, l, remembers w .few)));
         rows-apart = λ i j l m. remembers w .apart .rows i j l (omega (arith, m, remembers w .few));
+        rows-rise = λ i j l m. remembers w .rising i j l (omega (arith, m, remembers w .few));
+        no-more-than-cores = no-more-than-cores (s .last) (isRow s) (s .table .cores) (remembers w);
       },
   λ n.
       is-not-broken s
@@ -53,6 +55,7 @@ broken-exactly s = (
             (record {
               few = n .remembered;
               apart = record { rows = λ i j l m. n .rows-apart i j l (omega arith); cores = λ i j l m. n .cores-apart i j l (omega arith) };
+              rising = λ i j l m. n .rows-rise i j l (omega arith);
               core = λ i l. n .cores-there i (omega arith);
               row = λ i l. lt-ltb (getD (s .last .rows) i 0) (length (rowsIn s)) (n .rows-there i (omega arith));
             });

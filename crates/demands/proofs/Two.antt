@@ -21,7 +21,7 @@ use Rattle.trace.proofs.Names.{listed-are-named}
 use Rattle.trace.proofs.Agree.{still-as-long, agrees-before, agrees-behind, free-written, rows-written}
 use Rattle.cores.specs.Sets.{size}
 use Rattle.dispatcher.specs.State.{rowsIn, quantaIn, timeOf}
-use Rattle.dispatcher.specs.Slot.{picksIn}
+use Rattle.dispatcher.specs.Slot.{favouredIn, picksIn}
 use Rattle.dispatcher.proofs.Whole.{is-whole}
 use Rattle.dispatcher.proofs.Kept.{done-is-not-refused, goes, done-makes-the-step, named-is-ready, quanta-after, done-keeps-whole}
 use Rattle.dispatcher.proofs.Places.{at-most-one-quantum}
@@ -47,11 +47,11 @@ picks-are-pd2s s free buffer place done =
       behind-it = λ j l. ap (λ b. getD b j 0) bytes ∙ agrees-behind buffer place k (picksIn s k) (so .room) j (omega arith);
       picked-rows = λ i l.
           ap (λ named. names named i) rows
-          ∙ (listed-are-named (picked (readyIn (rowsIn s) (quantaIn s) (timeOf s)) (goesBeforeBy before (rowsIn s) (quantaIn s)) (length (rowsIn s)) k) (length (rowsIn s)) i
+          ∙ (listed-are-named (picked (readyIn (rowsIn s) (quantaIn s) (timeOf s)) (goesBeforeBy before (rowsIn s) (quantaIn s) (favouredIn s)) (length (rowsIn s)) k) (length (rowsIn s)) i
           ∙ rw (lt-ltb i (length (rowsIn s)) l) refl);
       free = ap (λ b. freeAt b place) bytes ∙ free-written buffer place k (picksIn s k) (so .room);
       rows = rows;
-      best = picks-are-best (readyIn (rowsIn s) (quantaIn s) (timeOf s)) (goesBeforeBy before (rowsIn s) (quantaIn s)) (length (rowsIn s)) k (pd2-is-strict (rowsIn s) (quantaIn s) (timeOf s) (length (rowsIn s)));
+      best = picks-are-best (readyIn (rowsIn s) (quantaIn s) (timeOf s)) (goesBeforeBy before (rowsIn s) (quantaIn s) (favouredIn s)) (length (rowsIn s)) k (pd2-is-strict (rowsIn s) (quantaIn s) (favouredIn s) (timeOf s) (length (rowsIn s)));
       quanta = λ long i. ap (λ x. quantaAt (quantaIn x) i) state ∙ rw rows (quanta-after s free (is-whole s (so .whole)) long i);
       time = ap timeOf state;
       ready = λ i h. named-is-ready s free i (sym (ap (λ l. names l i) rows) ∙ h);

@@ -18,6 +18,7 @@ use Rattle.demands.specs.LongWalk.{LongWalk}
 use Rattle.demands.specs.WritingTables.{WritingTables}
 use Rattle.demands.specs.WholeCore.{WholeCore}
 use Rattle.demands.specs.ShorterSlots.{ShorterSlots}
+use Rattle.demands.specs.KindTies.{KindTies}
 
 pub record All : Type 0 where
   -- "any two results allowed are equal", of every public function
@@ -53,3 +54,5 @@ pub record All : Type 0 where
   pub whole-core : WholeCore
   -- "The time limit rises to 1,000,000,000,000", and a trace's slots do not
   pub shorter-slots : ShorterSlots
+  -- "among full ties, a row picked in the previous slot goes first, then the lower row number"
+  pub kind-ties : KindTies

@@ -27,16 +27,21 @@ plainRow tank e p = record { tank = tank; cost = e; period = p; phase = 0; kind 
 abbrev pub earlyRelease : ℕ → ℕ → ℕ → Row
 earlyRelease tank e p = record { tank = tank; cost = e; period = p; phase = 0; kind = 1 }
 
--- a table of a cycle and so many cores, with these rows
+-- a table of format 1, of a cycle and so many cores, with these rows
 abbrev pub box : ℕ → ℕ → List Row → Table
 box cycle cores rows =
     record {
+      format = 1;
       cycle = cycle;
       cores = cores;
       boards = 0 ∷ 1 ∷ 2 ∷ 3 ∷ 4 ∷ 5 ∷ 6 ∷ 7 ∷ [];
       n = length rows;
       rows = rows ++ replicate (rowLimit - length rows) zeroRow;
     }
+
+-- the same table in another format (02, Eight)
+abbrev pub inFormat : ℕ → Table → Table
+inFormat format t = record { format = format; cycle = t .cycle; cores = t .cores; boards = t .boards; n = t .n; rows = t .rows }
 
 -- a slot with the first k cores free
 abbrev pub slotWith : ℕ → Step

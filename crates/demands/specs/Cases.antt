@@ -55,6 +55,7 @@ pub record WhyCases : Type 0 where
   pub bit : rulePlace rule.Bit ≡ 2
   pub group-deadline : rulePlace rule.GroupDeadline ≡ 3
   pub row-number : rulePlace rule.RowNumber ≡ 4
+  pub ran-before : rulePlace rule.RanBefore ≡ 5
   pub broken : toldOf why.Broken ≡ told 30 0 0 0 0
   pub stopped : toldOf why.Stopped ≡ told 31 0 0 0 0
   pub at-limit : toldOf why.AtLimit ≡ told 32 0 0 0 0

@@ -49,8 +49,9 @@ coreLaws =
     ∷ places (afterOne (0 ∷ 1 ∷ []) (0 ∷ 1 ∷ [])) (setOf (1 ∷ 2 ∷ 3 ∷ [])) 10 (bare 0) (0 ∷ 1 ∷ 2 ∷ []) (2 ∷ 1 ∷ 3 ∷ [])
     -- the core of a row that is not picked is as free as any: with one core row 0 alone runs;
     ∷ places (afterOne (2 ∷ []) (0 ∷ [])) (setOf (0 ∷ [])) 10 (bare 0) (0 ∷ []) (0 ∷ [])
-    -- the order of the memory means nothing
-    ∷ places (afterOne (2 ∷ 0 ∷ []) (0 ∷ 1 ∷ [])) (setOf (0 ∷ 1 ∷ 3 ∷ [])) 10 (bare 0) (0 ∷ 1 ∷ 2 ∷ []) (1 ∷ 3 ∷ 0 ∷ [])
+    -- the cores of the memory need not rise; its rows do (02, Eight)
+    ∷ places (afterOne (0 ∷ 2 ∷ []) (1 ∷ 0 ∷ [])) (setOf (0 ∷ 1 ∷ 3 ∷ [])) 10 (bare 0) (0 ∷ 1 ∷ 2 ∷ []) (1 ∷ 3 ∷ 0 ∷ [])
+    ∷ refuses (afterOne (2 ∷ 0 ∷ []) (0 ∷ 1 ∷ [])) (setOf (0 ∷ 1 ∷ 3 ∷ [])) 10 30
     -- "The state remembers which row ran on which core in the last slot": a slot that picks nobody leaves nobody, also with 1
     ∷ places (afterOne (0 ∷ []) (2 ∷ [])) (setOf []) 10 (bare 0) [] []
     ∷ places (remembering (stateOf (box 2 1 (plainRow 0 1 2 ∷ [])) 1 false []) (placement (0 ∷ []) (0 ∷ []))) (setOf []) 10 (named 1 0 2) [] []

@@ -41,6 +41,6 @@ pub record Cores : Type 0 where
   pub printer : FirstCoresAreK
   -- "35 for .. a printer's k above M"
   pub printer-35 : (s : State) (k : ℕ) → NotBroken s → s .stopped ≡ false → timeOf s < 1_000_000_000_000 → (askedOf s k .said .number ≡ 35) ↔ (s .table .cores < k)
-  -- "30 also for a remembered core not below M or given to two rows, or a remembered row not below n or on two cores"
+  -- "30 also for a remembered core not below M or given to two rows, or a remembered row not below n or on two cores"; in Eight "not rising, or a count of them above M"
   pub memory : MisremembersOrRemembers
   pub no-more : NoMoreThanCores

@@ -19,7 +19,7 @@ use Rattle.dispatcher.specs.declared.Outcome.{Outcome}
 use Rattle.why.specs.declared.Answer.{Answer as WhyAnswer}
 use Rattle.checker.specs.declared.Answer.{Answer as Checked}
 use Rattle.printer.specs.declared.Printed.{Printed}
-use Rattle.demands.specs.Promises.{counts·Slot·at, counts·Slot·time, counts·Slot·later, counts·Slot·before, counts·Slot·since, counts·Quanta·of, counts·Quanta·count, counts·Quanta·one-more, counts·Quanta·next-subtask, counts·Subtask·numbered, counts·Subtask·number, counts·Subtask·next, counts·Subtask·quanta-before, fields·byte, fields·half, fields·word, fields·put, windows·window, windows·window-by-walk, windows·next-due, windows·next-start, windows·next-job-start, windows·next-group-deadline, table·read, table·fault, table·write, pd2·Verdict·is-yes, pd2·origin, pd2·ready, pd2·late, pd2·within, pd2·give, pd2·lowest-late, trace·write, trace·record, trace·begins, choice·picks, choice·first-left, cores·Placement·nobody, cores·Placement·is-faulty, cores·how-many, cores·names-past, cores·first, cores·place, dispatcher·Answer·told, dispatcher·State·fresh, dispatcher·State·is-broken, dispatcher·State·slot, why·Answer·told, why·of-row, checker·check, checker·number, firmware·zb-table-check, firmware·zb-trace-check, printer·Printed·length, printer·print, slots-run·zb-slots, desk-run·zb-run, desk-run·zb-judge}
+use Rattle.demands.specs.Promises.{counts·Slot·at, counts·Slot·time, counts·Slot·later, counts·Slot·before, counts·Slot·since, counts·Quanta·of, counts·Quanta·count, counts·Quanta·one-more, counts·Quanta·next-subtask, counts·Subtask·numbered, counts·Subtask·number, counts·Subtask·next, counts·Subtask·quanta-before, fields·byte, fields·half, fields·word, fields·put, windows·window, windows·window-by-walk, windows·next-due, windows·next-start, windows·next-job-start, windows·next-group-deadline, table·read, table·fault, table·write, pd2·Verdict·is-yes, pd2·origin, pd2·ready, pd2·late, pd2·within, pd2·give, pd2·lowest-late, trace·write, trace·record, trace·begins, choice·picks, choice·first-left, cores·Placement·nobody, cores·Placement·is-faulty, cores·Placement·ran, cores·how-many, cores·names-past, cores·first, cores·place, dispatcher·Answer·told, dispatcher·State·fresh, dispatcher·State·is-broken, dispatcher·State·favoured, dispatcher·State·slot, why·Answer·told, why·of-row, checker·check, checker·number, firmware·zb-table-check, firmware·zb-trace-check, printer·Printed·length, printer·print, slots-run·zb-slots, desk-run·zb-run, desk-run·zb-judge}
 
 pub record EveryPromiseDetermines : Type 0 where
   pub counts-Slot-at : (time : ℕ) → Determined (counts·Slot·at time)
@@ -59,10 +59,11 @@ pub record EveryPromiseDetermines : Type 0 where
   -- the one exception: a reference has a name in the proofs, which no program sees and no equation can say; with that given it is determined
   pub trace-record-but-for-its-name : (trace : List ℕ) (trace-ptr : ℕ × ℕ) (slot : Slot) (name : ℕ) → Determined (λ r. (r .name ≡ name) × trace·record trace trace-ptr slot r)
   pub trace-begins : (trace : List ℕ) (slot : Slot) → Determined (trace·begins trace slot)
-  pub choice-picks : (rows : List Row) (quanta : List Quanta) (n : ℕ) (time : Slot) (k : ℕ) → Determined (choice·picks rows quanta n time k)
+  pub choice-picks : (rows : List Row) (quanta : List Quanta) (favoured : List Bool) (n : ℕ) (time : Slot) (k : ℕ) → Determined (choice·picks rows quanta favoured n time k)
   pub choice-first-left : (keys : List ℕ) (n k : ℕ) → Determined (choice·first-left keys n k)
   pub cores-Placement-nobody : Determined cores·Placement·nobody
   pub cores-Placement-is-faulty : (self : Placement) (cores n : ℕ) → Determined (cores·Placement·is-faulty self cores n)
+  pub cores-Placement-ran : (self : Placement) → Determined (cores·Placement·ran self)
   pub cores-how-many : (free : List Bool) → Determined (cores·how-many free)
   pub cores-names-past : (free : List Bool) (cores : ℕ) → Determined (cores·names-past free cores)
   pub cores-first : (k : ℕ) → Determined (cores·first k)
@@ -70,6 +71,7 @@ pub record EveryPromiseDetermines : Type 0 where
   pub dispatcher-Answer-told : (self : Answer) → Determined (dispatcher·Answer·told self)
   pub dispatcher-State-fresh : (table : Table) → Determined (dispatcher·State·fresh table)
   pub dispatcher-State-is-broken : (self : State) → Determined (dispatcher·State·is-broken self)
+  pub dispatcher-State-favoured : (self : State) → Determined (dispatcher·State·favoured self)
   pub dispatcher-State-slot : (self : State) (free : List Bool) (buffer : List ℕ) (place : ℕ) → Determined {R = Outcome × List ℕ} (λ r. dispatcher·State·slot self free buffer place (r .0) (r .1))
   pub why-Answer-told : (self : WhyAnswer) → Determined (why·Answer·told self)
   pub why-of-row : (state : State) (k row : ℕ) → Determined (why·of-row state k row)

@@ -30,7 +30,8 @@ pub data Law : Type 0 where
   window : (e p f i number r d b D : ℕ) → Law
   -- reading these bytes as a table: the number
   reads : (bytes : List ℕ) (number : ℕ) → Law
-  -- the table that is handed back for these bytes: its L, M and n, its row at place i, its board number at place j
+  -- the table that is handed back for these bytes: its format, its L, M and n, its row at place i, its board number at place j
+  has-format : (bytes : List ℕ) (format : ℕ) → Law
   has-sizes : (bytes : List ℕ) (cycle cores n : ℕ) → Law
   has-row : (bytes : List ℕ) (i : ℕ) (row : Row) → Law
   has-board : (bytes : List ℕ) (j board : ℕ) → Law
@@ -82,6 +83,7 @@ lawHolds (window e p f i number r d b D) =
     let reply = windowReply e p f i in
     eqb (reply .number) number && eqb (reply .r) r && eqb (reply .d) d && eqb (reply .b) b && eqb (reply .D) D
 lawHolds (reads bytes number) = eqb (reading bytes .number) number
+lawHolds (has-format bytes format) = eqb (reading bytes .table .format) format
 lawHolds (has-sizes bytes cycle cores n) =
     let table = reading bytes .table in
     eqb (table .cycle) cycle && eqb (table .cores) cores && eqb (table .n) n

@@ -10,6 +10,7 @@ use Rattle.demands.specs.WriteLaws.{writeLaws}
 use Rattle.demands.specs.SlotLaws.{slotLaws}
 use Rattle.demands.specs.CoreLaws.{coreLaws}
 use Rattle.demands.specs.WhyLaws.{whyLaws}
+use Rattle.demands.specs.KindLaws.{kindLaws}
 use Rattle.demands.specs.TraceLaws.{partLaws, traceLaws}
 use Rattle.demands.specs.PrinterLaws.{printerLaws}
 
@@ -53,7 +54,7 @@ windowLaws =
     ∷ []
 
 abbrev pub laws : List Law
-laws = windowLaws ++ (tableLaws ++ (readingOrder ++ (valueLaws ++ (writeLaws ++ (slotLaws ++ (coreLaws ++ (whyLaws ++ (partLaws ++ (traceLaws ++ printerLaws)))))))))
+laws = windowLaws ++ (tableLaws ++ (readingOrder ++ (valueLaws ++ (writeLaws ++ (slotLaws ++ (coreLaws ++ (whyLaws ++ (kindLaws ++ (partLaws ++ (traceLaws ++ printerLaws))))))))))
 
 -- Every law follows from the definitions.
 abbrev pub LawsHold : Type 0

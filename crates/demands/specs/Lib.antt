@@ -17,6 +17,7 @@ pub mod WriteLaws
 pub mod SlotLaws
 pub mod CoreLaws
 pub mod WhyLaws
+pub mod KindLaws
 pub mod TraceLaws
 pub mod PrinterLaws
 pub mod Laws
@@ -31,4 +32,5 @@ pub mod LongWalk
 pub mod WritingTables
 pub mod WholeCore
 pub mod ShorterSlots
+pub mod KindTies
 pub mod All

@@ -19,7 +19,7 @@ use Rattle.table.specs.Value.{rowsOf, boardsOf}
 use Rattle.table.specs.Bytes.{tableIn, reading}
 use Rattle.pd2.specs.Ready.{ready, late}
 use Rattle.pd2.specs.Share.{within}
-use Rattle.pd2.specs.Order.{rankOf, before}
+use Rattle.pd2.specs.Order.{Rank, rankOf, withFavour, before}
 use Rattle.pd2.specs.Choice.{rowAt, quantaAt, readyIn, goesBeforeBy}
 use Rattle.trace.specs.Record.{recordOf, marked, writeNumber, partAfter}
 use Rattle.trace.specs.Records.{names, slotsIn, placeIn, rowsOfSlot, timesNamed}
@@ -51,6 +51,7 @@ pub record WindowMeans (e p f i : ℕ) : Type 0 where
 
 -- The table in bytes: format at 0, L in the four bytes from 1 on, M at 5, the board numbers behind it, n, and the rows of nine bytes each.
 pub record TableMeans (s : List ℕ) : Type 0 where
+  pub format : tableIn s .format ≡ getD s 0 0
   pub cycle : tableIn s .cycle ≡ getD s 1 0 + 256 * getD s 2 0 + 65_536 * getD s 3 0 + 16_777_216 * getD s 4 0
   pub cores : tableIn s .cores ≡ getD s 5 0
   pub boards : (j : ℕ) → j < getD s 5 0 → getD (tableIn s .boards) j 0 ≡ getD s (6 + j) 0
@@ -84,7 +85,7 @@ pub record RowMeans (row : Row) (q t : ℕ) : Type 0 where
 abbrev pub ShareMeans : Row → ℕ → ℕ → Type 0
 ShareMeans row q t = 0 < row .cost → row .cost ≤ row .period → (within row q t ≡ true) ↔ InLimits row q t
 
--- The order looks at d, b and D of the next subtask, and at the row's number.
+-- The order looks at d, b and D of the next subtask, at whether the row is favoured, and at its number.
 pub record OrderMeans (rows : List Row) (quanta : List ℕ) (j i : ℕ) : Type 0 where
   pub ready-is : (t : ℕ) → readyIn rows quanta t i ≡ ready (rowAt rows i) (quantaAt quanta i) t
   pub rank-is : (row : Row) (q : ℕ) →
@@ -93,9 +94,13 @@ pub record OrderMeans (rows : List Row) (quanta : List ℕ) (j i : ℕ) : Type 0
         d = deadline (row .cost) (row .period) (row .phase) (q + 1);
         b = bit (row .cost) (row .period) (q + 1);
         D = groupDeadline (row .cost) (row .period) (row .phase) (q + 1);
+        favoured = false;
         row = i;
       }
-  pub goes-before : goesBeforeBy before rows quanta j i ≡ before (rankOf (rowAt rows j) j (quantaAt quanta j)) (rankOf (rowAt rows i) i (quantaAt quanta i))
+  pub favour-is : (x : Rank) (favoured : Bool) → withFavour x favoured ≡ record { d = x .d; b = x .b; D = x .D; favoured = favoured; row = x .row }
+  pub goes-before : (favours : ℕ → Bool) →
+      goesBeforeBy before rows quanta favours j i
+      ≡ before (withFavour (rankOf (rowAt rows j) j (quantaAt quanta j)) (favours j)) (withFavour (rankOf (rowAt rows i) i (quantaAt quanta i)) (favours i))
 
 -- "A trace is well formed .. when its bytes give no cause for 40 to 43, 46 or 47 anywhere": the count, the records one behind the other, and nothing after them.
 pub record Shaped (table : Table) (s : List ℕ) : Type 0 where

@@ -29,7 +29,7 @@ use Rattle.cores.specs.Sets.{size}
 use Rattle.dispatcher.specs.declared.State.{State}
 use Rattle.dispatcher.specs.State.{rowsIn, quantaIn, timeOf}
 use Rattle.dispatcher.specs.Broken.{broken}
-use Rattle.dispatcher.specs.Slot.{slotOf}
+use Rattle.dispatcher.specs.Slot.{favouredIn, slotOf}
 use Rattle.dispatcher.specs.Places.{SlotNumbers, BareUnlessLate, RefusalChangesNothing, FaultAnswers30, PastIsReturned, PastIsIgnored}
 use Rattle.checker.specs.Causes.{RisingExactly}
 use Rattle.checker.specs.Check.{traceFindings, checkOf}
@@ -69,7 +69,7 @@ pub record Tables : Type 0 where
   pub table : (bytes : List ℕ) → tableNumber bytes ≡ 0 → reading bytes .table ≡ tableIn bytes
   pub past : PastIsZero
   pub no-table : (bytes : List ℕ) → (tableNumber bytes ≡ 0 → ⊥) →
-      reading bytes .table ≡ record { cycle = 0; cores = 0; boards = replicate 8 0; n = 0; rows = replicate 32 (record { tank = 0; cost = 0; period = 0; phase = 0; kind = 0 }) }
+      reading bytes .table ≡ record { format = 0; cycle = 0; cores = 0; boards = replicate 8 0; n = 0; rows = replicate 32 (record { tank = 0; cost = 0; period = 0; phase = 0; kind = 0 }) }
 
 -- "A state is broken (30) if its table has a fault 12 to 20 or 22, if time is above 1,000,000,000, if a row's quanta exceed time, or if it is not stopped and
 -- some row is outside its share at its time", with the limit of Seven, "30, 32 and 50 use the new limit" (02): what a state is that is not broken.
@@ -84,6 +84,9 @@ pub record NotBroken (s : State) : Type 0 where
   pub cores-apart : (i j : ℕ) → i < j → j < s .last .count → getD (s .last .cores) i 0 ≡ getD (s .last .cores) j 0 → ⊥
   pub rows-there : (i : ℕ) → i < s .last .count → getD (s .last .rows) i 0 < length (rowsIn s)
   pub rows-apart : (i j : ℕ) → i < j → j < s .last .count → getD (s .last .rows) i 0 ≡ getD (s .last .rows) j 0 → ⊥
+  -- "30 also for such a format", which is a fault of the table, "for remembered rows not below n or not rising, or a count of them above M" (02, Eight), in both formats
+  pub rows-rise : (i j : ℕ) → i < j → j < s .last .count → getD (s .last .rows) i 0 < getD (s .last .rows) j 0
+  pub no-more-than-cores : s .last .count ≤ s .table .cores
 
 abbrev pub BrokenExactly : Type 0
 BrokenExactly = (s : State) → (broken s ≡ false) ↔ NotBroken s
@@ -98,7 +101,7 @@ pub record SlotExactly (s : State) (free : List Bool) (buffer : List ℕ) (place
       ↔ (NotBroken s × (s .stopped ≡ false) × (timeOf s < 1_000_000_000_000) × ((core : ℕ) × (getD free core false ≡ true) × (s .table .cores ≤ core)))
   pub is-34 : (number ≡ 34)
       ↔ (NotBroken s × (s .stopped ≡ false) × (timeOf s < 1_000_000_000_000) × ((core : ℕ) → getD free core false ≡ true → core < s .table .cores)
-      × (length buffer < place + 2 + length (pd2Picks (rowsIn s) (quantaIn s) (timeOf s) (size free))))
+      × (length buffer < place + 2 + length (pd2Picks (rowsIn s) (quantaIn s) (favouredIn s) (timeOf s) (size free))))
 
 -- of a slot: 30 to 32, 35 and 34, each exactly if 01 and 02 say so. A fresh state of a table with a fault is answered 30. "Places past row n, and board
 -- numbers past M, are ignored and returned as they came";

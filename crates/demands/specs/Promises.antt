@@ -36,11 +36,11 @@ use Rattle.pd2.specs.Rows.{GaveMarked, saysLateIn}
 use Rattle.trace.specs.declared.Stored.{Stored}
 use Rattle.trace.specs.Record.{recordOf, marked, storedNumber, writeNumber, partAfter}
 use Rattle.trace.specs.Found.{partFound, partBegins}
-use Rattle.choice.specs.Choice.{chosen}
+use Rattle.choice.specs.Choice.{favoursMarked, chosen}
 use Rattle.choice.specs.Keys.{keyIn, FirstLeft}
 use Rattle.cores.specs.declared.Placement.{Placement}
 use Rattle.cores.specs.Sets.{size, namesPast, firstCores}
-use Rattle.cores.specs.Placement.{nobody}
+use Rattle.cores.specs.Placement.{nobody, ranMarks}
 use Rattle.cores.specs.Cores.{placedFor}
 use Rattle.cores.specs.Fault.{below, misremembers}
 use Rattle.dispatcher.specs.declared.State.{State}
@@ -50,6 +50,7 @@ use Rattle.dispatcher.specs.declared.Outcome.{Outcome}
 use Rattle.dispatcher.specs.State.{timeOf, freshOf}
 use Rattle.dispatcher.specs.Answer.{saidOf, saidBy}
 use Rattle.dispatcher.specs.Slot.{slotOf}
+use Rattle.dispatcher.specs.Favoured.{favouredMarks}
 use Rattle.dispatcher.specs.Broken.{broken}
 use Rattle.why.specs.declared.Answer.{Answer as WhyAnswer}
 use Rattle.why.specs.declared.Told.{Told as ToldWhy}
@@ -211,8 +212,9 @@ abbrev pub trace·begins : List ℕ → Slot → ℕ → Type 0
 trace·begins trace slot r = r ≡ partBegins trace (slot .0)
 
 -- choice::picks
-abbrev pub choice·picks : List Row → List Quanta → ℕ → Slot → ℕ → List Bool → Type 0
-choice·picks rows quanta n time k r = (length r ≡ 32) × (marked r ≡ chosen (take n rows) (numbersOf quanta) (time .0) (min k 8))
+abbrev pub choice·picks : List Row → List Quanta → List Bool → ℕ → Slot → ℕ → List Bool → Type 0
+choice·picks rows quanta favoured n time k r =
+    (length r ≡ 32) × (marked r ≡ chosen (take n rows) (numbersOf quanta) (favoursMarked favoured) (time .0) (min k 8))
 
 -- choice::first_left
 abbrev pub choice·first-left : List ℕ → ℕ → ℕ → ℕ → Type 0
@@ -225,6 +227,10 @@ cores·Placement·nobody r = r ≡ nobody
 -- cores::Placement::is_faulty
 abbrev pub cores·Placement·is-faulty : Placement → ℕ → ℕ → Bool → Type 0
 cores·Placement·is-faulty self cores n r = r ≡ misremembers self (below n) cores
+
+-- cores::Placement::ran
+abbrev pub cores·Placement·ran : Placement → List Bool → Type 0
+cores·Placement·ran self r = r ≡ ranMarks self
 
 -- cores::how_many
 abbrev pub cores·how-many : List Bool → ℕ → Type 0
@@ -253,6 +259,10 @@ dispatcher·State·fresh table r = r ≡ freshOf table
 -- dispatcher::State::is_broken
 abbrev pub dispatcher·State·is-broken : State → Bool → Type 0
 dispatcher·State·is-broken self r = r ≡ broken self
+
+-- dispatcher::State::favoured
+abbrev pub dispatcher·State·favoured : State → List Bool → Type 0
+dispatcher·State·favoured self r = r ≡ favouredMarks self
 
 -- dispatcher::State::slot
 abbrev pub dispatcher·State·slot : State → List Bool → List ℕ → ℕ → Outcome → List ℕ → Type 0

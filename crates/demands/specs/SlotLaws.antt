@@ -30,6 +30,7 @@ fiveFifths = box 5 1 (plainRow 0 1 5 ∷ plainRow 1 1 5 ∷ plainRow 2 1 5 ∷ p
 abbrev pub manyRows : Table
 manyRows =
     record {
+      format = 1;
       cycle = 64;
       cores = 8;
       boards = 0 ∷ 1 ∷ 2 ∷ 3 ∷ 4 ∷ 5 ∷ 6 ∷ 7 ∷ [];
@@ -41,6 +42,7 @@ manyRows =
 abbrev pub wildPast : Table
 wildPast =
     record {
+      format = 1;
       cycle = 2;
       cores = 1;
       boards = 7 ∷ 7 ∷ 7 ∷ 7 ∷ 7 ∷ 7 ∷ 7 ∷ 7 ∷ [];

@@ -1,9 +1,9 @@
 -- Laws of the table in bytes (01, "The table, in bytes", "What comes back"): part of specs/Laws.antt.
 use Prim.Native.Nat.{ℕ}
 use mathlib.Core.List.{List, [], _∷_, _++_}
-use lib.ListN.{take}
+use lib.ListN.{take, drop}
 use Rattle.fields.specs.Fields.{bytesOf}
-use Rattle.demands.specs.Law.{Law, reads, has-sizes, has-row, has-board, allZero}
+use Rattle.demands.specs.Law.{Law, reads, has-format, has-sizes, has-row, has-board, allZero}
 use Rattle.demands.specs.LawInputs.{front, rowBytes, alikeRows, halfAndThirdBytes}
 
 -- a table of two rows 1/6 and a third
@@ -22,9 +22,16 @@ tableLaws =
     ∷ reads (front 6 (0 ∷ 1 ∷ [])) 10
     ∷ reads (take 26 halfAndThirdBytes) 10
     ∷ reads halfAndThirdBytes 0
-    -- 11, "format is not 1"
+    -- "11 means neither 1 nor 2" (02, Eight)
     ∷ reads (0 ∷ bytesOf 4 6 ++ (1 ∷ 0 ∷ 0 ∷ [])) 11
-    ∷ reads (2 ∷ bytesOf 4 6 ++ (1 ∷ 0 ∷ 0 ∷ [])) 11
+    ∷ reads (1 ∷ bytesOf 4 6 ++ (1 ∷ 0 ∷ 0 ∷ [])) 0
+    ∷ reads (2 ∷ bytesOf 4 6 ++ (1 ∷ 0 ∷ 0 ∷ [])) 0
+    ∷ reads (3 ∷ bytesOf 4 6 ++ (1 ∷ 0 ∷ 0 ∷ [])) 11
+    ∷ reads (255 ∷ bytesOf 4 6 ++ (1 ∷ 0 ∷ 0 ∷ [])) 11
+    ∷ has-format (1 ∷ bytesOf 4 6 ++ (1 ∷ 0 ∷ 0 ∷ [])) 1
+    ∷ has-format (2 ∷ bytesOf 4 6 ++ (1 ∷ 0 ∷ 0 ∷ [])) 2
+    ∷ has-format (3 ∷ bytesOf 4 6 ++ (1 ∷ 0 ∷ 0 ∷ [])) 0
+    ∷ has-row (2 ∷ drop 1 (threeRows (rowBytes 2 1 6 7 1))) 2 (record { tank = 2; cost = 1; period = 6; phase = 7; kind = 1 })
     -- 12, "L outside 1 to 1,000,000"
     ∷ reads (front 0 (0 ∷ []) ++ (0 ∷ [])) 12
     ∷ reads (front 1 (0 ∷ []) ++ (0 ∷ [])) 0

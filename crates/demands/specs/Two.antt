@@ -17,7 +17,7 @@ use Rattle.trace.specs.Said.{bare}
 use Rattle.cores.specs.Sets.{size}
 use Rattle.dispatcher.specs.declared.State.{State}
 use Rattle.dispatcher.specs.State.{rowsIn, quantaIn, timeOf}
-use Rattle.dispatcher.specs.Slot.{SlotReply, slotOf}
+use Rattle.dispatcher.specs.Slot.{favouredIn, SlotReply, slotOf}
 use Rattle.dispatcher.specs.Places.{AtMostOneQuantum}
 use Rattle.checker.specs.Check.{checkOf}
 use Rattle.checker.specs.WellFormed.{WellFormed}
@@ -26,16 +26,16 @@ use Rattle.checker.specs.Passes.{InWindows}
 -- A slot of state s with k cores free, k being "the size of the set" (02, One), that answers 0 or 1, at a place in a buffer: what it has given back.
 pub record Picks (s : State) (k : ℕ) (buffer : List ℕ) (place : ℕ) (after : SlotReply) : Type 0 where
   -- "those that PD2 picks": the record that stands at the place names them, "every other byte is as before",
-  pub bytes : after .bytes ≡ withRecord buffer place (recordOf k (pd2Picks (rowsIn s) (quantaIn s) (timeOf s) k))
+  pub bytes : after .bytes ≡ withRecord buffer place (recordOf k (pd2Picks (rowsIn s) (quantaIn s) (favouredIn s) (timeOf s) k))
   pub size : length (after .bytes) ≡ length buffer
   pub before-it : (j : ℕ) → j < place → getD (after .bytes) j 0 ≡ getD buffer j 0
-  pub behind-it : (j : ℕ) → place + 2 + length (pd2Picks (rowsIn s) (quantaIn s) (timeOf s) k) ≤ j → getD (after .bytes) j 0 ≡ getD buffer j 0
+  pub behind-it : (j : ℕ) → place + 2 + length (pd2Picks (rowsIn s) (quantaIn s) (favouredIn s) (timeOf s) k) ≤ j → getD (after .bytes) j 0 ≡ getD buffer j 0
   pub free : freeAt (after .bytes) place ≡ k
-  pub rows : rowsAt (after .bytes) place ≡ pd2Picks (rowsIn s) (quantaIn s) (timeOf s) k
+  pub rows : rowsAt (after .bytes) place ≡ pd2Picks (rowsIn s) (quantaIn s) (favouredIn s) (timeOf s) k
   -- they are ready, "as many as there are free cores, or all that are ready if fewer, best first by its order",
   pub picked-rows : (i : ℕ) → i < length (rowsIn s) →
-      names (rowsAt (after .bytes) place) i ≡ picked (readyIn (rowsIn s) (quantaIn s) (timeOf s)) (goesBeforeBy before (rowsIn s) (quantaIn s)) (length (rowsIn s)) k i
-  pub best : AreBest (readyIn (rowsIn s) (quantaIn s) (timeOf s)) (goesBeforeBy before (rowsIn s) (quantaIn s)) (length (rowsIn s)) k
+      names (rowsAt (after .bytes) place) i ≡ picked (readyIn (rowsIn s) (quantaIn s) (timeOf s)) (goesBeforeBy before (rowsIn s) (quantaIn s) (favouredIn s)) (length (rowsIn s)) k i
+  pub best : AreBest (readyIn (rowsIn s) (quantaIn s) (timeOf s)) (goesBeforeBy before (rowsIn s) (quantaIn s) (favouredIn s)) (length (rowsIn s)) k
   pub ready : (i : ℕ) → names (rowsAt (after .bytes) place) i ≡ true → (i < length (rowsIn s)) × (readyIn (rowsIn s) (quantaIn s) (timeOf s) i ≡ true)
   -- "each picked row has one quantum more", and no other (a state has 32 quanta, always), "time is one higher",
   pub quanta : length (s .quanta) ≡ 32 → (i : ℕ) →
@@ -58,7 +58,7 @@ PassesExactly =
     (checkOf tableBytes trace ≡ bare 0)
     ↔ ((tableNumber tableBytes ≡ 0) × WellFormed (tableIn tableBytes) trace × InWindows (tableIn tableBytes) trace)
 
--- "its order": x goes before y by one of the four rules, and not otherwise.
+-- "its order": x goes before y by one of the five rules, 01's four and that of 02, Eight, and not otherwise. (That in format 1 they are 01's four: specs/KindTies.antt.)
 abbrev pub OrderIsTheRules : Type 0
 OrderIsTheRules = (x y : Rank) → (before x y ≡ true) ↔ Before x y
 

@@ -38,11 +38,11 @@ pub record Why : Type 0 where
   -- "The reason given must be the true one and the only true one in that list, no core free being said only of a ready row with k = 0": what the reasons say
   -- stands in why/specs/Reasons.antt.
   pub reason : ReasonIsTrueAndOnly
-  -- "the rule that put it ahead (deadline, bit, group deadline, row number)": of two rows there is one.
+  -- "the rule that put it ahead (deadline, bit, group deadline, row number)", or 'ran in the slot before' (02, Eight): of two rows there is one.
   pub one-rule : OneRule
   -- "the lowest-ranked picked row": where somebody is picked there is one.
   pub one-lowest : OneLowest
   pub as-the-slot : PickedAsTheSlotDoes
-  -- "Places past row n, and board numbers past M, are ignored" (01); nor has what is remembered a part in it.
+  -- "Places past row n, and board numbers past M, are ignored" (01); nor has what is remembered a part in it, but for who is favoured.
   pub ignored : PastHasNoPart
   pub memory : MemoryHasNoPart

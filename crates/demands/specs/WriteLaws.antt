@@ -1,10 +1,10 @@
 -- Laws of writing tables (02, Five): part of specs/Laws.antt.
 use mathlib.Core.List.{List, [], _∷_, _++_, map}
-use lib.ListN.{replicate}
+use lib.ListN.{drop, replicate}
 use Rattle.facts.specs.Places.{places}
 use Rattle.table.specs.declared.Table.{Table}
 use Rattle.table.specs.Causes.{zeroRow}
-use Rattle.demands.specs.Bench.{plainRow, box}
+use Rattle.demands.specs.Bench.{plainRow, box, inFormat}
 use Rattle.demands.specs.Law.{Law, writes, noSuchRow}
 use Rattle.demands.specs.LawInputs.{front, rowBytes, alikeRows, halfAndThird, halfAndThirdBytes}
 
@@ -30,9 +30,9 @@ writeLaws =
     ∷ writes (box 6 0 []) 0 13 0 []
     ∷ writes (box 6 9 []) 0 13 0 []
     ∷ writes (box 6 255 []) 0 13 0 []
-    ∷ writes (record { cycle = 6; cores = 9; boards = replicate 8 0; n = 0; rows = replicate 32 zeroRow }) 0 13 0 []
-    ∷ writes (record { cycle = 6; cores = 2; boards = 4 ∷ 4 ∷ 0 ∷ 0 ∷ 0 ∷ 0 ∷ 0 ∷ 0 ∷ []; n = 33; rows = replicate 32 zeroRow }) 0 14 0 []
-    ∷ writes (record { cycle = 6; cores = 2; boards = 4 ∷ 5 ∷ 0 ∷ 0 ∷ 0 ∷ 0 ∷ 0 ∷ 0 ∷ []; n = 33; rows = replicate 32 zeroRow }) 0 15 0 []
+    ∷ writes (record { format = 1; cycle = 6; cores = 9; boards = replicate 8 0; n = 0; rows = replicate 32 zeroRow }) 0 13 0 []
+    ∷ writes (record { format = 1; cycle = 6; cores = 2; boards = 4 ∷ 4 ∷ 0 ∷ 0 ∷ 0 ∷ 0 ∷ 0 ∷ 0 ∷ []; n = 33; rows = replicate 32 zeroRow }) 0 14 0 []
+    ∷ writes (record { format = 1; cycle = 6; cores = 2; boards = 4 ∷ 5 ∷ 0 ∷ 0 ∷ 0 ∷ 0 ∷ 0 ∷ 0 ∷ []; n = 33; rows = replicate 32 zeroRow }) 0 15 0 []
     ∷ writes (box 6 2 (plainRow 7 1 3 ∷ plainRow 7 0 3 ∷ [])) 0 16 0 []
     ∷ writes (box 6 2 (plainRow 0 0 0 ∷ [])) 0 17 0 []
     ∷ writes (box 6 2 (plainRow 0 5 4 ∷ [])) 0 18 0 []
@@ -40,15 +40,20 @@ writeLaws =
     ∷ writes (box 6 1 (plainRow 0 2 3 ∷ record { tank = 1; cost = 1; period = 2; phase = 0; kind = 2 } ∷ [])) 0 20 0 []
     ∷ writes (box 6 1 (plainRow 0 2 3 ∷ plainRow 1 1 2 ∷ [])) 0 22 0 []
     ∷ writes (box 6 1 (plainRow 0 2 3 ∷ plainRow 1 1 2 ∷ [])) 30 22 0 (replicate 30 99)
+    -- "11 means neither 1 nor 2, for a table to be written too, ahead of 12" (02, Eight); format 2 is written
+    ∷ writes (inFormat 2 halfAndThird) 27 0 27 (2 ∷ drop 1 halfAndThirdBytes)
+    ∷ writes (inFormat 0 halfAndThird) 27 11 0 (replicate 27 99)
+    ∷ writes (inFormat 3 (box 0 0 [])) 0 11 0 []
+    ∷ writes (inFormat 255 halfAndThird) 0 11 0 []
     -- "18 means e above p" (02, Six): e = p is written
     ∷ writes (box 6 2 (plainRow 0 6 6 ∷ [])) 18 0 18 (front 6 (0 ∷ 1 ∷ []) ++ (1 ∷ rowBytes 0 6 6 0 0))
     -- the most bytes
     ∷ writes fullBox 303 0 303 (front 64 (0 ∷ 1 ∷ 2 ∷ 3 ∷ 4 ∷ 5 ∷ 6 ∷ 7 ∷ []) ++ (32 ∷ alikeRows 64 0 32))
     ∷ writes fullBox 302 37 0 (replicate 302 99)
     -- the fewest bytes, and what stands past M and n: it is neither judged nor written
-    ∷ writes (record { cycle = 1; cores = 1; boards = 255 ∷ 7 ∷ 7 ∷ 7 ∷ 7 ∷ 7 ∷ 7 ∷ 7 ∷ []; n = 0; rows = replicate 32 noSuchRow }) 9 0 8
+    ∷ writes (record { format = 1; cycle = 1; cores = 1; boards = 255 ∷ 7 ∷ 7 ∷ 7 ∷ 7 ∷ 7 ∷ 7 ∷ 7 ∷ []; n = 0; rows = replicate 32 noSuchRow }) 9 0 8
     (1 ∷ 1 ∷ 0 ∷ 0 ∷ 0 ∷ 1 ∷ 255 ∷ 0 ∷ 99 ∷ [])
     -- "Little-endian throughout": 1,000,000 is 64, 66, 15, 0, and 50,000 is 80, 195
-    ∷ writes (record { cycle = 1_000_000; cores = 2; boards = 0 ∷ 9 ∷ 3 ∷ 0 ∷ 0 ∷ 0 ∷ 0 ∷ 0 ∷ []; n = 1; rows = record { tank = 65_534; cost = 259; period = 50_000; phase = 65_535; kind = 1 } ∷ replicate 31 noSuchRow }) 18 0 18
+    ∷ writes (record { format = 1; cycle = 1_000_000; cores = 2; boards = 0 ∷ 9 ∷ 3 ∷ 0 ∷ 0 ∷ 0 ∷ 0 ∷ 0 ∷ []; n = 1; rows = record { tank = 65_534; cost = 259; period = 50_000; phase = 65_535; kind = 1 } ∷ replicate 31 noSuchRow }) 18 0 18
     (1 ∷ 64 ∷ 66 ∷ 15 ∷ 0 ∷ 2 ∷ 0 ∷ 9 ∷ 1 ∷ 254 ∷ 255 ∷ 3 ∷ 1 ∷ 80 ∷ 195 ∷ 255 ∷ 255 ∷ 1 ∷ [])
     ∷ []

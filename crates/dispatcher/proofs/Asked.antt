@@ -13,13 +13,15 @@ use Rattle.pd2.specs.Verdict.{isYes, answered, verdict}
 use Rattle.pd2.proofs.Verdicts.{answered-in-reach, yes-when-answered}
 use Rattle.choice.specs.Arrays.{InPlace}
 use Rattle.counts.specs.Numbers.{numbersOf}
-use Rattle.choice.specs.Choice.{chosen}
+use Rattle.choice.specs.Choice.{favoursMarked, chosen}
 use Rattle.pd2.proofs.Choice.{row-there}
 use Rattle.counts.proofs.Numbers.{number-there}
 use Rattle.choice.proofs.Chosen.{chosen-as-pd2}
 use Rattle.dispatcher.specs.declared.State.{State}
 use Rattle.dispatcher.specs.State.{rowsIn, quantaIn, timeOf}
 use Rattle.dispatcher.specs.Slot.{picksIn}
+use Rattle.dispatcher.specs.Favoured.{favouredMarks}
+use Rattle.dispatcher.proofs.Favoured.{picks-by-marks}
 use Rattle.dispatcher.specs.Broken.{ofRowAt}
 use Rattle.dispatcher.specs.Usable.{UsableRow, Testable, Usable, UsableState}
 
@@ -57,8 +59,10 @@ module _ {rows : List Row} {quanta : List Quanta} {n t : ℕ} (u : Usable rows q
       e ∙ (ap isYes f ∙ (yes-when-answered (is (getD rows i r) (getD quanta i q .0)) (can-be-asked usable-there)
       ∙ rw (row-there rows n i r l, number-there quanta i q there) refl))
 
--- The rows that are chosen of a usable state are those that PD2 picks.
-pub state-chosen-as-pd2 : (s : State) (k : ℕ) → UsableState s → k ≤ 8 → chosen (rowsIn s) (quantaIn s) (timeOf s) (min k 8) ≡ picksIn s k
+-- The rows that are chosen of a usable state, by the marks of those that are favoured, are those that PD2 picks.
+pub state-chosen-as-pd2 : (s : State) (k : ℕ) → UsableState s → k ≤ 8 → chosen (rowsIn s) (quantaIn s) (favoursMarked (favouredMarks s)) (timeOf s) (min k 8) ≡ picksIn s k
 state-chosen-as-pd2 s k u few =
     let all : min k 8 ≡ k = omega arith in
-    rw all (chosen-as-pd2 (rowsIn s) (quantaIn s) (timeOf s) k (λ i l. can-be-asked (u .each i l)))
+    rw all
+    (chosen-as-pd2 (rowsIn s) (quantaIn s) (favoursMarked (favouredMarks s)) (timeOf s) k (λ i l. can-be-asked (u .each i l))
+    ∙ picks-by-marks s k (omega (arith, u .place .few, u .place .all)))

@@ -21,7 +21,7 @@ use Rattle.cores.proofs.Sets.{size-within}
 use Rattle.choice.specs.Keys.{keyIn, FirstLeft}
 use Rattle.dispatcher.specs.declared.State.{State}
 use Rattle.dispatcher.specs.State.{rowsIn, quantaIn, timeOf}
-use Rattle.dispatcher.specs.Slot.{picksIn, recordIn, refusal}
+use Rattle.dispatcher.specs.Slot.{favouredIn, picksIn, recordIn, refusal}
 use Rattle.dispatcher.specs.Usable.{UsableState}
 use Rattle.dispatcher.specs.Looking.{ReadyKeys, rowsBefore, laterKeys, LateRow}
 use Rattle.dispatcher.specs.Tests.{Admitted, CanStep}
@@ -48,7 +48,7 @@ module _ (s : State) (free : List Bool) (buffer : List ℕ) (place : ℕ) (so : 
   pub few-cores : size free ≤ 8
   few-cores = omega (arith, size-within (s .table .cores) free (so .there), sizes-are-within (s .table) (is-whole s (so .whole) .table) .1 .1)
 
-  module _ {keys : List ℕ} {found : ℕ} (ready : ReadyKeys (rowsIn s) (quantaIn s) (timeOf s) keys found) {k : ℕ} (all : k ≡ size free) where
+  module _ {keys : List ℕ} {found : ℕ} (ready : ReadyKeys (rowsIn s) (quantaIn s) (favouredIn s) (timeOf s) keys found) {k : ℕ} (all : k ≡ size free) where
     -- The first key that is left out, as it is asked for,
     pub left-out : {first : ℕ} → FirstLeft (keyIn keys) (min found 32) (min k 8) first → FirstLeft (keyIn keys) found (size free) first
     left-out left =
@@ -77,7 +77,7 @@ module _ (s : State) (free : List Bool) (buffer : List ℕ) (place : ℕ) (so : 
         rows = record-names-picks s free buffer place goes-on stands
 
         abbrev isPicked : ℕ → Bool
-        isPicked = picked (readyIn (rowsIn s) (quantaIn s) (timeOf s)) (goesBeforeBy before (rowsIn s) (quantaIn s)) (length (rowsIn s)) (size free)
+        isPicked = picked (readyIn (rowsIn s) (quantaIn s) (timeOf s)) (goesBeforeBy before (rowsIn s) (quantaIn s) (favouredIn s)) (length (rowsIn s)) (size free)
 
         rise : picksIn s (size free) ≡ those (names (picksIn s (size free))) (length (rowsIn s))
         rise =

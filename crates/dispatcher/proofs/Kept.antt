@@ -41,7 +41,7 @@ use Rattle.dispatcher.specs.declared.State.{State}
 use Rattle.dispatcher.specs.State.{rowsIn, isRow, quantaIn, timeOf, freshOf}
 use Rattle.dispatcher.specs.Broken.{ofRow, broken}
 use Rattle.dispatcher.specs.Answer.{doneSaid}
-use Rattle.dispatcher.specs.Slot.{picksIn, recordIn, lateAt, lateIn, placedIn, afterSlot, stoppedBy, slotTests, refusal, doneReply, slotBy, slotOf}
+use Rattle.dispatcher.specs.Slot.{favouredIn, picksIn, recordIn, lateAt, lateIn, placedIn, afterSlot, stoppedBy, slotTests, refusal, doneReply, slotBy, slotOf}
 use Rattle.dispatcher.specs.Places.{RefusalChangesNothing, FaultAnswers30}
 use Rattle.counts.proofs.Numbers.{as-many-numbers, as-counted}
 use Rattle.dispatcher.proofs.Rows.{late-rows}
@@ -194,7 +194,7 @@ module _ (s : State) (free : List Bool) where
   -- A row that is named is picked, so it is a ready row of the table.
   pub named-is-ready : (i : ℕ) → names (picksIn s (size free)) i ≡ true → (i < length (rowsIn s)) × (readyIn (rowsIn s) (quantaIn s) (timeOf s) i ≡ true)
   named-is-ready i h =
-      let test = picked (readyIn (rowsIn s) (quantaIn s) (timeOf s)) (goesBeforeBy before (rowsIn s) (quantaIn s)) (length (rowsIn s)) (size free) in
+      let test = picked (readyIn (rowsIn s) (quantaIn s) (timeOf s)) (goesBeforeBy before (rowsIn s) (quantaIn s) (favouredIn s)) (length (rowsIn s)) (size free) in
       let x = both (ltb i (length (rowsIn s))) (test i) (sym (listed-are-named test (length (rowsIn s)) i) ∙ h) in
       (ltb-true i (length (rowsIn s)) (x .0), picked-is-ready _ _ _ (size free) i (x .1))
 

@@ -2,6 +2,7 @@ pub mod Rows
 pub mod Asked
 pub mod Looking
 pub mod Found
+pub mod Favoured
 pub mod Recorded
 pub mod Giving
 pub mod BrokenBy

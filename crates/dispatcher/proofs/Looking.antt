@@ -18,7 +18,7 @@ use Rattle.pd2.specs.Share.{elapsed, lower, upper, within, CanBe}
 use Rattle.pd2.proofs.Verdicts.{lower-is}
 use Rattle.pd2.proofs.Readiness.{ready-is-past-origin}
 use Rattle.pd2.proofs.Standing.{Stands, owed-is-outside, ahead-is-ready, ahead-waits, ahead-is-outside, released-is-ready, released-waits, released-is-outside, behind-is-ready, waits-for-phase, had-before-phase}
-use Rattle.choice.specs.Keys.{keyFor, HasKey}
+use Rattle.choice.specs.Keys.{frontOf, HasKey}
 use Rattle.choice.proofs.KeyOrder.{rank-has-key}
 use Rattle.choice.proofs.Lacking.{whole-key, below-one, how-far, part-key, lacks-few-slots}
 use Rattle.dispatcher.specs.declared.Stand.{Stand}
@@ -133,7 +133,7 @@ module _ (cost period q a : ℕ) {jobs : ℕ} (same : jobs ≡ ceilDiv a period)
   ahead-waits-on l m = rw (← same, le-ltb (jobs * cost) q m, le-ltb q (jobs * cost) l) refl
 
 -- A ready row of a state,
-module _ (row : Row) (i q t : ℕ) (so : CanBeReady row i q t) where
+module _ (row : Row) (q t : ℕ) (so : CanBeReady row q t) where
   -- past its phase,
   pub past-phase : originOf row ≤ t
   past-phase = ready-is-past-origin row q t (so .next)
@@ -153,24 +153,27 @@ module _ (row : Row) (i q t : ℕ) (so : CanBeReady row i q t) where
 
     -- So much is lacking: fewer slots than a period has.
     pub few-slots : lacking / row .cost ≤ row .period
-    few-slots = lacks-few-slots row (so .can) i q t (t - originOf row) lacking from sum (so .next)
+    few-slots = lacks-few-slots row (so .can) q t (t - originOf row) lacking from sum (so .next)
 
     module _ (cost : row .cost < 65_536) where
-      has : HasKey (rankOf row i q)
+      has : HasKey (rankOf row 0 q)
       has =
-          rank-has-key row i q (record { cost = so .can .cost; weight = so .can .weight; quanta = omega (arith, so .quanta, so .time) }) cost (omega (arith, so .number))
+          rank-has-key row 0 q false (record { cost = so .can .cost; weight = so .can .weight; quanta = omega (arith, so .quanta, so .time) }) cost (omega arith)
 
-      pub key-of-whole : {rest key : ℕ} → rest ≡ lacking % row .cost → rest ≡ 0 → (key ≡ ((2 * (t + lacking / row .cost) + 1) * 65_536 + (65_535 - 0)) * 64 + i) × (key < most) →
-          (key ≡ keyFor (rankOf row i q)) × (key < most) × HasKey (rankOf row i q)
-      key-of-whole r whole k =
-          (k .0 ∙ sym (whole-key row (so .can) i q t (t - originOf row) lacking from sum (sym r ∙ whole)), k .1, has)
+      -- How its key begins, whatever its end.
+      pub key-of-whole : (end : ℕ) {rest key : ℕ} → rest ≡ lacking % row .cost → rest ≡ 0 →
+          (key ≡ ((2 * (t + lacking / row .cost) + 1) * 65_536 + (65_535 - 0)) * 64 + end) × (key < most) →
+          (key ≡ frontOf (rankOf row 0 q) * 64 + end) × (key < most) × HasKey (rankOf row 0 q)
+      key-of-whole end r whole k =
+          (k .0 ∙ ap (λ front. front * 64 + end) (sym (whole-key row (so .can) q t (t - originOf row) lacking from sum (sym r ∙ whole))), k .1, has)
 
       module _ (part : lacking % row .cost ≡ 0 → ⊥) where
         pub below-period : row .cost < row .period
-        below-period = below-one row (so .can) i q t (t - originOf row) lacking from sum part
+        below-period = below-one row (so .can) q t (t - originOf row) lacking from sum part
 
-        pub key-of-part : {far key : ℕ} → far ≡ cond (ltb (2 * row .cost) (row .period)) 0 (ceilDiv (row .cost - lacking % row .cost) (row .period - row .cost)) →
-            (key ≡ ((2 * (t + lacking / row .cost) + 2) * 65_536 + (65_535 - far)) * 64 + i) × (key < most) →
-            (key ≡ keyFor (rankOf row i q)) × (key < most) × HasKey (rankOf row i q)
-        key-of-part f k =
-            (k .0 ∙ sym (part-key row (so .can) i q t (t - originOf row) lacking from sum part (how-far row (so .can) i q t (t - originOf row) lacking from sum part ∙ sym f)), k .1, has)
+        pub key-of-part : (end : ℕ) {far key : ℕ} → far ≡ cond (ltb (2 * row .cost) (row .period)) 0 (ceilDiv (row .cost - lacking % row .cost) (row .period - row .cost)) →
+            (key ≡ ((2 * (t + lacking / row .cost) + 2) * 65_536 + (65_535 - far)) * 64 + end) × (key < most) →
+            (key ≡ frontOf (rankOf row 0 q) * 64 + end) × (key < most) × HasKey (rankOf row 0 q)
+        key-of-part end f k =
+            let front = part-key row (so .can) q t (t - originOf row) lacking from sum part (how-far row (so .can) q t (t - originOf row) lacking from sum part ∙ sym f) in
+            (k .0 ∙ ap (λ front. front * 64 + end) (sym front), k .1, has)

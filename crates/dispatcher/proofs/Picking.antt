@@ -19,10 +19,10 @@ use Rattle.facts.proofs.Tests.{both}
 use Rattle.counts.specs.Limits.{most}
 use Rattle.table.specs.declared.Row.{Row}
 use Rattle.pd2.specs.Ready.{late}
-use Rattle.pd2.specs.Order.{rankOf, before}
+use Rattle.pd2.specs.Order.{before}
 use Rattle.pd2.specs.Share.{lower, upper, CanBe}
 use Rattle.pd2.specs.Picks.{picked}
-use Rattle.pd2.specs.Choice.{rowAt, quantaAt, readyIn, goesBeforeBy, given}
+use Rattle.pd2.specs.Choice.{rowAt, quantaAt, rankAt, readyIn, goesBeforeBy, given}
 use Rattle.pd2.proofs.Share.{late-means-below, row-can-be}
 use Rattle.pd2.proofs.Readiness.{late-from-deadline, late-was-ready, given-is-not-late}
 use Rattle.pd2.proofs.Picks.{picks-are-best}
@@ -34,11 +34,11 @@ use Rattle.choice.proofs.KeyOrder.{key-ends-with-row, key-begins-with-deadline}
 use Rattle.choice.proofs.Picked.{KeyedBy, picked-before}
 use Rattle.dispatcher.specs.declared.State.{State}
 use Rattle.dispatcher.specs.State.{rowsIn, quantaIn, timeOf}
-use Rattle.dispatcher.specs.Slot.{picksIn}
+use Rattle.dispatcher.specs.Slot.{favouredIn, picksIn}
 use Rattle.dispatcher.specs.Looking.{keyAt, ReadyKeys, rowsBefore, laterKeys, isDue, LateRow}
 use Rattle.dispatcher.proofs.Whole.{Whole}
 
-module _ (s : State) (k : ℕ) {keys : List ℕ} {found : ℕ} (so : ReadyKeys (rowsIn s) (quantaIn s) (timeOf s) keys found) where
+module _ (s : State) (k : ℕ) {keys : List ℕ} {found : ℕ} (so : ReadyKeys (rowsIn s) (quantaIn s) (favouredIn s) (timeOf s) keys found) where
   abbrev n : ℕ
   n = length (rowsIn s)
 
@@ -46,10 +46,10 @@ module _ (s : State) (k : ℕ) {keys : List ℕ} {found : ℕ} (so : ReadyKeys (
   isReady = readyIn (rowsIn s) (quantaIn s) (timeOf s)
 
   abbrev isPicked : ℕ → Bool
-  isPicked = picked isReady (goesBeforeBy before (rowsIn s) (quantaIn s)) n k
+  isPicked = picked isReady (goesBeforeBy before (rowsIn s) (quantaIn s) (favouredIn s)) n k
 
   abbrev key : ℕ → ℕ
-  key = keyAt (rowsIn s) (quantaIn s)
+  key = keyAt (rowsIn s) (quantaIn s) (favouredIn s)
 
   -- the row at a place of the list
   abbrev row : ℕ → ℕ
@@ -58,14 +58,14 @@ module _ (s : State) (k : ℕ) {keys : List ℕ} {found : ℕ} (so : ReadyKeys (
   -- "The first min(free cores, ready rows) are picked."
   pub picks-are-counted : length (picksIn s k) ≡ min k found
   picks-are-counted =
-      let best = picks-are-best isReady (goesBeforeBy before (rowsIn s) (quantaIn s)) n k (pd2-is-strict (rowsIn s) (quantaIn s) (timeOf s) n) in
+      let best = picks-are-best isReady (goesBeforeBy before (rowsIn s) (quantaIn s) (favouredIn s)) n k (pd2-is-strict (rowsIn s) (quantaIn s) (favouredIn s) (timeOf s) n) in
       best .how-many ∙ ap (min k) (sym (so .count ∙ as-many-listed isReady n))
 
   -- each row has its key, and one that is not ready the largest number
   abbrev any : ℕ → ℕ
   any i = cond (isReady i) (key i) most
 
-  keyed : KeyedBy (rowsIn s) (quantaIn s) isReady any n
+  keyed : KeyedBy (rowsIn s) (quantaIn s) (favouredIn s) isReady any n
   keyed =
       record {
         has = so .has;
@@ -104,7 +104,7 @@ module _ (s : State) (k : ℕ) {keys : List ℕ} {found : ℕ} (so : ReadyKeys (
 
     -- a key ends with its row
     ends : (i : ℕ) → i < n → isReady i ≡ true → key i % 32 ≡ i
-    ends i l h = key-ends-with-row (rankOf (rowAt (rowsIn s) i) i (quantaAt (quantaIn s) i)) (so .has i l h .row)
+    ends i l h = key-ends-with-row (rankAt (rowsIn s) (quantaIn s) (favouredIn s) i) (so .has i l h .row)
 
     row-of : (j : ℕ) → j < found → keyIn keys j % 32 ≡ row j
     row-of j l =
@@ -157,7 +157,7 @@ module _ (s : State) (k : ℕ) {keys : List ℕ} {found : ℕ} (so : ReadyKeys (
         due false p true e =
             let behind : ltb (key i) first ≡ false = ap (λ x. x && ltb (key i) first) (sym e) ∙ (is-picked i l ∙ p) in
             rw (e, behind)
-            (key-begins-with-deadline (rankOf it i q) (so .has i l e) (timeOf s)
+            (key-begins-with-deadline (rankAt (rowsIn s) (quantaIn s) (favouredIn s) i) (so .has i l e) (timeOf s)
             ∙ (sym (late-from-deadline it q (timeOf s + 1)) ∙ ap isLate {x = q} {y = q + 0} (omega arith)))
         due false p false e = rw e (sym (ap isLate {x = q + 0} {y = q} (omega arith) ∙ go (isLate q) refl))
           where

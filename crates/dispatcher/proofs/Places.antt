@@ -28,13 +28,14 @@ use Rattle.cores.specs.Sets.{size}
 use Rattle.cores.specs.Placement.{rowIn, coreIn}
 use Rattle.cores.specs.Cores.{placedFor}
 use Rattle.cores.specs.Fault.{misremembers}
-use Rattle.cores.proofs.Alike.{AlikeIn, faults-alike, places-alike}
+use Rattle.cores.proofs.Alike.{AlikeIn, faults-alike, ran-alike, places-alike}
 use Rattle.dispatcher.specs.declared.State.{State}
 use Rattle.dispatcher.specs.State.{rowsIn, isRow, quantaIn, timeOf}
 use Rattle.dispatcher.specs.Broken.{ofRow, someRow, exceeds, outsideShare, broken}
 use Rattle.dispatcher.specs.Answer.{doneSaid}
-use Rattle.dispatcher.specs.Slot.{picksIn, lateAt, lateIn, placedIn, afterSlot, refusal, doneReply, slotBy, slotOf}
+use Rattle.dispatcher.specs.Slot.{favouredIn, picksIn, lateAt, lateIn, placedIn, afterSlot, refusal, doneReply, slotBy, slotOf}
 use Rattle.dispatcher.specs.Places.{SlotNumbers, BareUnlessLate, AtMostOneQuantum, PastIsReturned, AlikeBelow, SameAnswer, PastIsIgnored}
+use Rattle.dispatcher.proofs.Favoured.{same-favours}
 use Rattle.dispatcher.proofs.Rows.{some-row, late-rows}
 use Rattle.dispatcher.proofs.Kept.{IsRefusal, done-number, refusal-numbers, named-is-ready, one-more-or-same}
 
@@ -90,11 +91,11 @@ past-is-returned s free buffer place =
         ⊎-elim (λ more. absurd (omega (arith, named-is-ready s free i (more .0) .0, ltb-false i (length (rowsIn s)) past))) (λ same. same) (one-more-or-same s free i)
 
 -- Quanta that agree on the rows make the same rows ready and go first, so the picks are the same.
-same-picks : (rows : List Row) (quanta quanta′ : List ℕ) → ((i : ℕ) → i < length rows → quantaAt quanta i ≡ quantaAt quanta′ i) → (t k : ℕ) →
-    pd2Picks rows quanta t k ≡ pd2Picks rows quanta′ t k
-same-picks rows quanta quanta′ same t k =
+same-picks : (rows : List Row) (quanta quanta′ : List ℕ) → ((i : ℕ) → i < length rows → quantaAt quanta i ≡ quantaAt quanta′ i) →
+    (favours : ℕ → Bool) (t k : ℕ) → pd2Picks rows quanta favours t k ≡ pd2Picks rows quanta′ favours t k
+same-picks rows quanta quanta′ same favours t k =
     same-list _ _ (length rows)
-    (same-picked (readyIn rows quanta t) (readyIn rows quanta′ t) (goesBeforeBy before rows quanta) (goesBeforeBy before rows quanta′) (length rows) k
+    (same-picked (readyIn rows quanta t) (readyIn rows quanta′ t) (goesBeforeBy before rows quanta favours) (goesBeforeBy before rows quanta′ favours) (length rows) k
     (λ i l. ap (λ q. ready (rowAt rows i) q t) (same i l))
     (λ i j l m. rw (same i l, same j m) refl))
 
@@ -103,7 +104,7 @@ module _ (s s′ : State) (alike : AlikeBelow s s′) where
   -- have tables with the same fault,
   fault-alike : faultOf (s .table) ≡ faultOf (s′ .table)
   unfolding faultOf
-  fault-alike = rw (alike .boards, alike .rows, alike .cycle, alike .cores, alike .row-count)
+  fault-alike = rw (alike .format, alike .boards, alike .rows, alike .cycle, alike .cores, alike .row-count)
 
   -- have the same quanta below n,
   pub quanta-alike : (i : ℕ) → i < length (rowsIn s) → quantaAt (quantaIn s) i ≡ quantaAt (quantaIn s′) i
@@ -146,11 +147,16 @@ module _ (s s′ : State) (alike : AlikeBelow s s′) where
           || someRow s′ (exceeds (timeOf s′))
           || (not (s′ .stopped) && someRow s′ (outsideShare (timeOf s′)))
 
-  -- the same rows are picked,
+  -- the same rows are favoured,
+  pub favour-alike : (row : ℕ) → favouredIn s row ≡ favouredIn s′ row
+  favour-alike row = ap₂ (λ format ran. eqb format 2 && ran) (alike .format) (ran-alike memory-alike row)
+
+  -- and picked,
   pub picks-alike : (k : ℕ) → picksIn s k ≡ picksIn s′ k
   picks-alike k =
-      same-picks (rowsIn s) (quantaIn s) (quantaIn s′) quanta-alike (timeOf s) k
-      ∙ ap₂ (λ rows t. pd2Picks rows (quantaIn s′) t k) (alike .rows) (alike .time)
+      same-picks (rowsIn s) (quantaIn s) (quantaIn s′) quanta-alike (favouredIn s) (timeOf s) k
+      ∙ (same-favours (rowsIn s) (quantaIn s′) (λ row _. favour-alike row) (timeOf s) k
+      ∙ ap₂ (λ rows t. pd2Picks rows (quantaIn s′) (favouredIn s′) t k) (alike .rows) (alike .time))
 
   module _ (free : List Bool) where
     -- and get the same cores,
@@ -161,6 +167,7 @@ module _ (s s′ : State) (alike : AlikeBelow s s′) where
     alike-after : AlikeBelow (afterSlot s free) (afterSlot s′ free)
     alike-after =
         record {
+          format = alike .format;
           cycle = alike .cycle;
           cores = alike .cores;
           boards = alike .boards;
@@ -200,6 +207,7 @@ past-is-ignored s s′ free buffer place alike = rw (refusal-alike s s′ alike 
     judged-alike : AlikeBelow (doneReply s free buffer place .state) (doneReply s′ free buffer place .state)
     judged-alike =
         record {
+          format = after .format;
           cycle = after .cycle;
           cores = after .cores;
           boards = after .boards;

@@ -16,18 +16,20 @@ use Rattle.pd2.specs.Choice.{readyIn, goesBeforeBy}
 use Rattle.pd2.proofs.Picks.{picks-are-best}
 use Rattle.pd2.proofs.Choice.{pd2-is-strict}
 use Rattle.trace.specs.Record.{marked}
+use Rattle.trace.specs.Records.{names}
 use Rattle.cores.specs.Sets.{size, namesPast}
-use Rattle.cores.specs.Placement.{placement}
-use Rattle.cores.specs.Best.{IsPlacement, IsBest}
+use Rattle.cores.specs.Placement.{placesOf, coreIn, rowsPlaced, coresPlaced, placement}
+use Rattle.cores.specs.Best.{moves, IsPlacement, IsBest}
 use Rattle.cores.specs.Cores.{Rising, coresFor}
 use Rattle.cores.specs.Fault.{misremembers}
-use Rattle.cores.proofs.Best.{cores-are-best}
+use Rattle.cores.proofs.Moves.{none-must-move}
+use Rattle.cores.proofs.Best.{found-moves, cores-are-best}
 use Rattle.cores.proofs.Fault.{misremembers-or-remembers}
 use Rattle.cores.proofs.Sets.{marked-rise, size-within, free-is-there}
 use Rattle.cores.proofs.Placed.{placed-lists, no-fault}
 use Rattle.dispatcher.specs.declared.State.{State}
 use Rattle.dispatcher.specs.State.{rowsIn, isRow, quantaIn, timeOf}
-use Rattle.dispatcher.specs.Slot.{picksIn, placedIn}
+use Rattle.dispatcher.specs.Slot.{favouredIn, picksIn, placedIn}
 use Rattle.dispatcher.specs.Placed.{GetsBestCores}
 use Rattle.dispatcher.proofs.Whole.{Whole}
 
@@ -37,19 +39,19 @@ use Rattle.dispatcher.proofs.Whole.{Whole}
 pub picks-are-few : (s : State) (k : ℕ) → length (picksIn s k) ≤ k
 picks-are-few s k =
     let rows = rowsIn s in
-    let best = picks-are-best (readyIn rows (quantaIn s) (timeOf s)) (goesBeforeBy before rows (quantaIn s)) (length rows) k (pd2-is-strict rows (quantaIn s) (timeOf s) (length rows)) in
+    let best = picks-are-best (readyIn rows (quantaIn s) (timeOf s)) (goesBeforeBy before rows (quantaIn s) (favouredIn s)) (length rows) k (pd2-is-strict rows (quantaIn s) (favouredIn s) (timeOf s) (length rows)) in
     omega (arith, best .how-many)
 
 -- Picked rows rise,
 picks-rise : (s : State) (k : ℕ) → Rising (picksIn s k)
 picks-rise s k i j l m =
-    listed-rise (picked (readyIn (rowsIn s) (quantaIn s) (timeOf s)) (goesBeforeBy before (rowsIn s) (quantaIn s)) (length (rowsIn s)) k) (length (rowsIn s)) i j 0 l m
+    listed-rise (picked (readyIn (rowsIn s) (quantaIn s) (timeOf s)) (goesBeforeBy before (rowsIn s) (quantaIn s) (favouredIn s)) (length (rowsIn s)) k) (length (rowsIn s)) i j 0 l m
 
 -- and each is a row of the state.
 picks-are-rows : (s : State) (k i : ℕ) → i < length (picksIn s k) → isRow s (getD (picksIn s k) i 0) ≡ true
 picks-are-rows s k i l =
     lt-ltb _ (length (rowsIn s))
-    (listed-pass (picked (readyIn (rowsIn s) (quantaIn s) (timeOf s)) (goesBeforeBy before (rowsIn s) (quantaIn s)) (length (rowsIn s)) k) (length (rowsIn s)) i 0 l .0)
+    (listed-pass (picked (readyIn (rowsIn s) (quantaIn s) (timeOf s)) (goesBeforeBy before (rowsIn s) (quantaIn s) (favouredIn s)) (length (rowsIn s)) k) (length (rowsIn s)) i 0 l .0)
 
 -- Of a whole state, and a set of cores that are there:
 module _ (s : State) (free : List Bool) (whole : Whole s) (there : namesPast (s .table .cores) free ≡ false) where
@@ -89,6 +91,16 @@ module _ (s : State) (free : List Bool) (whole : Whole s) (there : namesPast (s 
         best = rw (listed .1) best;
         no-other = λ other is-best. exactly other .0 is-best ∙ sym (listed .1);
       })
+
+  -- none of them moves if each core is free on which a row ran,
+  pub no-moves-if-free : ((i : ℕ) → i < placesOf (s .last) → names (marked free) (coreIn (s .last) i) ≡ true) →
+      moves (s .last) (rowsPlaced (placedIn s free)) (coresPlaced (placedIn s free)) ≡ 0
+  no-moves-if-free all =
+      let listed = placed-lists rows cores (best .placed .one-each) in
+      ap (λ placed. moves (s .last) (rowsPlaced placed) (coresPlaced placed)) fits
+      ∙ (ap₂ (moves (s .last)) (listed .0) (listed .1)
+      ∙ (found-moves (s .last) (misremembers-or-remembers (s .last) (isRow s) (s .table .cores) .0 (whole .memory) .apart) (marked free) rows (marked-rise free) (picks-rise s (size free)) (picks-are-few s (size free))
+      ∙ none-must-move (s .last) (marked free) all rows))
 
   -- and what is remembered of it has no fault.
   pub placed-has-no-fault : misremembers (placedIn s free) (isRow s) (s .table .cores) ≡ false

@@ -22,7 +22,7 @@ use Rattle.dispatcher.specs.declared.Outcome.{Outcome}
 use Rattle.dispatcher.specs.State.{rowsIn, quantaIn, timeOf}
 use Rattle.dispatcher.specs.Broken.{broken}
 use Rattle.dispatcher.specs.Answer.{saidOf, doneSaid}
-use Rattle.dispatcher.specs.Slot.{picksIn, recordIn, lateIn, afterSlot, stoppedBy, lacksRoom, slotTests, refusal, slotOf}
+use Rattle.dispatcher.specs.Slot.{favouredIn, picksIn, recordIn, lateIn, afterSlot, stoppedBy, lacksRoom, slotTests, refusal, slotOf}
 use Rattle.dispatcher.specs.Looking.{ReadyKeys}
 use Rattle.dispatcher.specs.Tests.{Admitted, CauseIs, Judged}
 
@@ -120,7 +120,7 @@ module _ (s : State) (free : List Bool) (len place : ℕ) {keys : List ℕ} {fou
       }
 
   -- or none is.
-  pub no-cause : Admitted s free len place → ReadyKeys (rowsIn s) (quantaIn s) (timeOf s) keys found → CauseIs s free len place Done keys found
+  pub no-cause : Admitted s free len place → ReadyKeys (rowsIn s) (quantaIn s) (favouredIn s) (timeOf s) keys found → CauseIs s free len place Done keys found
   no-cause admitted ready = record { refuses = λ some. absurd (some refl); admits = λ _. admitted; ready = λ _. ready }
 
 -- A state is broken exactly if the first test refuses.

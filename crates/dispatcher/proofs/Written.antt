@@ -22,7 +22,7 @@ use Rattle.cores.specs.Sets.{size}
 use Rattle.cores.proofs.Sets.{size-within}
 use Rattle.dispatcher.specs.declared.State.{State}
 use Rattle.dispatcher.specs.State.{rowsIn, quantaIn, timeOf}
-use Rattle.dispatcher.specs.Slot.{picksIn, recordIn}
+use Rattle.dispatcher.specs.Slot.{favouredIn, picksIn, recordIn}
 use Rattle.dispatcher.specs.Run.{Step, stepOf, recordBy, Run, placeBy, oneMore, run}
 use Rattle.dispatcher.specs.RunKept.{runFor}
 use Rattle.dispatcher.proofs.Placing.{picks-are-few}
@@ -123,7 +123,7 @@ wrote s (Step.slot free) b place h =
     record {
       k = size free;
       rows = picksIn s (size free);
-      listed = picked (readyIn (rowsIn s) (quantaIn s) (timeOf s)) (goesBeforeBy before (rowsIn s) (quantaIn s)) (length (rowsIn s)) (size free);
+      listed = picked (readyIn (rowsIn s) (quantaIn s) (timeOf s)) (goesBeforeBy before (rowsIn s) (quantaIn s) (favouredIn s)) (length (rowsIn s)) (size free);
       room = can .room;
       bytes = ap (λ x. x .bytes) (done-makes-the-step s free b place h);
       behind = place-behind _ place (recordIn s (size free)) h;

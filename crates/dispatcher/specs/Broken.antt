@@ -1,4 +1,4 @@
--- A broken state (01, "What comes back"; 02, One, for what it remembers).
+-- A broken state (01, "What comes back"; 02, One and Eight, for what it remembers and for its format).
 use Prim.Native.Nat.{ℕ}
 use mathlib.Core.List.{List}
 use mathlib.Core.Bool.{Bool, not, _&&_, _||_}
@@ -36,7 +36,8 @@ outsideShare time row q = not (within row q time)
 
 -- "A state is broken (30) if its table has a fault 12 to 20 or 22, if time is above 1,000,000,000, if a row's quanta exceed time, or if it is
 -- not stopped and some row is outside its share at its time." The time is held to the new limit: "30, 32 and 50 use the new limit" (02, Seven).
--- "30 also for a remembered core not below M or given to two rows, or a remembered row not below n or on two cores" (02, One)
+-- "30 also for a remembered core not below M or given to two rows, or a remembered row not below n or on two cores" (02, One); "30 also for such a format,
+-- for remembered rows not below n or not rising, or a count of them above M" (02, Eight): a format that is neither 1 nor 2 is a fault of the table.
 unfoldable pub broken : State → Bool
 broken s =
     not (eqb (faultOf (s .table)) 0)

@@ -2,6 +2,7 @@ pub mod State
 pub mod Broken
 pub mod Answer
 pub mod Slot
+pub mod Favoured
 pub mod Placed
 pub mod Places
 pub mod Run

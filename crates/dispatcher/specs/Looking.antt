@@ -15,10 +15,9 @@ use Rattle.table.specs.declared.Row.{Row}
 use Rattle.table.specs.Limits.{rowLimit}
 use Rattle.pd2.specs.Share.{within, CanBe}
 use Rattle.pd2.specs.Ready.{ready}
-use Rattle.pd2.specs.Order.{rankOf}
-use Rattle.pd2.specs.Choice.{rowAt, quantaAt, readyIn}
+use Rattle.pd2.specs.Choice.{rowAt, quantaAt, rankAt, readyIn}
 use Rattle.trace.specs.Records.{names}
-use Rattle.choice.specs.Keys.{keyFor, HasKey, keyIn}
+use Rattle.choice.specs.Keys.{endOf, keyFor, HasKey, keyIn}
 use Rattle.dispatcher.specs.declared.Stand.{Stand}
 use Rattle.dispatcher.specs.declared.Stand.the-variants.{Breaks, Waits, Ready}
 use Rattle.dispatcher.specs.Broken.{ofRowAt}
@@ -45,35 +44,39 @@ pub record InLimits (cost period elapsed : ℕ) : Type 0 where
   pub elapsed-small : elapsed ≤ timeLimit
 
 -- A ready row of a state: it can be, and it is inside its share.
-pub record CanBeReady (row : Row) (i q t : ℕ) : Type 0 where
+pub record CanBeReady (row : Row) (q t : ℕ) : Type 0 where
   pub can : CanBe row
-  pub number : i < 32
   pub quanta : q ≤ t
   pub time : t ≤ timeLimit
   pub inside : within row q t ≡ true
   pub next : ready row q t ≡ true
 
+-- How the key of each row ends.
+pub record EndsAre (favours : ℕ → Bool) (ends : List ℕ) : Type 0 where
+  pub long : length ends ≡ 32
+  pub each : (i : ℕ) → i < 32 → getD ends i 0 ≡ endOf (favours i) i
+
 -- The ready rows, rising, and the key of row i.
 abbrev pub readyRows : List Row → List ℕ → ℕ → List ℕ
 readyRows rows quanta t = those (readyIn rows quanta t) (length rows)
 
-abbrev pub keyAt : List Row → List ℕ → ℕ → ℕ
-keyAt rows quanta i = keyFor (rankOf (rowAt rows i) i (quantaAt quanta i))
+abbrev pub keyAt : List Row → List ℕ → (ℕ → Bool) → ℕ → ℕ
+keyAt rows quanta favours i = keyFor (rankAt rows quanta favours i)
 
 -- The keys of the ready rows stand at the front of an array.
-pub record ReadyKeys (rows : List Row) (quanta : List ℕ) (t : ℕ) (keys : List ℕ) (found : ℕ) : Type 0 where
+pub record ReadyKeys (rows : List Row) (quanta : List ℕ) (favours : ℕ → Bool) (t : ℕ) (keys : List ℕ) (found : ℕ) : Type 0 where
   pub few : found ≤ 32
   pub count : found ≡ length (readyRows rows quanta t)
-  pub each : (j : ℕ) → j < found → keyIn keys j ≡ keyAt rows quanta (getD (readyRows rows quanta t) j 0)
-  pub low : (i : ℕ) → i < length rows → readyIn rows quanta t i ≡ true → keyAt rows quanta i < most
-  pub has : (i : ℕ) → i < length rows → readyIn rows quanta t i ≡ true → HasKey (rankOf (rowAt rows i) i (quantaAt quanta i))
+  pub each : (j : ℕ) → j < found → keyIn keys j ≡ keyAt rows quanta favours (getD (readyRows rows quanta t) j 0)
+  pub low : (i : ℕ) → i < length rows → readyIn rows quanta t i ≡ true → keyAt rows quanta favours i < most
+  pub has : (i : ℕ) → i < length rows → readyIn rows quanta t i ≡ true → HasKey (rankAt rows quanta favours i)
 
 -- What one pass over the rows finds: whether one breaks the state and, in a state that runs on, the keys of the ready rows.
-pub record LooksAt (rows : List Row) (quanta : List ℕ) (t : ℕ) (stopped : Bool) (keys : List ℕ) (breaks : Bool) (found : ℕ) : Type 0 where
+pub record LooksAt (rows : List Row) (quanta : List ℕ) (favours : ℕ → Bool) (t : ℕ) (stopped : Bool) (keys : List ℕ) (breaks : Bool) (found : ℕ) : Type 0 where
   pub broken : breaks ≡ some (ofRowAt rows quanta (brokenRow stopped t)) (length rows)
-  pub ready : stopped ≡ false → breaks ≡ false → ReadyKeys rows quanta t keys found
+  pub ready : stopped ≡ false → breaks ≡ false → ReadyKeys rows quanta favours t keys found
 
--- The rows whose keys lie before the first that is left out: a key ends with its row's number.
+-- The rows whose keys lie before the first that is left out: a key ends with its row's number, and 32 more where the row is not favoured.
 abbrev pub rowsBefore : List ℕ → ℕ → ℕ → List ℕ
 rowsBefore keys found first = map (λ j. keyIn keys j % 32) (those (λ j. ltb (keyIn keys j) first) found)
 

@@ -54,6 +54,7 @@ PastIsReturned =
 -- "Places past row n, and board numbers past M, are ignored", and so is what stands past the count of a memory: two states that differ in nothing else get
 -- the same answer, the same cores and the same bytes, and then again differ in nothing else.
 pub record AlikeBelow (s s′ : State) : Type 0 where
+  pub format : s .table .format ≡ s′ .table .format
   pub cycle : s .table .cycle ≡ s′ .table .cycle
   pub cores : s .table .cores ≡ s′ .table .cores
   pub boards : boardsOf (s .table) ≡ boardsOf (s′ .table)

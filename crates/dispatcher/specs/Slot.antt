@@ -1,4 +1,4 @@
--- One slot (01, "What comes back"; 02, One, for its cores).
+-- One slot (01, "What comes back"; 02, One, for its cores, and Eight, for who is favoured).
 use Prim.Native.Nat.{ℕ, _+_, _-_}
 use mathlib.Core.List.{List, [], _∷_}
 use mathlib.Core.Bool.{Bool, _&&_, _||_}
@@ -17,16 +17,20 @@ use Rattle.trace.specs.Records.{names}
 use Rattle.trace.specs.Said.{Said, bare}
 use Rattle.cores.specs.declared.Placement.{Placement}
 use Rattle.cores.specs.Sets.{size, namesPast}
-use Rattle.cores.specs.Placement.{nobody}
+use Rattle.cores.specs.Placement.{ranBefore, nobody}
 use Rattle.cores.specs.Cores.{placedFor}
 use Rattle.dispatcher.specs.declared.State.{State}
 use Rattle.dispatcher.specs.State.{rowsIn, isRow, quantaIn, timeOf}
 use Rattle.dispatcher.specs.Broken.{ofRow, broken}
 use Rattle.dispatcher.specs.Answer.{doneSaid}
 
+-- "Tables of format 2 ..: among full ties, a row picked in the previous slot goes first": such a row is favoured. In format 1 none is.
+abbrev pub favouredIn : State → ℕ → Bool
+favouredIn s row = eqb (s .table .format) 2 && ranBefore (s .last) row
+
 -- the rows that PD2 picks in a state's slot, with k cores free
 abbrev pub picksIn : State → ℕ → List ℕ
-picksIn s k = pd2Picks (rowsIn s) (quantaIn s) (timeOf s) k
+picksIn s k = pd2Picks (rowsIn s) (quantaIn s) (favouredIn s) (timeOf s) k
 
 -- the record of the slot
 abbrev pub recordIn : State → ℕ → List ℕ

@@ -1,5 +1,6 @@
 -- The dispatcher's state (01, "What comes back"): "The dispatcher's state holds the table, the time, a stopped mark and the quanta given to
--- each row"; and (02, One): "The state remembers which row ran on which core in the last slot".
+-- each row"; and (02, One): "The state remembers which row ran on which core in the last slot". That is also what it remembers for Eight: "The state remembers the last
+-- slot's rows; fresh, there are none" (02).
 use Prim.Native.Nat.{ℕ}
 use mathlib.Core.List.{List}
 use mathlib.Core.Bool.{Bool, false}

@@ -18,7 +18,7 @@ use Rattle.dispatcher.specs.State.{rowsIn, quantaIn, timeOf}
 use Rattle.dispatcher.specs.Broken.{broken}
 use Rattle.trace.specs.Said.{bare}
 use Rattle.dispatcher.specs.Answer.{saidOf, doneSaid}
-use Rattle.dispatcher.specs.Slot.{picksIn, lateIn, stoppedBy, refusal}
+use Rattle.dispatcher.specs.Slot.{favouredIn, picksIn, lateIn, stoppedBy, refusal}
 use Rattle.dispatcher.specs.Usable.{UsableState}
 use Rattle.dispatcher.specs.Looking.{ReadyKeys}
 
@@ -43,7 +43,7 @@ pub record Admitted (s : State) (free : List Bool) (len place : ℕ) : Type 0 wh
 pub record CauseIs (s : State) (free : List Bool) (len place : ℕ) (answer : Answer) (keys : List ℕ) (found : ℕ) : Type 0 where
   pub refuses : (saidOf answer .number ≡ 0 → ⊥) → (buffer : List ℕ) → length buffer ≡ len → saidOf answer ≡ bare (refusal s free buffer place)
   pub admits : saidOf answer .number ≡ 0 → Admitted s free len place
-  pub ready : saidOf answer .number ≡ 0 → ReadyKeys (rowsIn s) (quantaIn s) (timeOf s) keys found
+  pub ready : saidOf answer .number ≡ 0 → ReadyKeys (rowsIn s) (quantaIn s) (favouredIn s) (timeOf s) keys found
 
 -- The end of a slot, by the state after the step: who is late is answered and, with some late row, the state is stopped; the cores are those remembered.
 pub record Judged (after : State) (r : Outcome) : Type 0 where

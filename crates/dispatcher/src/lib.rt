@@ -22,6 +22,7 @@ ghost use Rattle.dispatcher.specs.State.{freshOf};
 ghost use Rattle.dispatcher.specs.Broken.{broken};
 ghost use Rattle.dispatcher.specs.Answer.{saidOf, saidBy};
 ghost use Rattle.dispatcher.specs.Slot.{stepped, slotOf};
+ghost use Rattle.dispatcher.specs.Favoured.{favouredMarks};
 ghost use Rattle.dispatcher.specs.Looking.{GivesTo};
 ghost use Rattle.dispatcher.specs.Tests.{CauseIs, CanStep, Judged};
 
@@ -122,6 +123,16 @@ impl State {
         }
     }
 
+    // The rows that go first among full ties, as marks: in format 2 those that ran in the slot before, in format 1 none.
+    pub fn favoured(self) -> [bool; 32]
+        ensures { λ r. ⌜ r ≡ favouredMarks self ⌝ }
+    {
+        if self.table.format == 2 {
+            return self.last.ran();
+        }
+        [false; 32]
+    }
+
     // One slot with a set of cores free: its record stands at the given place in the buffer, and each picked row has a core.
     pub fn slot(self, free: [bool; 32], buffer: &mut [u8], place: usize) -> Outcome
         ensures { λ r. ⌜ saidOf (r .answer) ≡ slotOf self free (now (buffer .entry)) place .said ⌝ }
@@ -159,7 +170,8 @@ impl State {
         let n = self.table.n as usize;
         let rows = self.table.rows;
         let quanta = self.quanta;
-        let looked = look::look(rows, quanta, n, self.time, self.stopped, ready);
+        let favoured = self.favoured();
+        let looked = look::look(rows, quanta, favoured, n, self.time, self.stopped, ready);
         if looked.broken {
             return refusal(Answer::Broken);
         }

@@ -17,26 +17,29 @@ ghost use Rattle.counts.specs.Numbers.{numbersOf};
 ghost use Rattle.pd2.specs.Share.{CanBe};
 ghost use Rattle.pd2.specs.Ready.{ready};
 ghost use Rattle.pd2.specs.Order.{rankOf};
-ghost use Rattle.choice.specs.Keys.{keyFor, HasKey};
+ghost use Rattle.choice.specs.Choice.{favoursMarked};
+ghost use Rattle.choice.specs.Keys.{frontOf, endOf, HasKey};
 ghost use Rattle.dispatcher.specs.Usable.{Testable, brokenRow};
-ghost use Rattle.dispatcher.specs.Looking.{exceeding, standOf, LooksAt, CanBeReady, InLimits, aheadStand};
+ghost use Rattle.dispatcher.specs.Looking.{exceeding, standOf, LooksAt, EndsAre, CanBeReady, InLimits, aheadStand};
 
 // The keys of the ready rows come to the front of the lent array, by rising row number. In a stopped state no row is asked for its share, and no key is looked for.
 pub(crate) fn look(
     rows: [Row; 32],
     quanta: [Quanta; 32],
+    favoured: [bool; 32],
     n: usize,
     time: Slot,
     stopped: bool,
     ready: &mut [u64; 32],
 ) -> Looked
     requires { ⌜ Testable rows quanta n (time .0) × (length (now ready) ≡ 32) ⌝ }
-    ensures { λ r. ⌜ LooksAt (take n rows) (numbersOf quanta) (time .0) stopped (now (ready .exit)) (r .broken) (r .found) ⌝ }
+    ensures { λ r. ⌜ LooksAt (take n rows) (numbersOf quanta) (favoursMarked favoured) (time .0) stopped (now (ready .exit)) (r .broken) (r .found) ⌝ }
 {
     if stopped {
         let broken = has_too_many(quanta, n, time);
         return Looked { broken, found: 0 };
     }
+    let ends = ends(favoured);
     let mut found: usize = 0;
     let mut i: usize = 0;
     while i < n {
@@ -52,7 +55,7 @@ pub(crate) fn look(
             }
             Stand::Waits => {}
             Stand::Ready => {
-                ready[found] = key(row, i, given.count(), time.time());
+                ready[found] = key(row, ends[i], given.count(), time.time());
                 found += 1;
             }
         }
@@ -62,6 +65,26 @@ pub(crate) fn look(
         broken: false,
         found,
     }
+}
+
+// How the key of each row ends: a favoured row goes first, then the lower row. It is said ahead of the pass for all rows at once, so that a row has one number to load.
+fn ends(favoured: [bool; 32]) -> [u8; 32]
+    ensures { λ r. ⌜ EndsAre (favoursMarked favoured) r ⌝ }
+{
+    let mut ends = [0u8; 32];
+    let mut i: usize = 0;
+    while i < 32 {
+        ends[i] = end(favoured[i], i as u8);
+        i += 1;
+    }
+    ends
+}
+
+fn end(favoured: bool, row: u8) -> u8
+    requires { ⌜ row < 32 ⌝ }
+    ensures { λ r. ⌜ r ≡ endOf favoured row ⌝ }
+{
+    if favoured { row } else { 32 + row }
 }
 
 // Whether a row's quanta exceed the time.
@@ -140,11 +163,11 @@ fn stands_ahead(cost: u64, period: u64, given: u64, elapsed: u64) -> Stand
     Stand::Waits
 }
 
-// The key of a ready row. What its next quantum lacks of its share, divided by what a slot brings, says when it is due, and what is left over gives the bit and the
+// The key of a ready row, which ends so. What its next quantum lacks of its share, divided by what a slot brings, says when it is due, and what is left over gives the bit and the
 // group deadline.
-fn key(row: Row, i: usize, given: u64, time: u64) -> u64
-    requires { ⌜ CanBeReady row i given time ⌝ }
-    ensures { λ r. ⌜ (r ≡ keyFor (rankOf row i given)) × (r < most) × HasKey (rankOf row i given) ⌝ }
+fn key(row: Row, end: u8, given: u64, time: u64) -> u64
+    requires { ⌜ CanBeReady row given time × (end < 64) ⌝ }
+    ensures { λ r. ⌜ (r ≡ frontOf (rankOf row 0 given) * 64 + end) × (r < most) × HasKey (rankOf row 0 given) ⌝ }
 {
     let cost = row.cost as u64;
     let period = row.period as u64;
@@ -154,9 +177,9 @@ fn key(row: Row, i: usize, given: u64, time: u64) -> u64
     let whole = time + lacking / cost;
     let rest = lacking % cost;
     if rest == 0 {
-        return packed(2 * whole + 1, 0, i);
+        return packed(2 * whole + 1, 0, end);
     }
-    packed(2 * whole + 2, far(cost, period, rest), i)
+    packed(2 * whole + 2, far(cost, period, rest), end)
 }
 
 // How far the group deadline lies behind the deadline: the last slot before the deadline is used by `rest` alone, and what is over of it is spread over the slots in which the row
@@ -172,10 +195,10 @@ fn far(cost: u64, period: u64, rest: u64) -> u64
     (cost - rest + (gap - 1)) / gap
 }
 
-// Deadline and bit in one, group deadline and row: the key.
-fn packed(class: u64, far: u64, row: usize) -> u64
-    requires { ⌜ (class < 4_000_000_000_000) × (far < 65_536) × (row < 32) ⌝ }
-    ensures { λ r. ⌜ (r ≡ (class * 65_536 + (65_535 - far)) * 64 + row) × (r < most) ⌝ }
+// Deadline and bit in one, group deadline and end: the key.
+fn packed(class: u64, far: u64, end: u8) -> u64
+    requires { ⌜ (class < 4_000_000_000_000) × (far < 65_536) × (end < 64) ⌝ }
+    ensures { λ r. ⌜ (r ≡ (class * 65_536 + (65_535 - far)) * 64 + end) × (r < most) ⌝ }
 {
-    (class * 65_536 + (65_535 - far)) * 64 + row as u64
+    (class * 65_536 + (65_535 - far)) * 64 + end as u64
 }

@@ -1,13 +1,14 @@
 -- The laws of places. Assumes nothing.
 use mathlib.Core.Path.{_≡_, refl, sym, ap, _∙_}
-use mathlib.Core.List.{[], _∷_, _++_, map}
+use mathlib.Core.List.{List, [], _∷_, _++_, map}
+use mathlib.Core.Bool.{Bool, false}
 use Prim.Native.Nat.{ℕ, zero, suc, _+_, _-_, _*_, _≤_, _<_}
 use native.Mathlib.Nat.{le-of-suc-le-suc, not-suc-le-zero}
 use native.Mathlib.Numerals.{add-one}
 use native.Mathlib.Omega.{arith}
 use lib.ListN.{length, getD, set, take, replicate, length-append, length-replicate, length-map, getD-replicate, List·getD-map}
-use lib.Seq.{take-at, getD-take, getD-append-add}
-use Rattle.facts.specs.Places.{places, padded}
+use lib.Seq.{take-at, getD-take, getD-append-add, ext-getD}
+use Rattle.facts.specs.Places.{places, marksOf, padded}
 use Rattle.facts.proofs.Filling.{filled-one-more, getD-any}
 
 -- for callers
@@ -24,6 +25,21 @@ unfolding places
 place-at from step zero i d h = absurd (not-suc-le-zero h)
 place-at from step (suc n) zero d h = omega arith
 place-at from step (suc n) (suc i) d h = place-at (from + step) step n i d (le-of-suc-le-suc h) ∙ omega arith
+
+-- Marks: one for each number below n,
+module _ (is : ℕ → Bool) (n : ℕ) where
+  pub marks-long : length (marksOf is n) ≡ n
+  marks-long = length-map (places 0 1 n) is ∙ how-many-places 0 1 n
+
+  -- which says what is so of the number,
+  pub mark-at : (i : ℕ) → i < n → getD (marksOf is n) i false ≡ is i
+  mark-at i l =
+      getD-any (marksOf is n) i false (is 0) (rw marks-long l)
+      ∙ (List·getD-map is (places 0 1 n) i 0 ∙ ap is (place-at 0 1 n i 0 l ∙ omega arith))
+
+  -- and no others do.
+  pub are-marks : {marks : List Bool} → length marks ≡ n → ((i : ℕ) → i < n → getD marks i false ≡ is i) → marks ≡ marksOf is n
+  are-marks {marks} long says = ext-getD false marks (marksOf is n) (long ∙ sym marks-long) (λ i l. let m : i < n = omega (arith, long) in says i m ∙ sym (mark-at i m))
 
 module _ {A : Type 0} (read : ℕ → A) (nothing : A) (size from step : ℕ) where
   -- what is read at one place more

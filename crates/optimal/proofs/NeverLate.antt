@@ -1,13 +1,13 @@
 -- Nobody is ever late. Assumes nothing.
 use Prim.Native.Nat.{ℕ, _+_, _≤_, _<_}
-use mathlib.Core.Path.{_≡_}
+use mathlib.Core.Path.{_≡_, _∙_}
 use mathlib.Core.Bool.{Bool}
 use native.Mathlib.Decide.{decLe}
 use native.Mathlib.Omega.{arith}
 use Rattle.windows.proofs.Half.{up-to-half-has-none}
 use Rattle.table.specs.declared.Row.{Row}
 use Rattle.pd2.specs.Ready.{originOf}
-use Rattle.pd2.specs.Order.{Rank, rankOf, Before, before}
+use Rattle.pd2.specs.Order.{Rank, rankOf, withFavour, Before, before}
 use Rattle.pd2.specs.Choice.{rowAt, quantaAt, readyIn, goesBeforeBy}
 use Rattle.pd2.proofs.Readiness.{started-is-ready, not-late-before-deadline}
 use Rattle.pd2.proofs.Order.{before-means-rule}
@@ -78,36 +78,39 @@ never-late-up-to-half n row cycle cores up-to-half H q ready goesBefore k B C =
       group = λ _ _ one. omega (arith, up-to-half-has-none (row j .cost) (row j .period) (originOf (row j)) (q t j + 1) (up-to-half j lj) one);
     }))
 
--- PD2's order, with the lower row number last, is held to PD2.
-before-is-pd2 : (x y : Rank) → Before x y → ByPd2 x y
-before-is-pd2 x y b = record { bits = record { deadline = deadline b; bit = bit b }; group = group b }
+-- PD2's order, with who is favoured and the lower row number last, is held to PD2.
+before-is-pd2 : (x y : Rank) (f g : Bool) → Before (withFavour x f) (withFavour y g) → ByPd2 x y
+before-is-pd2 x y f g b = record { bits = record { deadline = deadline b; bit = bit b }; group = group b }
   where
-    deadline : Before x y → x .d ≤ y .d
+    deadline : Before (withFavour x f) (withFavour y g) → x .d ≤ y .d
     deadline (Before.by-deadline l) = omega arith
     deadline (Before.by-bit d _ _) = omega arith
     deadline (Before.by-group d _ _ _) = omega arith
-    deadline (Before.by-row d _ _ _) = omega arith
+    deadline (Before.by-favour t _ _) = omega (arith, t .deadline)
+    deadline (Before.by-row t _ _) = omega (arith, t .deadline)
 
-    bit : Before x y → x .d ≡ y .d → y .b ≡ 1 → x .b ≡ 1
+    bit : Before (withFavour x f) (withFavour y g) → x .d ≡ y .d → y .b ≡ 1 → x .b ≡ 1
     bit (Before.by-deadline l) same one = omega arith
     bit (Before.by-bit _ b _) same one = b
     bit (Before.by-group _ b _ _) same one = b
-    bit (Before.by-row _ b _ _) same one = omega arith
+    bit (Before.by-favour t _ _) same one = t .bit ∙ one
+    bit (Before.by-row t _ _) same one = t .bit ∙ one
 
-    group : Before x y → x .d ≡ y .d → x .b ≡ 1 → y .b ≡ 1 → y .D ≤ x .D
+    group : Before (withFavour x f) (withFavour y g) → x .d ≡ y .d → x .b ≡ 1 → y .b ≡ 1 → y .D ≤ x .D
     group (Before.by-deadline l) same one both = omega arith
     group (Before.by-bit _ _ c) same one both = omega arith
     group (Before.by-group _ _ _ l) same one both = omega arith
-    group (Before.by-row _ _ g _) same one both = omega (arith, g one)
+    group (Before.by-favour t _ _) same one both = omega (arith, t .group one)
+    group (Before.by-row t _ _) same one both = omega (arith, t .group one)
 
 pub pd2-never-late : Pd2NeverLate
-pd2-never-late rows cycle cores H quanta k B enough given =
-    never-late _ (rowAt rows) cycle cores H (λ t. quantaAt (quanta t)) (λ t. readyIn rows (quanta t) t) (λ t. goesBeforeBy before rows (quanta t)) k B
+pd2-never-late rows cycle cores H quanta favours k B enough given =
+    never-late _ (rowAt rows) cycle cores H (λ t. quantaAt (quanta t)) (λ t. readyIn rows (quanta t) t) (λ t. goesBeforeBy before rows (quanta t) (favours t)) k B
     (record {
       enough = enough;
       started = λ t i th l h. started-is-ready (rowAt rows i) (quantaAt (quanta t) i) t (B .can i l .cost) h;
-      irreflexive = λ t i th. pd2-is-strict rows (quanta t) t _ .irreflexive i;
-      transitive = λ t i j m th. pd2-is-strict rows (quanta t) t _ .transitive i j m;
-      ordered = λ t i j th li lj f. before-is-pd2 _ _ (before-means-rule _ _ .0 f);
+      irreflexive = λ t i th. pd2-is-strict rows (quanta t) (favours t) t _ .irreflexive i;
+      transitive = λ t i j m th. pd2-is-strict rows (quanta t) (favours t) t _ .transitive i j m;
+      ordered = λ t i j th li lj f. before-is-pd2 (rankOf (rowAt rows i) i (quantaAt (quanta t) i)) (rankOf (rowAt rows j) j (quantaAt (quanta t) j)) (favours t i) (favours t j) (before-means-rule _ _ .0 f);
       given = given;
     })

@@ -13,8 +13,8 @@ use Rattle.windows.specs.Windows.{bit}
 use Rattle.windows.proofs.Windows.{bit-is-0-or-1}
 use Rattle.table.specs.declared.Row.{Row}
 use Rattle.table.specs.Causes.{zeroRow}
-use Rattle.pd2.specs.Order.{Rank, rankOf, before}
-use Rattle.pd2.specs.Choice.{rowAt, quantaAt, given, Pd2IsStrict}
+use Rattle.pd2.specs.Order.{Rank, before}
+use Rattle.pd2.specs.Choice.{rowAt, quantaAt, rankAt, given, Pd2IsStrict}
 use Rattle.pd2.proofs.Order.{order-is-irreflexive, order-is-transitive, order-is-total, before-means-rule}
 
 -- a test that would make a row go before itself fails
@@ -30,7 +30,7 @@ bit-is-small row q =
     ⊎-elim (λ z. omega (arith, z)) (λ z. omega (arith, z)) (bit-is-0-or-1 (row .cost) (row .period) (q + 1))
 
 pub pd2-is-strict : Pd2IsStrict
-pd2-is-strict rows quanta t n =
+pd2-is-strict rows quanta favours t n =
     record {
       irreflexive = λ i _. not-itself (rank i);
       transitive = λ i j k _ _ _ p q.
@@ -44,7 +44,7 @@ pd2-is-strict rows quanta t n =
     }
   where
     rank : ℕ → Rank
-    rank i = rankOf (rowAt rows i) i (quantaAt quanta i)
+    rank = rankAt rows quanta favours
 
 -- Giving keeps the places,
 pub how-many-given : (isPicked : ℕ → Bool) (i : ℕ) (quanta : List ℕ) → length (given isPicked i quanta) ≡ length quanta

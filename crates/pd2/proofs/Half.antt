@@ -8,14 +8,13 @@ use native.Mathlib.Decide.{ℕ-discrete}
 use native.Mathlib.Omega.{arith}
 use borrow.Author.Tests.{eq-eqb, ne-eqb}
 use lib.ListN.{length}
-use Rattle.windows.specs.Former.{formerGroupDeadline}
 use Rattle.windows.proofs.Half.{moved-at-half}
 use Rattle.table.specs.declared.Row.{Row}
 use Rattle.pd2.specs.Ready.{originOf}
 use Rattle.pd2.specs.Order.{Rank, rankOf, before}
 use Rattle.pd2.specs.Picks.{picks}
 use Rattle.pd2.specs.Choice.{rowAt, quantaAt, readyIn, goesBeforeBy}
-use Rattle.pd2.specs.Half.{withGroup, wentBefore, NoPickChanges}
+use Rattle.pd2.specs.Half.{withGroup, formerGroupOf, wentBefore, NoPickChanges}
 
 -- Other group deadlines change nothing if they are the same wherever the bit is 1.
 only-bit-1-is-asked : (x y : Rank) (D E : ℕ) → (x .b ≡ 1 → x .D ≡ D) → (y .b ≡ 1 → y .D ≡ E) → before x y ≡ before (withGroup x D) (withGroup y E)
@@ -28,20 +27,20 @@ only-bit-1-is-asked x y D E same-x same-y = go (ℕ-discrete (x .b) 1) (ℕ-disc
     go (no none) _ = rw (ne-eqb (x .b) 1 none) refl
 
 -- Where its bit is 1, a row's group deadline is what it was.
-same-at-bit-1 : (row : Row) (i q : ℕ) → rankOf row i q .b ≡ 1 → rankOf row i q .D ≡ formerGroupDeadline (row .cost) (row .period) (originOf row) (q + 1)
+same-at-bit-1 : (row : Row) (i q : ℕ) → rankOf row i q .b ≡ 1 → rankOf row i q .D ≡ formerGroupOf row q
 same-at-bit-1 row i q one =
     moved-at-half .elsewhere-same (row .cost) (row .period) (originOf row) (q + 1)
     (λ half. omega (arith, one, moved-at-half .bit-is-0 (row .cost) (row .period) (q + 1) half))
 
 -- So a row goes before another exactly if it did,
-same-order : (rows : List Row) (quanta : List ℕ) (j i : ℕ) → goesBeforeBy before rows quanta j i ≡ wentBefore rows quanta j i
-same-order rows quanta j i =
+same-order : (rows : List Row) (quanta : List ℕ) (favours : ℕ → Bool) (j i : ℕ) → goesBeforeBy before rows quanta favours j i ≡ wentBefore rows quanta favours j i
+same-order rows quanta favours j i =
     only-bit-1-is-asked _ _ _ _ (same-at-bit-1 (rowAt rows j) j (quantaAt quanta j)) (same-at-bit-1 (rowAt rows i) i (quantaAt quanta i))
 
 -- and the same rows are picked, whoever is ready.
-pub same-picks : (ready : ℕ → Bool) (rows : List Row) (quanta : List ℕ) (n k : ℕ) →
-    picks ready (goesBeforeBy before rows quanta) n k ≡ picks ready (wentBefore rows quanta) n k
-same-picks ready rows quanta n k = λ z. picks ready (λ j i. same-order rows quanta j i z) n k
+pub same-picks : (ready : ℕ → Bool) (rows : List Row) (quanta : List ℕ) (favours : ℕ → Bool) (n k : ℕ) →
+    picks ready (goesBeforeBy before rows quanta favours) n k ≡ picks ready (wentBefore rows quanta favours) n k
+same-picks ready rows quanta favours n k = λ z. picks ready (λ j i. same-order rows quanta favours j i z) n k
 
 pub no-pick-changes : NoPickChanges
-no-pick-changes = record { order = same-order; picks = λ rows quanta t k. same-picks (readyIn rows quanta t) rows quanta (length rows) k }
+no-pick-changes = record { order = same-order; picks = λ rows quanta favours t k. same-picks (readyIn rows quanta t) rows quanta favours (length rows) k }

@@ -1,6 +1,7 @@
 pub mod Readiness
 pub mod Share
 pub mod Order
+pub mod InFormat1
 pub mod Picks
 pub mod Choice
 pub mod Half

@@ -1,4 +1,4 @@
--- What becomes of rows from time 0 on, slot after slot, by any order: no state, no limits and no refusals.
+-- What becomes of rows from time 0 on, slot after slot, by any order, where nobody is favoured: no state, no limits and no refusals.
 use Prim.Native.Nat.{ℕ, zero, suc}
 use mathlib.Core.Path.{_≡_}
 use mathlib.Core.List.{List, [], _∷_, map}
@@ -10,7 +10,7 @@ use Rattle.table.specs.declared.Row.{Row}
 use Rattle.pd2.specs.Ready.{late}
 use Rattle.pd2.specs.Order.{Rank}
 use Rattle.pd2.specs.Picks.{picked}
-use Rattle.pd2.specs.Choice.{rowAt, quantaAt, readyIn, goesBeforeBy, pd2Picks, given}
+use Rattle.pd2.specs.Choice.{rowAt, quantaAt, readyIn, favoursNobody, goesBeforeBy, pd2Picks, given}
 
 -- a plain row e/p with phase 0
 abbrev pub plain : ℕ → ℕ → Row
@@ -21,7 +21,7 @@ unfoldable pub quantaBy : (Rank → Rank → Bool) → List Row → ℕ → ℕ 
 quantaBy order rows k zero = map (λ row. 0) rows
 quantaBy order rows k (suc t) =
     let quanta = quantaBy order rows k t in
-    given (picked (readyIn rows quanta t) (goesBeforeBy order rows quanta) (length rows) k) 0 quanta
+    given (picked (readyIn rows quanta t) (goesBeforeBy order rows quanta favoursNobody) (length rows) k) 0 quanta
 
 -- The rows that are late at time t.
 abbrev pub lateBy : (Rank → Rank → Bool) → List Row → ℕ → ℕ → List ℕ
@@ -34,4 +34,4 @@ bitLeftOut x y = ltb (x .d) (y .d) || (eqb (x .d) (y .d) && ltb (x .row) (y .row
 -- "if both have b = 1, larger D": D is not asked for where a bit is 0 (docs/DECISIONS.md, 28). On one core at time 3 the rows 1/4, with no
 -- quanta, and 3/4, with two, both have d 4 and b 0; D is 0 and 4, and the lower row number decides.
 abbrev pub BitZeroAsksNoGroup : Type 0
-BitZeroAsksNoGroup = pd2Picks (plain 1 4 ∷ plain 3 4 ∷ []) (0 ∷ 2 ∷ []) 3 1 ≡ 0 ∷ []
+BitZeroAsksNoGroup = pd2Picks (plain 1 4 ∷ plain 3 4 ∷ []) (0 ∷ 2 ∷ []) favoursNobody 3 1 ≡ 0 ∷ []

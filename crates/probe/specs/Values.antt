@@ -41,13 +41,14 @@ none = record { 0 = 0 }
 abbrev pub QuantaAt : List ℕ → ℕ → List Quanta → Type 0
 QuantaAt s i quanta = (j : ℕ) → j < 32 → getD quanta j none .0 ≡ long s (i + 8 * j)
 
--- A table value: L (4), M (1), 8 board numbers (1 each), n (1), 32 rows.
+-- A table value: its format (1), L (4), M (1), 8 board numbers (1 each), n (1), 32 rows.
 pub record TableAt (s : List ℕ) (i : ℕ) (table : Table) : Type 0 where
-  pub cycle : table .cycle ≡ word s i
-  pub cores : table .cores ≡ byte s (i + 4)
-  pub boards : EightAt s (i + 5) (table .boards)
-  pub row-count : table .n ≡ byte s (i + 13)
-  pub rows : RowsAt s (i + 14) (table .rows)
+  pub format : table .format ≡ byte s i
+  pub cycle : table .cycle ≡ word s (i + 1)
+  pub cores : table .cores ≡ byte s (i + 5)
+  pub boards : EightAt s (i + 6) (table .boards)
+  pub row-count : table .n ≡ byte s (i + 14)
+  pub rows : RowsAt s (i + 15) (table .rows)
 
 -- A placement: a count (1), 8 rows (1 each), 8 cores (1 each).
 pub record PlacementAt (s : List ℕ) (i : ℕ) (placed : Placement) : Type 0 where
@@ -58,10 +59,10 @@ pub record PlacementAt (s : List ℕ) (i : ℕ) (placed : Placement) : Type 0 wh
 -- A state: a table value, the time (8), the stopped mark (1), 32 quanta, and the placement that is remembered.
 pub record StateAt (s : List ℕ) (i : ℕ) (state : State) : Type 0 where
   pub table : TableAt s i (state .table)
-  pub time : state .time .0 ≡ long s (i + 302)
-  pub stopped : state .stopped ≡ eqb (byte s (i + 310)) 1
-  pub quanta : QuantaAt s (i + 311) (state .quanta)
-  pub last : PlacementAt s (i + 567) (state .last)
+  pub time : state .time .0 ≡ long s (i + 303)
+  pub stopped : state .stopped ≡ eqb (byte s (i + 311)) 1
+  pub quanta : QuantaAt s (i + 312) (state .quanta)
+  pub last : PlacementAt s (i + 568) (state .last)
 
 -- A set (4): bit c is core c.
 abbrev pub SetAt : List ℕ → ℕ → List Bool → Type 0

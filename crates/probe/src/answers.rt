@@ -73,57 +73,57 @@ pub(crate) fn table(request: &[u8]) -> usize
         return 0;
     }
     let reading = table::read(&request[5..end]);
-    let mut out = [0u8; 303];
+    let mut out = [0u8; 304];
     let next = put::byte(&mut out, 0, reading.number);
     write::table(&mut out, next, reading.table);
     io::write_all(STDOUT_FILENO, &out);
     end
 }
 
-// V: a table value (302). The answer is the number of its fault, 0 where it has none.
+// V: a table value (303). The answer is the number of its fault, 0 where it has none.
 pub(crate) fn fault(request: &[u8]) -> usize
     ensures { λ r. ⌜ r ≤ length (now (request .entry)) ⌝ }
 {
-    if request.len() < 303 {
+    if request.len() < 304 {
         return 0;
     }
     let number = table::fault(read::table(request, 1));
     io::write_all(STDOUT_FILENO, &[number]);
-    303
+    304
 }
 
-// P: a table value (302), the length (4) of the buffer, and its bytes: the buffer is lent where it stands in the input. The answer is the number, how many
+// P: a table value (303), the length (4) of the buffer, and its bytes: the buffer is lent where it stands in the input. The answer is the number, how many
 // bytes were written (8), and the buffer.
 pub(crate) fn write_table(request: &mut [u8]) -> usize
     ensures { λ r. ⌜ r ≤ length (now (request .entry)) ⌝ }
 {
-    let length = fields::word(request, 303) as usize;
-    let end = 307 + length;
+    let length = fields::word(request, 304) as usize;
+    let end = 308 + length;
     if request.len() < end {
         return 0;
     }
     let value = read::table(request, 1);
-    let writing = table::write(value, &mut request[307..end]);
+    let writing = table::write(value, &mut request[308..end]);
     let mut out = [0u8; 9];
     let next = put::byte(&mut out, 0, writing.number);
     put::long(&mut out, next, writing.length as u64);
     io::write_all(STDOUT_FILENO, &out);
-    io::write_all(STDOUT_FILENO, &request[307..end]);
+    io::write_all(STDOUT_FILENO, &request[308..end]);
     end
 }
 
-// S: a state (584), k (1), the place (8), the length (4) of the buffer, and its bytes. k means the first k cores.
+// S: a state (585), k (1), the place (8), the length (4) of the buffer, and its bytes. k means the first k cores.
 pub(crate) fn slot(request: &mut [u8]) -> usize
     ensures { λ r. ⌜ r ≤ length (now (request .entry)) ⌝ }
 {
-    let end = slot_end(request, 586);
+    let end = slot_end(request, 587);
     if end == 0 {
         return 0;
     }
-    let free = cores::first(fields::byte(request, 585));
-    let outcome = run_slot(request, free, 586, end);
+    let free = cores::first(fields::byte(request, 586));
+    let outcome = run_slot(request, free, 587, end);
     tell(outcome);
-    io::write_all(STDOUT_FILENO, &request[598..end]);
+    io::write_all(STDOUT_FILENO, &request[599..end]);
     end
 }
 
@@ -131,21 +131,21 @@ pub(crate) fn slot(request: &mut [u8]) -> usize
 pub(crate) fn slot_on_set(request: &mut [u8]) -> usize
     ensures { λ r. ⌜ r ≤ length (now (request .entry)) ⌝ }
 {
-    let end = slot_end(request, 589);
+    let end = slot_end(request, 590);
     if end == 0 {
         return 0;
     }
-    let free = read::set(request, 585);
-    let outcome = run_slot(request, free, 589, end);
+    let free = read::set(request, 586);
+    let outcome = run_slot(request, free, 590, end);
     tell_with_cores(outcome);
-    io::write_all(STDOUT_FILENO, &request[601..end]);
+    io::write_all(STDOUT_FILENO, &request[602..end]);
     end
 }
 
 // Where a request for a slot ends, by where its place (8) stands: behind that are the length (4) of the buffer, and its bytes. 0 if it is cut; so it counts
 // too if the state's mark is neither 0 nor 1.
 fn slot_end(request: &[u8], at: usize) -> usize
-    requires { ⌜ (585 ≤ at) × (at ≤ 589) ⌝ }
+    requires { ⌜ (586 ≤ at) × (at ≤ 590) ⌝ }
     ensures { λ r. ⌜ (r ≤ length (now (request .entry))) × (0 < r → at + 12 ≤ r) ⌝ }
 {
     let length = fields::word(request, at + 8) as usize;
@@ -153,7 +153,7 @@ fn slot_end(request: &[u8], at: usize) -> usize
     if request.len() < end {
         return 0;
     }
-    if 1 < fields::byte(request, 311) {
+    if 1 < fields::byte(request, 312) {
         return 0;
     }
     end
@@ -161,7 +161,7 @@ fn slot_end(request: &[u8], at: usize) -> usize
 
 // The slot that is asked for, with these cores free: the buffer is lent where it stands in the input.
 fn run_slot(request: &mut [u8], free: [bool; 32], at: usize, end: usize) -> Outcome
-    requires { ⌜ (585 ≤ at) × ((at + 12 ≤ end) × (end ≤ length (now request))) ⌝ }
+    requires { ⌜ (586 ≤ at) × ((at + 12 ≤ end) × (end ≤ length (now request))) ⌝ }
 {
     let state = read::state(request, 1);
     let place = read::long(request, at) as usize;
@@ -171,7 +171,7 @@ fn run_slot(request: &mut [u8], free: [bool; 32], at: usize, end: usize) -> Outc
 
 // Writes the head of a slot's answer: number, row and time, and the state that the slot left.
 fn tell(outcome: Outcome) {
-    let mut out = [0u8; 594];
+    let mut out = [0u8; 595];
     let answer = outcome.answer;
     let next = write::told(&mut out, 0, answer.told());
     let after = outcome.state;
@@ -181,7 +181,7 @@ fn tell(outcome: Outcome) {
 
 // The same with the cores of the picked rows, before the state.
 fn tell_with_cores(outcome: Outcome) {
-    let mut out = [0u8; 611];
+    let mut out = [0u8; 612];
     let answer = outcome.answer;
     let past_told = write::told(&mut out, 0, answer.told());
     let placed = outcome.placed;
@@ -191,24 +191,24 @@ fn tell_with_cores(outcome: Outcome) {
     io::write_all(STDOUT_FILENO, &out);
 }
 
-// Y: a state (584), k (1) and a row (1). A mark that is neither 0 nor 1 counts as cut.
+// Y: a state (585), k (1) and a row (1). A mark that is neither 0 nor 1 counts as cut.
 pub(crate) fn reason(request: &[u8]) -> usize
     ensures { λ r. ⌜ r ≤ length (now (request .entry)) ⌝ }
 {
-    if request.len() < 587 {
+    if request.len() < 588 {
         return 0;
     }
-    if 1 < fields::byte(request, 311) {
+    if 1 < fields::byte(request, 312) {
         return 0;
     }
     let state = read::state(request, 1);
-    let k = fields::byte(request, 585);
-    let row = fields::byte(request, 586);
+    let k = fields::byte(request, 586);
+    let row = fields::byte(request, 587);
     let answer = why::of_row(state, k, row);
     let mut out = [0u8; 12];
     write::reason(&mut out, answer.told());
     io::write_all(STDOUT_FILENO, &out);
-    587
+    588
 }
 
 // R: a slot (8), the length (4) of a trace, and its bytes. The answer says where the part begins, so that it is told from an equal one elsewhere.

@@ -23,14 +23,14 @@ pub(crate) fn long(s: &[u8], at: usize) -> u64
 
 // A state: a table value, the time, the stopped mark, 32 quanta, and what is remembered of the last slot.
 pub(crate) fn state(s: &[u8], at: usize) -> State
-    requires { ⌜ at + 584 ≤ length (now s) ⌝ }
+    requires { ⌜ at + 585 ≤ length (now s) ⌝ }
     ensures { λ r. ⌜ StateAt (now (s .entry)) at r ⌝ }
 {
     let table = table(s, at);
-    let time = Slot::at(long(s, at + 302));
-    let stopped = fields::byte(s, at + 310) == 1;
-    let quanta = quanta(s, at + 311);
-    let last = placement(s, at + 567);
+    let time = Slot::at(long(s, at + 303));
+    let stopped = fields::byte(s, at + 311) == 1;
+    let quanta = quanta(s, at + 312);
+    let last = placement(s, at + 568);
     State {
         table,
         time,
@@ -67,17 +67,19 @@ pub(crate) fn set(s: &[u8], at: usize) -> [bool; 32]
     marks
 }
 
-// A table value: L, M, 8 board numbers, n and 32 rows.
+// A table value: its format, L, M, 8 board numbers, n and 32 rows.
 pub(crate) fn table(s: &[u8], at: usize) -> Table
-    requires { ⌜ at + 302 ≤ length (now s) ⌝ }
+    requires { ⌜ at + 303 ≤ length (now s) ⌝ }
     ensures { λ r. ⌜ TableAt (now (s .entry)) at r ⌝ }
 {
-    let cycle = fields::word(s, at);
-    let cores = fields::byte(s, at + 4);
-    let boards = eight(s, at + 5);
-    let row_count = fields::byte(s, at + 13);
-    let rows = rows(s, at + 14);
+    let format = fields::byte(s, at);
+    let cycle = fields::word(s, at + 1);
+    let cores = fields::byte(s, at + 5);
+    let boards = eight(s, at + 6);
+    let row_count = fields::byte(s, at + 14);
+    let rows = rows(s, at + 15);
     Table {
+        format,
         cycle,
         cores,
         boards,

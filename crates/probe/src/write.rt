@@ -54,8 +54,8 @@ pub(crate) fn reason(out: &mut [u8], told: why::Told)
 }
 
 pub(crate) fn state(out: &mut [u8], at: usize, state: State) -> usize
-    requires { ⌜ at + 584 ≤ length (now out) ⌝ }
-    ensures { λ r. ⌜ r ≡ at + 584 ⌝ }
+    requires { ⌜ at + 585 ≤ length (now out) ⌝ }
+    ensures { λ r. ⌜ r ≡ at + 585 ⌝ }
 {
     let value = state.table;
     let past_table = table(out, at, value);
@@ -79,10 +79,11 @@ pub(crate) fn placement(out: &mut [u8], at: usize, placed: Placement) -> usize
 }
 
 pub(crate) fn table(out: &mut [u8], at: usize, table: Table) -> usize
-    requires { ⌜ at + 302 ≤ length (now out) ⌝ }
-    ensures { λ r. ⌜ r ≡ at + 302 ⌝ }
+    requires { ⌜ at + 303 ≤ length (now out) ⌝ }
+    ensures { λ r. ⌜ r ≡ at + 303 ⌝ }
 {
-    let past_cycle = put::word(out, at, table.cycle);
+    let past_format = put::byte(out, at, table.format);
+    let past_cycle = put::word(out, past_format, table.cycle);
     let past_cores = put::byte(out, past_cycle, table.cores);
     let numbers = table.boards;
     let past_boards = eight(out, past_cores, numbers);

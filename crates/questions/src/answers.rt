@@ -13,18 +13,18 @@ ghost use Prim.Native.Nat.{_≤_};
 ghost use lib.ListN.{length};
 ghost use Rattle.trace.specs.Record.{storedNumber};
 
-// F: the state that is fresh from a table value (302).
+// F: the state that is fresh from a table value (303).
 pub(crate) fn fresh(request: &[u8]) -> usize
     ensures { λ r. ⌜ r ≤ length (now (request .entry)) ⌝ }
 {
-    if request.len() < 303 {
+    if request.len() < 304 {
         return 0;
     }
     let state = State::fresh(read::table(request));
     let mut answer = [0u8; LONGEST];
     put::state(&mut answer, state);
     put::out(answer, LONGEST);
-    303
+    304
 }
 
 // N: the window of the next subtask, by e (2), p (2), origin (8) and quanta (8).
@@ -97,7 +97,9 @@ fn picked(request: &[u8]) -> [bool; 32] {
     let n = read::long(request, 545) as usize;
     let time = Slot::at(read::long(request, 553));
     let k = fields::byte(request, 561);
-    choice::picks(rows, quanta, n, time, k)
+    // 01's order: nobody is favoured.
+    let nobody = [false; 32];
+    choice::picks(rows, quanta, nobody, n, time, k)
 }
 
 // L: who is late first, of 32 rows with their quanta, by n (8) and time (8).

@@ -6,8 +6,8 @@
 // wholly within the limit are answered, and the first that reaches past it is cut.
 //
 // A row is 9 bytes as in 01: tank (2), e (2), p (2), f (2), kind (1). Quanta are 8 bytes each. Marks are 32 bytes, each 0 or 1: with any
-// other byte the request is cut. A table value (302) is L (4), M (1), 8 board numbers (1 each), n (1) and 32 rows. A state (584) is a table
-// value, the time (8), the stopped mark (1), 32 quanta and a placement: a count (1), 8 rows (1 each), 8 cores (1 each).
+// other byte the request is cut. A table value (303) is its format (1), L (4), M (1), 8 board numbers (1 each), n (1) and 32 rows. A state
+// (585) is a table value, the time (8), the stopped mark (1), 32 quanta and a placement: a count (1), 8 rows (1 each), 8 cores (1 each).
 //
 // Nothing is judged before: rows, quanta and numbers may be wild. Kind 1 is early release, and any other kind is plain. A question about
 // one row is answered if 0 < e, e is at or below p, and the numbers asked with it (quanta, and origin or time) are each at or below 2^40.

@@ -11,18 +11,18 @@ use windows::Moment;
 ghost use Prim.Native.Nat.{_+_, _≤_};
 
 // How long the longest answer is: a state.
-pub(crate) const LONGEST: usize = 584;
+pub(crate) const LONGEST: usize = 585;
 
 // Writes an answer that is so many bytes long.
 pub(crate) fn out(answer: [u8; LONGEST], length: usize)
-    requires { ⌜ length ≤ 584 ⌝ }
+    requires { ⌜ length ≤ 585 ⌝ }
 {
     io::write_all(STDOUT_FILENO, &answer[..length]);
 }
 
 // The lowest bytes of a number, little-endian, from place `at` on. It asks for room, so that none of them is lost.
 pub(crate) fn number(answer: &mut [u8; LONGEST], at: usize, bytes: usize, number: u64)
-    requires { ⌜ at + bytes ≤ 584 ⌝ }
+    requires { ⌜ at + bytes ≤ 585 ⌝ }
 {
     fields::put(answer, at, bytes, number);
 }
@@ -30,36 +30,37 @@ pub(crate) fn number(answer: &mut [u8; LONGEST], at: usize, bytes: usize, number
 pub(crate) fn state(answer: &mut [u8; LONGEST], state: State) {
     let value = state.table;
     table(answer, value);
-    number(answer, 302, 8, state.time.time());
-    number(answer, 310, 1, state.stopped as u64);
+    number(answer, 303, 8, state.time.time());
+    number(answer, 311, 1, state.stopped as u64);
     let given = state.quanta;
-    quanta(answer, 311, given);
+    quanta(answer, 312, given);
     let last = state.last;
     placement(answer, last);
 }
 
 // Behind the quanta: a count, 8 rows and 8 cores.
 fn placement(answer: &mut [u8; LONGEST], placed: Placement) {
-    number(answer, 567, 1, placed.count as u64);
+    number(answer, 568, 1, placed.count as u64);
     let rows = placed.rows;
-    eight(answer, 568, rows);
+    eight(answer, 569, rows);
     let cores = placed.cores;
-    eight(answer, 576, cores);
+    eight(answer, 577, cores);
 }
 
 fn table(answer: &mut [u8; LONGEST], table: Table) {
-    number(answer, 0, 4, table.cycle as u64);
-    number(answer, 4, 1, table.cores as u64);
+    number(answer, 0, 1, table.format as u64);
+    number(answer, 1, 4, table.cycle as u64);
+    number(answer, 5, 1, table.cores as u64);
     let numbers = table.boards;
-    eight(answer, 5, numbers);
-    number(answer, 13, 1, table.n as u64);
+    eight(answer, 6, numbers);
+    number(answer, 14, 1, table.n as u64);
     let all = table.rows;
     rows(answer, all);
 }
 
 // Eight numbers of one byte: boards, and the rows or cores of a placement.
 fn eight(answer: &mut [u8; LONGEST], at: usize, numbers: [u8; 8])
-    requires { ⌜ at + 8 ≤ 584 ⌝ }
+    requires { ⌜ at + 8 ≤ 585 ⌝ }
 {
     let mut i: usize = 0;
     while i < 8 {
@@ -72,13 +73,13 @@ fn rows(answer: &mut [u8; LONGEST], rows: [Row; 32]) {
     let mut i: usize = 0;
     while i < 32 {
         let one = rows[i];
-        row(answer, 14 + 9 * i, one);
+        row(answer, 15 + 9 * i, one);
         i += 1;
     }
 }
 
 fn row(answer: &mut [u8; LONGEST], at: usize, row: Row)
-    requires { ⌜ at + 9 ≤ 584 ⌝ }
+    requires { ⌜ at + 9 ≤ 585 ⌝ }
 {
     number(answer, at, 2, row.tank as u64);
     number(answer, at + 2, 2, row.cost as u64);
@@ -88,7 +89,7 @@ fn row(answer: &mut [u8; LONGEST], at: usize, row: Row)
 }
 
 pub(crate) fn quanta(answer: &mut [u8; LONGEST], at: usize, quanta: [Quanta; 32])
-    requires { ⌜ at + 256 ≤ 584 ⌝ }
+    requires { ⌜ at + 256 ≤ 585 ⌝ }
 {
     let mut i: usize = 0;
     while i < 32 {
@@ -120,7 +121,7 @@ pub(crate) fn due(answer: &mut [u8; LONGEST], due: Due) {
 
 // Answered, and the time.
 pub(crate) fn moment(answer: &mut [u8; LONGEST], at: usize, moment: Moment)
-    requires { ⌜ at + 9 ≤ 584 ⌝ }
+    requires { ⌜ at + 9 ≤ 585 ⌝ }
 {
     match moment {
         Moment::At(time) => {
@@ -132,7 +133,7 @@ pub(crate) fn moment(answer: &mut [u8; LONGEST], at: usize, moment: Moment)
 }
 
 pub(crate) fn verdict(answer: &mut [u8; LONGEST], at: usize, verdict: Verdict)
-    requires { ⌜ at + 1 ≤ 584 ⌝ }
+    requires { ⌜ at + 1 ≤ 585 ⌝ }
 {
     answer[at] = match verdict {
         Verdict::Yes => 1,

@@ -34,12 +34,14 @@ pub(crate) fn row(s: &[u8], at: usize) -> Row
 
 // The table value behind a letter.
 pub(crate) fn table(s: &[u8]) -> Table {
-    let cycle = fields::word(s, 1);
-    let cores = fields::byte(s, 5);
+    let format = fields::byte(s, 1);
+    let cycle = fields::word(s, 2);
+    let cores = fields::byte(s, 6);
     let boards = boards(s);
-    let row_count = fields::byte(s, 14);
-    let rows = rows(s, 15);
+    let row_count = fields::byte(s, 15);
+    let rows = rows(s, 16);
     Table {
+        format,
         cycle,
         cores,
         boards,
@@ -50,7 +52,6 @@ pub(crate) fn table(s: &[u8]) -> Table {
 
 fn boards(s: &[u8]) -> [u8; 8] {
     [
-        fields::byte(s, 6),
         fields::byte(s, 7),
         fields::byte(s, 8),
         fields::byte(s, 9),
@@ -58,6 +59,7 @@ fn boards(s: &[u8]) -> [u8; 8] {
         fields::byte(s, 11),
         fields::byte(s, 12),
         fields::byte(s, 13),
+        fields::byte(s, 14),
     ]
 }
 

@@ -14,9 +14,9 @@ use Rattle.fields.specs.Fields.{byte}
 use Rattle.table.specs.declared.Row.{Row}
 use Rattle.table.specs.declared.Table.{Table}
 use Rattle.table.specs.declared.Reading.{Reading}
-use Rattle.table.specs.Limits.{cycleLimit, coreLimit, rowLimit}
-use Rattle.table.specs.Causes.{load, zeroRow, outside}
-use Rattle.table.specs.Bytes.{cycleIn, coresIn, rowCountIn, rowsPlace, rowPlaces, rowInBytes, headTests, boardsTestsIn, rowCountTestsIn, rowsTestsIn, lastTests, tableNumber, tableIn, readingOf, reading}
+use Rattle.table.specs.Limits.{rowLimit}
+use Rattle.table.specs.Causes.{load, zeroRow}
+use Rattle.table.specs.Bytes.{formatIn, cycleIn, coresIn, rowCountIn, rowsPlace, rowPlaces, rowInBytes, headTests, boardsTestsIn, rowCountTestsIn, rowsTestsIn, lastTests, tableNumber, tableIn, readingOf, reading}
 use Rattle.table.specs.Parts.{refusedWith, BoardsAnswer, RowsAnswer}
 use Rattle.table.proofs.Numbers.{none-met, boards-say-in, rows-say-in}
 
@@ -35,11 +35,6 @@ unfolding reading
 is-taken s e p = rw (← e, p)
 
 module _ (s : List ℕ) where
-  -- What is known past the head: the cycle and the core count are between their limits.
-  pub head-passed : NoneFound (headTests s) → (outside 1 cycleLimit (cycleIn s) ≡ false) × (outside 1 coreLimit (coresIn s) ≡ false)
-  head-passed (NoneFound.later _ (NoneFound.later _ (NoneFound.later _ (NoneFound.later cycle (NoneFound.later _ (NoneFound.later cores NoneFound.end)))))) =
-      (cycle, cores)
-
   -- for the function `read`, whose cycle and cores are those in the bytes
   pub head-refused : {n : ℕ} → n ≡ firstFound 0 (headTests s) → (n ≡ 0 → ⊥) → refusedWith n ≡ reading s
   unfolding tableNumber
@@ -119,9 +114,10 @@ module _ (s : List ℕ) where
                   pub sum-refused : ltb (cores * cycle) sum ≡ true → refusedWith 22 ≡ reading s
                   sum-refused h = is-refused s (past-rows (sym (first-is-said 0 (FirstFound.later ended (FirstFound.here (sym sum-in ∙ h)))))) (λ z. omega arith)
 
-                  pub is-read : ltb (cores * cycle) sum ≡ false →
-                      _≡_ {A = Reading} (record { number = 0; table = record { cycle = cycle; cores = cores; boards = boards; n = count; rows = rows } }) (reading s)
-                  is-read h =
+                  pub is-read : ltb (cores * cycle) sum ≡ false → {format : ℕ} → format ≡ formatIn s →
+                      let table : Table = record { format = format; cycle = cycle; cores = cores; boards = boards; n = count; rows = rows } in
+                      _≡_ {A = Reading} (record { number = 0; table = table }) (reading s)
+                  is-read h format-is =
                       let boards-are : boards ≡ tableIn s .boards = rw cores-is at (b .content z₂) in
                       is-taken s (past-rows (sym (none-says-otherwise 0 (NoneFound.later ended (NoneFound.later (sym sum-in ∙ h) NoneFound.end)))))
-                      (λ k. record { cycle = cycle-is k; cores = cores-is k; boards = boards-are k; n = count-is k; rows = rows-are k })
+                      (λ k. record { format = format-is k; cycle = cycle-is k; cores = cores-is k; boards = boards-are k; n = count-is k; rows = rows-are k })

@@ -3,8 +3,9 @@ use Prim.Native.Nat.{ℕ, zero, suc, _+_, _*_, _%_, _≤_, _<_}
 use mathlib.Core.Path.{_≡_, refl, sym, ap}
 use mathlib.Core.List.{List, map}
 use mathlib.Core.Bool.{false, not}
+use mathlib.Core.Logic.{_⊎_, inl, inr}
 use native.Mathlib.Omega.{arith}
-use borrow.Author.Tests.{le-ltb, ltb-false, eq-eqb, ne-eqb, eqb-true, not-false}
+use borrow.Author.Tests.{le-ltb, ltb-false, eq-eqb, ne-eqb}
 use lib.ListN.{length, getD}
 use Rattle.facts.specs.Findings.{NoneFound}
 use Rattle.facts.specs.Rising.{rising}
@@ -16,19 +17,24 @@ use Rattle.fields.specs.Fields.{byte}
 use Rattle.table.specs.declared.Row.{Row}
 use Rattle.table.specs.declared.Table.{Table}
 use Rattle.table.specs.Limits.{coreLimit, rowLimit}
-use Rattle.table.specs.Causes.{boardTests, boardAbove, rowTests, tankAbove, load, outside, zeroRow}
-use Rattle.table.specs.Value.{boardsOf, rowsOf, boardsTests, rowsTests, faultOf}
+use Rattle.table.specs.Causes.{formatTest, boardTests, boardAbove, rowTests, tankAbove, load, outside, zeroRow}
+use Rattle.table.specs.Value.{boardsOf, rowsOf, frontTests, boardsTests, rowsTests, faultOf}
 use Rattle.table.specs.Bytes.{cycleIn, coresIn, rowCountIn, rowsPlace, boardPlaces, rowPlaces, rowInBytes, boardTestsIn, rowTestsIn, headTests, boardsTestsIn, rowCountTestsIn, rowsTestsIn, lastTests, tableNumber, tableIn}
 use Rattle.table.specs.Taken.{Sound}
 use Rattle.table.specs.Faultless.{Faultless, FaultlessExactly, TakenExactly}
 use Rattle.table.proofs.Numbers.{none-in-bytes}
 use Rattle.table.proofs.Value.{no-fault}
 use Rattle.table.proofs.Bytes.{board-rises, board-passes-there, row-was-there}
-use Rattle.table.proofs.Taken.{taken-value-has-no-fault, rows-are-sound, sum-is-within, sizes-are-within, boards-rise, tanks-rise}
+use Rattle.table.proofs.Taken.{taken-value-has-no-fault, rows-are-sound, sum-is-within, sizes-are-within, format-is-known, boards-rise, tanks-rise}
 
 -- What is between is not outside.
 between-not-outside : {low high x : ℕ} → (low ≤ x) × (x ≤ high) → outside low high x ≡ false
 between-not-outside {low} {high} {x} h = rw (le-ltb x low (h .0), le-ltb high x (h .1))
+
+-- A format that is 1 or 2 passes its test.
+known-passes : {format : ℕ} → (format ≡ 1) ⊎ (format ≡ 2) → formatTest format .cause ≡ false
+known-passes (inl one) = rw one
+known-passes (inr two) = rw two
 
 -- A sound row whose tank is high enough passes its tests.
 sound-row-passes : (cycle least : ℕ) (row : Row) → least ≤ row .tank → Sound cycle row → NoneFound (rowTests cycle least row)
@@ -38,7 +44,13 @@ sound-row-passes cycle least row h sound =
     (NoneFound.later (le-ltb (row .period) (row .cost) (sound .within-period))
     (NoneFound.later (ap not (eq-eqb (cycle % row .period) 0 (sound .divides))) (NoneFound.later (le-ltb 1 (row .kind) (sound .kind)) NoneFound.end))))
 
--- A faultless table has no fault in its board numbers,
+-- A faultless table has no fault in its front,
+front-passes : (t : Table) → Faultless t → NoneFound (frontTests t)
+front-passes t f =
+    NoneFound.later (known-passes (f .format))
+    (NoneFound.later (between-not-outside (f .cycle)) (NoneFound.later (between-not-outside (f .cores)) NoneFound.end))
+
+-- none in its board numbers,
 boards-pass : (t : Table) → Faultless t → NoneFound (boardsTests t)
 boards-pass t f =
     risen-pass boardTests boardAbove (λ board. board) (λ board. refl) 0 0 (boardsOf t)
@@ -54,7 +66,7 @@ rows-pass t f =
 pub faultless-has-none : (t : Table) → Faultless t → faultOf t ≡ 0
 faultless-has-none t f =
     sym
-    (no-fault t (between-not-outside (f .cycle)) (between-not-outside (f .cores)) (boards-pass t f) (f .row-count) (rows-pass t f) refl
+    (no-fault t (front-passes t f) (boards-pass t f) (f .row-count) (rows-pass t f) refl
     (le-ltb (t .cores * t .cycle) (load (t .cycle) (rowsOf t)) (f .sum)))
 
 -- A table without fault is faultless.
@@ -62,6 +74,7 @@ pub none-is-faultless : (t : Table) → faultOf t ≡ 0 → Faultless t
 none-is-faultless t h =
     let sizes = sizes-are-within t h in
     record {
+      format = format-is-known t h;
       cycle = sizes .0;
       cores = sizes .1;
       boards = boards-rise t h;
@@ -75,13 +88,13 @@ none-is-faultless t h =
 pub faultless-exactly : FaultlessExactly
 faultless-exactly t = (none-is-faultless t, faultless-has-none t)
 
--- Bytes of format 1 that are as long as their counts say, with a faultless table in them, are taken: part by part nothing is met.
-module _ (s : List ℕ) (format : byte s 0 ≡ 1) (long : length s ≡ 7 + byte s 5 + 9 * byte s (6 + byte s 5)) (f : Faultless (tableIn s)) where
+-- Bytes that are as long as their counts say, with a faultless table in them, are taken: part by part nothing is met.
+module _ (s : List ℕ) (long : length s ≡ 7 + byte s 5 + 9 * byte s (6 + byte s 5)) (f : Faultless (tableIn s)) where
   -- The head passes,
   head-passes : NoneFound (headTests s)
   head-passes =
       NoneFound.later (le-ltb (length s) 1 (omega arith))
-      (NoneFound.later (ap not (eq-eqb (byte s 0) 1 format))
+      (NoneFound.later (known-passes (f .format))
       (NoneFound.later (le-ltb (length s) 5 (omega arith))
       (NoneFound.later (between-not-outside (f .cycle))
       (NoneFound.later (le-ltb (length s) 6 (omega arith)) (NoneFound.later (between-not-outside (f .cores)) NoneFound.end)))))
@@ -129,14 +142,7 @@ module _ (s : List ℕ) (format : byte s 0 ≡ 1) (long : length s ≡ 7 + byte 
       none-says-otherwise 0
       (none-joined head-passes (none-joined boards-pass-in-bytes (none-joined count-passes-in-bytes (none-joined rows-pass-in-bytes last-passes))))
 
--- Bytes that are taken have format 1,
-pub taken-has-format-1 : (s : List ℕ) → tableNumber s ≡ 0 → byte s 0 ≡ 1
-taken-has-format-1 s h = go (none-in-bytes s h .0)
-  where
-    go : NoneFound (headTests s) → byte s 0 ≡ 1
-    go (NoneFound.later there (NoneFound.later format others)) = eqb-true (byte s 0) 1 (not-false _ format)
-
--- have all their rows (the last of them, if there is one, ends where the bytes are still there),
+-- Bytes that are taken have all their rows (the last of them, if there is one, ends where the bytes are still there),
 rows-are-there : (s : List ℕ) → NoneFound (rowCountTestsIn s) → NoneFound (rowsTestsIn s) → rowsPlace s + 9 * rowCountIn s ≤ length s
 rows-are-there s (NoneFound.later front few) rows = go (rowCountIn s) rows
   where
@@ -153,9 +159,9 @@ taken-is-as-long s h = let each = none-in-bytes s h in go (rows-are-there s (eac
     go : rowsPlace s + 9 * rowCountIn s ≤ length s → NoneFound (lastTests s) → length s ≡ 7 + byte s 5 + 9 * byte s (6 + byte s 5)
     go there (NoneFound.later after sum) = omega (arith, there, ltb-false (rowsPlace s + 9 * rowCountIn s) (length s) after)
 
--- So bytes are taken exactly if they have format 1, are as long as their counts say, and hold a faultless table.
+-- So bytes are taken exactly if they are as long as their counts say and hold a faultless table.
 pub taken-exactly : TakenExactly
 taken-exactly s = (
-  λ h. (taken-has-format-1 s h, taken-is-as-long s h, none-is-faultless (tableIn s) (taken-value-has-no-fault s h)),
-  λ x. faultless-is-taken s (x .0) (x .1) (x .2),
+  λ h. (taken-is-as-long s h, none-is-faultless (tableIn s) (taken-value-has-no-fault s h)),
+  λ x. faultless-is-taken s (x .0) (x .1),
 )

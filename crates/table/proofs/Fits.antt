@@ -39,6 +39,7 @@ each-fits (row ∷ rows) fits (suc i) d h = each-fits rows (both (rowFits row) (
 -- and those of a table.
 pub record TableNumbers (t : Table) : Type 0 where
   pub cycle : t .cycle < 256 ^ 4
+  pub format : t .format < 256
   pub cores : t .cores < 256
   pub row-count : t .n < 256
   pub boards : (i : ℕ) → getD (t .boards) i 0 < 256
@@ -46,13 +47,14 @@ pub record TableNumbers (t : Table) : Type 0 where
 
 pub table-numbers : (t : Table) → tableFits t ≡ true → TableNumbers t
 table-numbers t fits =
-    let front = both (ltb (t .cycle) (2 ^ 32) && allBelow 256 (t .cores ∷ t .n ∷ t .boards)) (rowsFit (t .rows)) fits in
-    let sizes = both (ltb (t .cycle) (2 ^ 32)) (allBelow 256 (t .cores ∷ t .n ∷ t .boards)) (front .0) in
-    let below = each-below 256 (omega arith) (t .cores ∷ t .n ∷ t .boards) (sizes .1) in
+    let front = both (ltb (t .cycle) (2 ^ 32) && allBelow 256 (t .format ∷ t .cores ∷ t .n ∷ t .boards)) (rowsFit (t .rows)) fits in
+    let sizes = both (ltb (t .cycle) (2 ^ 32)) (allBelow 256 (t .format ∷ t .cores ∷ t .n ∷ t .boards)) (front .0) in
+    let below = each-below 256 (omega arith) (t .format ∷ t .cores ∷ t .n ∷ t .boards) (sizes .1) in
     record {
       cycle = ltb-true (t .cycle) (2 ^ 32) (sizes .0);
-      cores = below 0;
-      row-count = below 1;
-      boards = λ i. below (suc (suc i));
+      format = below 0;
+      cores = below 1;
+      row-count = below 2;
+      boards = λ i. below (suc (suc (suc i)));
       rows = each-fits (t .rows) (front .1);
     }

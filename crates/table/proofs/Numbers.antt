@@ -10,7 +10,7 @@ use Rattle.fields.specs.Fields.{byte}
 use Rattle.table.specs.declared.Row.{Row}
 use Rattle.table.specs.declared.Table.{Table}
 use Rattle.table.specs.Causes.{boardTests, boardAbove, rowTests, tankAbove}
-use Rattle.table.specs.Value.{boardsOf, rowsOf, sizeTests, boardsTests, rowCountTests, rowsTests, sumTests, valueTests, faultOf}
+use Rattle.table.specs.Value.{boardsOf, rowsOf, frontTests, boardsTests, rowCountTests, rowsTests, sumTests, valueTests, faultOf}
 use Rattle.table.specs.Bytes.{cycleIn, boardPlaces, rowPlaces, rowInBytes, boardTestsIn, rowTestsIn, headTests, boardsTestsIn, rowCountTestsIn, rowsTestsIn, lastTests, tableTests, tableNumber}
 
 -- a number of a table's refusal
@@ -40,14 +40,14 @@ module _ (t : Table) where
   -- and the whole,
   pub value-says : AllSay Number (valueTests t)
   value-says =
-      all-joined (in-range 10 22 (sizeTests t) refl)
+      all-joined (in-range 10 22 (frontTests t) refl)
       (all-joined boards-say (all-joined (in-range 10 22 (rowCountTests t) refl) (all-joined rows-say (in-range 10 22 (sumTests t) refl))))
 
   -- so where it has no fault, no part of it has;
   pub none-in-value : faultOf t ≡ 0 →
-      NoneFound (sizeTests t) × NoneFound (boardsTests t) × NoneFound (rowCountTests t) × NoneFound (rowsTests t) × NoneFound (sumTests t)
+      NoneFound (frontTests t) × NoneFound (boardsTests t) × NoneFound (rowCountTests t) × NoneFound (rowsTests t) × NoneFound (sumTests t)
   unfolding faultOf
-  none-in-value h = none-in-five (sizeTests t) (boardsTests t) (rowCountTests t) (rowsTests t) (none-met value-says h)
+  none-in-value h = none-in-five (frontTests t) (boardsTests t) (rowCountTests t) (rowsTests t) (none-met value-says h)
 
 -- and those of a table in bytes:
 module _ (s : List ℕ) where

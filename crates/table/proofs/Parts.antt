@@ -16,11 +16,11 @@ use Rattle.table.specs.Writing.{bytesOfRow, bytesOfTable}
 
 module _ (b : List ℕ) where
   -- Format, cycle and core count,
-  pub head-stored : (cycle cores : ℕ) {w₁ w₂ w₃ : List ℕ} → w₁ ≡ sets b 0 (bytesOf 1 1) → w₂ ≡ sets w₁ 1 (bytesOf 4 cycle) → w₃ ≡ sets w₂ 5 (bytesOf 1 cores) →
-      w₃ ≡ sets b 0 (bytesOf 1 1 ++ bytesOf 4 cycle ++ bytesOf 1 cores)
+  pub head-stored : (format cycle cores : ℕ) {w₁ w₂ w₃ : List ℕ} → w₁ ≡ sets b 0 (bytesOf 1 format) → w₂ ≡ sets w₁ 1 (bytesOf 4 cycle) →
+      w₃ ≡ sets w₂ 5 (bytesOf 1 cores) → w₃ ≡ sets b 0 (bytesOf 1 format ++ bytesOf 4 cycle ++ bytesOf 1 cores)
   unfolding bytesOf
-  head-stored cycle cores p₁ p₂ p₃ =
-      stored-behind b (bytesOf 1 1 ++ bytesOf 4 cycle) (bytesOf 1 cores) 0 (stored-behind b (bytesOf 1 1) (bytesOf 4 cycle) 0 p₁ refl p₂) refl p₃
+  head-stored format cycle cores p₁ p₂ p₃ =
+      stored-behind b (bytesOf 1 format ++ bytesOf 4 cycle) (bytesOf 1 cores) 0 (stored-behind b (bytesOf 1 format) (bytesOf 4 cycle) 0 p₁ refl p₂) refl p₃
 
   -- what stands first in a row, and a row,
   pub front-stored : (at tank cost period : ℕ) {w₁ w₂ w₃ : List ℕ} → w₁ ≡ sets b at (bytesOf 2 tank) → w₂ ≡ sets w₁ (at + 2) (bytesOf 2 cost) →
@@ -40,11 +40,11 @@ module _ (b : List ℕ) where
 
   -- and the whole table.
   pub table-stored : (t : Table) → length (boardsOf t) ≡ t .cores → {w₁ w₂ w₃ w₄ : List ℕ} →
-      w₁ ≡ sets b 0 (bytesOf 1 1 ++ bytesOf 4 (t .cycle) ++ bytesOf 1 (t .cores)) → w₂ ≡ sets w₁ 6 (flatMap (bytesOf 1) (boardsOf t)) →
+      w₁ ≡ sets b 0 (bytesOf 1 (t .format) ++ bytesOf 4 (t .cycle) ++ bytesOf 1 (t .cores)) → w₂ ≡ sets w₁ 6 (flatMap (bytesOf 1) (boardsOf t)) →
       w₃ ≡ sets w₂ (6 + t .cores) (bytesOf 1 (t .n)) → w₄ ≡ sets w₃ (7 + t .cores) (flatMap bytesOfRow (rowsOf t)) → w₄ ≡ sets b 0 (bytesOfTable t)
   unfolding bytesOfTable bytesOf
   table-stored t all p₁ p₂ p₃ p₄ =
-      let head = bytesOf 1 1 ++ bytesOf 4 (t .cycle) ++ bytesOf 1 (t .cores) in
+      let head = bytesOf 1 (t .format) ++ bytesOf 4 (t .cycle) ++ bytesOf 1 (t .cores) in
       let boards = flatMap (bytesOf 1) (boardsOf t) in
       let many = joined-long (bytesOf 1) 1 (bytes-long 1) (boardsOf t) in
       let q₂ = stored-behind b head boards 0 p₁ refl p₂ in

@@ -1,7 +1,7 @@
 -- What is written reads back as the same table and is refused as the reader would; what reads back and is written gives the same bytes. Assumes nothing.
 use Prim.Native.Nat.{ℕ, _+_, _*_, _≤_, _<_}
 use mathlib.Core.Path.{_≡_, refl, sym, ap, _∙_}
-use mathlib.Core.List.{List, [], _∷_, _++_, map, flatMap, append-nil, append-assoc}
+use mathlib.Core.List.{List, [], _++_, map, flatMap, append-nil, append-assoc}
 use mathlib.Core.Bool.{true}
 use native.Mathlib.Nat.{mod-eq-of-lt}
 use native.Mathlib.Omega.{arith}
@@ -20,13 +20,13 @@ use Rattle.fields.proofs.Numbers.{bytes-long, written-is-read, fields-are-numbe
 use Rattle.table.specs.declared.Table.{Table}
 use Rattle.table.specs.Limits.{coreLimit, rowLimit}
 use Rattle.table.specs.Causes.{zeroRow, boardTests, boardAbove, rowTests, tankAbove}
-use Rattle.table.specs.Value.{boardsOf, rowsOf, sizeTests, boardsTests, rowCountTests, rowsTests, sumTests, faultOf}
-use Rattle.table.specs.Bytes.{cycleIn, coresIn, rowCountIn, rowsPlace, rowPlaces, rowInBytes, boardTestsIn, rowTestsIn, headTests, boardsTestsIn, rowCountTestsIn, rowsTestsIn, lastTests, tableNumber, tableIn, reading}
+use Rattle.table.specs.Value.{boardsOf, rowsOf, frontTests, boardsTests, rowCountTests, rowsTests, sumTests, faultOf}
+use Rattle.table.specs.Bytes.{formatIn, cycleIn, coresIn, rowCountIn, rowsPlace, rowPlaces, rowInBytes, boardTestsIn, rowTestsIn, headTests, boardsTestsIn, rowCountTestsIn, rowsTestsIn, lastTests, tableNumber, tableIn, reading}
 use Rattle.table.specs.Fits.{rowFits, CanBeHeld}
 use Rattle.table.specs.Writing.{bytesOfRow, bytesOfTable}
 use Rattle.table.specs.RoundTrip.{ReadsBack, WrittenReadsBack, ReadIsWrittenBack, RefusedAsTheReaderWould, ReaderSaysTheSame}
 use Rattle.table.proofs.Numbers.{none-in-value}
-use Rattle.table.proofs.Value.{not-outside}
+use Rattle.table.proofs.Value.{front-passed}
 use Rattle.table.proofs.Taken.{number-read, table-read, taken-value-has-no-fault}
 use Rattle.table.proofs.Fits.{TableNumbers, table-numbers}
 use Rattle.table.proofs.Spelled.{row-is-nine, table-is-long, byte-is-read, row-is-read, table-is-written}
@@ -42,7 +42,7 @@ module _ (t : Table) (can : CanBeHeld t) where
 
   -- what stands before the board numbers, and before the rows
   abbrev head : List ℕ
-  head = bytesOf 1 1 ++ bytesOf 4 (t .cycle) ++ bytesOf 1 (t .cores)
+  head = bytesOf 1 (t .format) ++ bytesOf 4 (t .cycle) ++ bytesOf 1 (t .cores)
 
   abbrev boards : List ℕ
   boards = flatMap (bytesOf 1) (boardsOf t)
@@ -56,27 +56,30 @@ module _ (t : Table) (can : CanBeHeld t) where
 
   cycle-is : cycleIn s ≡ t .cycle
   unfolding bytesOfTable bytesOf
-  cycle-is = fields-are-numbers .four s 1 ∙ written-is-read 4 (t .cycle) (small .cycle) (1 ∷ []) (bytesOf 1 (t .cores) ++ boards ++ bytesOf 1 (t .n) ++ rows)
+  cycle-is =
+      let behind = bytesOf 1 (t .cores) ++ boards ++ bytesOf 1 (t .n) ++ rows in
+      fields-are-numbers .four s 1 ∙ written-is-read 4 (t .cycle) (small .cycle) (bytesOf 1 (t .format)) behind
 
   cores-is : coresIn s ≡ t .cores
   unfolding bytesOfTable bytesOf
   cores-is = mod-eq-of-lt (small .cores)
 
-  format-is : byte s 0 ≡ 1
+  format-is : formatIn s ≡ t .format
   unfolding bytesOfTable bytesOf
-  format-is = refl
+  format-is = mod-eq-of-lt (small .format)
 
-  head-same : Alike (headTests s) (sizeTests t)
+  head-same : Alike (headTests s) (frontTests t)
   unfolding firstFound
   head-same =
-      record { same = λ otherwise. rw (le-ltb (length s) 1 (omega (arith, table-is-long t)), le-ltb (length s) 5 (omega (arith, table-is-long t)), le-ltb (length s) 6 (omega (arith, table-is-long t)), format-is, cycle-is, cores-is) refl }
+      let long : 7 ≤ length s = omega (arith, table-is-long t) in
+      record {
+        same = λ otherwise.
+            rw (le-ltb (length s) 1 (omega arith), le-ltb (length s) 5 (omega arith), le-ltb (length s) 6 (omega arith), format-is, cycle-is, cores-is) refl;
+      }
 
-  module _ (sizes : NoneFound (sizeTests t)) where
+  module _ (front : NoneFound (frontTests t)) where
     few-cores : t .cores ≤ coreLimit
-    few-cores = go sizes
-      where
-        go : NoneFound (sizeTests t) → t .cores ≤ coreLimit
-        go (NoneFound.later cycle (NoneFound.later cores NoneFound.end)) = not-outside cores .1
+    few-cores = front-passed t front .2 .1
 
     boards-many : length (boardsOf t) ≡ t .cores
     boards-many = length-take-le (t .cores) (t .boards) (omega (arith, few-cores, can .boards))
@@ -162,10 +165,10 @@ pub reader-says-the-same : ReaderSaysTheSame
 unfolding tableNumber faultOf
 reader-says-the-same t can =
     alike-in-turn (head-same t can)
-    (λ sizes. alike-in-turn (boards-same t can sizes)
-    (λ _. alike-in-turn (count-same t can sizes)
-    (λ count. alike-in-turn (rows-same t can sizes count)
-    (λ _. last-same t can sizes count)))) .same 0
+    (λ front. alike-in-turn (boards-same t can front)
+    (λ _. alike-in-turn (count-same t can front)
+    (λ count. alike-in-turn (rows-same t can front count)
+    (λ _. last-same t can front count)))) .same 0
 
 -- So a value that the reader would refuse is refused with that number.
 pub refused-as-the-reader-would : RefusedAsTheReaderWould
@@ -185,7 +188,14 @@ reads-back t can none =
       taken = number-read s ∙ number;
       same =
           rw (table-read s number)
-          (record { cycle = sym (cycle-is t can); cores = sym (cores-is t can); boards = sym boards; row-count = sym (count-is t can (each .0)); rows = sym rows });
+          (record {
+            format = sym (format-is t can);
+            cycle = sym (cycle-is t can);
+            cores = sym (cores-is t can);
+            boards = sym boards;
+            row-count = sym (count-is t can (each .0));
+            rows = sym rows;
+          });
     }
 
 -- What is written reads back,

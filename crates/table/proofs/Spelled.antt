@@ -1,6 +1,6 @@
 -- Fields, rows and whole tables in bytes: each is read as it was written, and written as it was read. Assumes nothing.
 use Prim.Native.Nat.{ℕ, _+_, _*_, _/_, _%_, _≤_, _<_}
-use mathlib.Core.Path.{_≡_, refl, sym, ap, _∙_}
+use mathlib.Core.Path.{_≡_, refl, ap, _∙_}
 use mathlib.Core.List.{List, [], _++_, flatMap}
 use mathlib.Core.Bool.{true}
 use native.Mathlib.Nat.{mod-eq-of-lt}
@@ -10,7 +10,7 @@ use lib.Seq.{getD-append-add, take-length}
 use Rattle.facts.specs.Below.{allBelow}
 use Rattle.facts.proofs.Joining.{parts-joined, joined-long, joined-are-written}
 use Rattle.facts.proofs.Places.{first-are-read}
-use Rattle.fields.specs.Fields.{byte, half, bytesOf, numberAt}
+use Rattle.fields.specs.Fields.{byte, half, bytesOf}
 use Rattle.fields.proofs.Numbers.{bytes-long, written-is-read, read-is-written, fields-are-numbers}
 use Rattle.table.specs.declared.Row.{Row}
 use Rattle.table.specs.declared.Table.{Table}
@@ -21,7 +21,7 @@ use Rattle.table.specs.Bytes.{coresIn, rowCountIn, rowsPlace, rowInBytes
 use Rattle.table.specs.Fits.{rowFits}
 use Rattle.table.specs.Writing.{bytesOfRow, bytesOfTable}
 use Rattle.table.proofs.Fits.{row-numbers}
-use Rattle.table.proofs.Faultless.{taken-has-format-1, taken-is-as-long}
+use Rattle.table.proofs.Faultless.{taken-is-as-long}
 
 -- how many bytes there are
 
@@ -116,7 +116,7 @@ module _ (s : List ℕ) (bytes : allBelow 256 s ≡ true) where
       let m = coresIn s in
       let n = rowCountIn s in
       let long = taken-is-as-long s taken in
-      let format = ap (bytesOf 1) (sym (taken-has-format-1 s taken)) ∙ byte-is-written 0 (omega arith) in
+      let format = byte-is-written 0 (omega arith) in
       let word-is = ap (bytesOf 4) (fields-are-numbers .four s 1) ∙ read-is-written s bytes 4 1 (omega arith) in
       let cycle = parts-joined s 0 1 4 format word-is refl in
       let cores = parts-joined s 0 5 1 cycle (byte-is-written 5 (omega arith)) refl in

@@ -2,6 +2,7 @@
 use mathlib.Core.Path.{_≡_, refl, sym, ap, _∙_}
 use mathlib.Core.List.{List, map}
 use mathlib.Core.Bool.{false}
+use mathlib.Core.Logic.{_⊎_}
 use Prim.Native.Nat.{ℕ, zero, suc, _*_, _/_, _%_, _≤_, _<_}
 use native.Mathlib.Nat.{pos-of-ne-zero, div-add-mod'}
 use native.Mathlib.Omega.{arith}
@@ -21,12 +22,11 @@ use Rattle.table.specs.declared.Table.{Table}
 use Rattle.table.specs.declared.Reading.{Reading}
 use Rattle.table.specs.Limits.{cycleLimit, coreLimit, rowLimit}
 use Rattle.table.specs.Causes.{rowTests, tankAbove, load, zeroRow, boardTests, boardAbove}
-use Rattle.table.specs.Value.{boardsOf, rowsOf, sizeTests, rowCountTests, sumTests, faultOf}
-use Rattle.table.specs.Bytes.{cycleIn, coresIn, rowCountIn, rowsPlace, boardPlaces, rowPlaces, rowInBytes, boardTestsIn, rowTestsIn, rowCountTestsIn, lastTests, tableTests, tableNumber, tableIn, noTable, readingOf, reading}
+use Rattle.table.specs.Value.{boardsOf, rowsOf, frontTests, rowCountTests, sumTests, faultOf}
+use Rattle.table.specs.Bytes.{cycleIn, coresIn, rowCountIn, rowsPlace, boardPlaces, rowPlaces, rowInBytes, boardTestsIn, rowTestsIn, headTests, rowCountTestsIn, lastTests, tableTests, tableNumber, tableIn, noTable, readingOf, reading}
 use Rattle.table.specs.Taken.{NumbersAreFirstCauses, NumbersAre10To22, TakenWhereNoCause, PastIsZero, Sound}
 use Rattle.table.proofs.Numbers.{table-says, none-in-value, none-in-bytes}
-use Rattle.table.proofs.Value.{not-outside, no-fault}
-use Rattle.table.proofs.Answers.{head-passed}
+use Rattle.table.proofs.Value.{front-passed, no-fault}
 
 -- for callers
 
@@ -68,7 +68,12 @@ no-table-read s f = go (tableNumber s) f
     go zero h = absurd (h refl)
     go (suc k) h = refl
 
--- a board number or row that passed in bytes passes as a value
+-- What passed in bytes passes as a value: a head as the front,
+pub head-passed : (s : List ℕ) → NoneFound (headTests s) → NoneFound (frontTests (tableIn s))
+head-passed s (NoneFound.later _ (NoneFound.later format (NoneFound.later _ (NoneFound.later cycle (NoneFound.later _ (NoneFound.later cores NoneFound.end)))))) =
+    NoneFound.later format (NoneFound.later cycle (NoneFound.later cores NoneFound.end))
+
+-- and a board number or row.
 board-as-read : (s : List ℕ) (least i : ℕ) → NoneFound (boardTestsIn s least i) → NoneFound (boardTests least (byte s i))
 board-as-read s least i (NoneFound.later there none) = none
 
@@ -85,9 +90,8 @@ within s (NoneFound.later ended (NoneFound.later sum NoneFound.end)) = sum
 pub taken-value-has-no-fault : (s : List ℕ) → tableNumber s ≡ 0 → faultOf (tableIn s) ≡ 0
 taken-value-has-no-fault s h =
     let each = none-in-bytes s h in
-    let head = head-passed s (each .0) in
     sym
-    (no-fault (tableIn s) (head .0) (head .1)
+    (no-fault (tableIn s) (head-passed s (each .0))
     (rw (first-are-read (byte s) 0 coreLimit 6 1 (coresIn s), rising-as-read boardTests boardAbove (byte s) 0 (boardPlaces s))
     (pass-too (boardTestsIn s) (λ i. boardAbove (byte s i)) _ 0 0 (boardPlaces s) (λ j k from. board-as-read s from _) (each .1)))
     (few s (each .2))
@@ -129,11 +133,17 @@ sum-is-within t h = go (none-in-value t h .4)
     go (NoneFound.later sum NoneFound.end) = ltb-false (t .cores * t .cycle) (load (t .cycle) (rowsOf t)) sum
 
 pub sizes-are-within : (t : Table) → faultOf t ≡ 0 → ((1 ≤ t .cycle) × (t .cycle ≤ cycleLimit)) × ((1 ≤ t .cores) × (t .cores ≤ coreLimit)) × (t .n ≤ rowLimit)
-sizes-are-within t h = let each = none-in-value t h in go (each .0) (each .2)
+sizes-are-within t h =
+    let each = none-in-value t h in
+    let front = front-passed t (each .0) in
+    (front .1, front .2, go (each .2))
   where
-    go : NoneFound (sizeTests t) → NoneFound (rowCountTests t) → ((1 ≤ t .cycle) × (t .cycle ≤ cycleLimit)) × ((1 ≤ t .cores) × (t .cores ≤ coreLimit)) × (t .n ≤ rowLimit)
-    go (NoneFound.later cycle (NoneFound.later cores NoneFound.end)) (NoneFound.later count NoneFound.end) =
-        (not-outside cycle, not-outside cores, ltb-false rowLimit (t .n) count)
+    go : NoneFound (rowCountTests t) → t .n ≤ rowLimit
+    go (NoneFound.later count NoneFound.end) = ltb-false rowLimit (t .n) count
+
+-- For callers: a table without fault has format 1 or 2.
+pub format-is-known : (t : Table) → faultOf t ≡ 0 → (t .format ≡ 1) ⊎ (t .format ≡ 2)
+format-is-known t h = front-passed t (none-in-value t h .0) .0
 
 -- A table value has its 32 places; then each row below n is sound, whatever is read past the end.
 pub row-is-sound : (t : Table) → faultOf t ≡ 0 → length (t .rows) ≡ rowLimit → (i : ℕ) (d : Row) → i < t .n → Sound (t .cycle) (getD (t .rows) i d)

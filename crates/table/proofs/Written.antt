@@ -1,5 +1,5 @@
 -- When a table is written, and what the buffer then holds. Assumes nothing.
-use Prim.Native.Nat.{ℕ, _+_, _-_, _*_, _≤_, _<_}
+use Prim.Native.Nat.{ℕ, _+_, _-_, _≤_, _<_}
 use mathlib.Core.Path.{_≡_, refl, sym, ap, _∙_}
 use mathlib.Core.List.{List, _++_}
 use mathlib.Core.Logic.{_⊎_, inl, inr}
@@ -152,13 +152,13 @@ write-numbers-are-first-causes t buffer k h = said-exactly 0 (writeTests t buffe
 
 -- the numbers that a writer's tests say
 abbrev Such : ℕ → Type 0
-Such k = ((12 ≤ k) × (k ≤ 20)) ⊎ ((k ≡ 22) ⊎ (k ≡ 37))
+Such k = ((11 ≤ k) × (k ≤ 20)) ⊎ ((k ≡ 22) ⊎ (k ≡ 37))
 
 pub write-numbers : WriteNumbers
 unfolding writing writeNumber
 write-numbers t buffer = otherwise-or-such 0 all
   where
-    low : (k : ℕ) → 12 ≤ k → k ≤ 20 → Such k
+    low : (k : ℕ) → 11 ≤ k → k ≤ 20 → Such k
     low k from to = inl (from, to)
 
     rows : (least : ℕ) (row : Row) → AllSay Such (rowTests (t .cycle) least row)
@@ -171,7 +171,9 @@ write-numbers t buffer = otherwise-or-such 0 all
     all : AllSay Such (writeTests t buffer)
     all =
         all-joined
-        (all-joined (AllSay.next (low 12 (omega arith) (omega arith)) (AllSay.next (low 13 (omega arith) (omega arith)) AllSay.end))
+        (all-joined
+        (AllSay.next (low 11 (omega arith) (omega arith))
+        (AllSay.next (low 12 (omega arith) (omega arith)) (AllSay.next (low 13 (omega arith) (omega arith)) AllSay.end)))
         (all-joined (rising-say boardTests boardAbove (λ least board. AllSay.next (low 14 (omega arith) (omega arith)) AllSay.end) 0 (boardsOf t))
         (all-joined (AllSay.next (low 15 (omega arith) (omega arith)) AllSay.end)
         (all-joined (rising-say (rowTests (t .cycle)) tankAbove rows 0 (rowsOf t)) (AllSay.next (inr (inl refl)) AllSay.end)))))

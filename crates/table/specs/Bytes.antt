@@ -13,7 +13,7 @@ use Rattle.table.specs.declared.Reading.{Reading}
 use Rattle.table.specs.Limits.{coreLimit, rowLimit}
 use Rattle.table.specs.Causes.{cut, formatTest, cycleTest, coresTest, boardTests, boardAbove, rowCountTest, rowTests, tankAbove, afterTest, sumTest, zeroRow}
 
--- Where each part stands: "format, 1", "cycle L", "core count M .. then M board numbers", "row count n .. then n rows".
+-- Where each part stands: "format", which is 1 or 2 ("Tables of format 2 keep the bytes of format 1": 02, Eight), "cycle L", "core count M .. then M board numbers", "row count n .. then n rows".
 abbrev pub formatIn : List ℕ → ℕ
 formatIn s = byte s 0
 
@@ -103,6 +103,7 @@ tableNumber s = firstFound 0 (tableTests s)
 abbrev pub tableIn : List ℕ → Table
 tableIn s =
     record {
+      format = formatIn s;
       cycle = cycleIn s;
       cores = coresIn s;
       boards = padded (byte s) 0 coreLimit 6 1 (coresIn s);
@@ -112,7 +113,7 @@ tableIn s =
 
 -- "A table refusal yields no table"; "In any refused answer each part that no rule names is 0 or empty."
 abbrev pub noTable : Table
-noTable = record { cycle = 0; cores = 0; boards = replicate coreLimit 0; n = 0; rows = replicate rowLimit zeroRow }
+noTable = record { format = 0; cycle = 0; cores = 0; boards = replicate coreLimit 0; n = 0; rows = replicate rowLimit zeroRow }
 
 -- the answer: 0 with the table, or the number of the first fault met
 abbrev pub readingOf : ℕ → Table → Reading

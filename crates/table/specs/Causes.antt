@@ -17,9 +17,9 @@ outside low high x = ltb x low || ltb high x
 abbrev pub cut : List ℕ → ℕ → Test
 cut s n = shorter s n says 10
 
--- "format is not 1"
+-- "11 means neither 1 nor 2" (02, Eight)
 abbrev pub formatTest : ℕ → Test
-formatTest format = not (eqb format 1) says 11
+formatTest format = not (eqb format 1 || eqb format 2) says 11
 
 -- "L outside 1 to 1,000,000"
 abbrev pub cycleTest : ℕ → Test

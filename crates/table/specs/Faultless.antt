@@ -1,8 +1,8 @@
--- What a table without fault is, said without the tests (01, "The table, in bytes"). The numbers are written out, as 01 has them.
+-- What a table without fault is, said without the tests (01, "The table, in bytes"; 02, Eight, for the format). The numbers are written out, as 01 has them.
 use Prim.Native.Nat.{ℕ, _+_, _*_, _≤_, _<_}
 use mathlib.Core.Path.{_≡_}
 use mathlib.Core.List.{List}
-use mathlib.Core.Logic.{_↔_}
+use mathlib.Core.Logic.{_↔_, _⊎_}
 use lib.ListN.{length, getD}
 use Rattle.fields.specs.Fields.{byte}
 use Rattle.table.specs.declared.Table.{Table}
@@ -13,6 +13,8 @@ use Rattle.table.specs.Taken.{Sound}
 
 -- A faultless table, part by part in 01's words.
 pub record Faultless (t : Table) : Type 0 where
+  -- "format, 1", or "format 2" (02, Eight)
+  pub format : (t .format ≡ 1) ⊎ (t .format ≡ 2)
   -- "cycle L, 1 to 1,000,000"
   pub cycle : (1 ≤ t .cycle) × (t .cycle ≤ 1_000_000)
   -- "core count M, 1 to 8,
@@ -32,9 +34,9 @@ pub record Faultless (t : Table) : Type 0 where
 abbrev pub FaultlessExactly : Type 0
 FaultlessExactly = (t : Table) → (faultOf t ≡ 0) ↔ Faultless t
 
--- A table in bytes is taken exactly if its format is 1, it is as long as its counts say, and it is faultless: "format, 1" and the cycle
--- have 1 and 4 bytes, the cores 1 + M, the rows 1 + 9n. M is at place 5 and n at place 6 + M.
+-- A table in bytes is taken exactly if it is as long as its counts say and is faultless, its format too: format and cycle have 1 and 4 bytes, the cores
+-- 1 + M, the rows 1 + 9n. M is at place 5 and n at place 6 + M.
 abbrev pub TakenExactly : Type 0
 TakenExactly =
     (s : List ℕ) →
-    (tableNumber s ≡ 0) ↔ ((byte s 0 ≡ 1) × (length s ≡ 7 + byte s 5 + 9 * byte s (6 + byte s 5)) × Faultless (tableIn s))
+    (tableNumber s ≡ 0) ↔ ((length s ≡ 7 + byte s 5 + 9 * byte s (6 + byte s 5)) × Faultless (tableIn s))

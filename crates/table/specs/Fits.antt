@@ -18,9 +18,9 @@ unfoldable pub rowsFit : List Row → Bool
 rowsFit [] = true
 rowsFit (row ∷ rows) = rowFits row && rowsFit rows
 
--- a table value: L of four bytes, M, n and the board numbers of one each
+-- a table value: L of four bytes, the format, M, n and the board numbers of one each
 abbrev pub tableFits : Table → Bool
-tableFits t = ltb (t .cycle) (2 ^ 32) && allBelow 256 (t .cores ∷ t .n ∷ t .boards) && rowsFit (t .rows)
+tableFits t = ltb (t .cycle) (2 ^ 32) && allBelow 256 (t .format ∷ t .cores ∷ t .n ∷ t .boards) && rowsFit (t .rows)
 
 -- its numbers fit, and it has 8 places for board numbers and 32 for rows
 pub record CanBeHeld (t : Table) : Type 0 where

@@ -13,6 +13,7 @@ use Rattle.table.specs.Writing.{bytesOfTable, writing, bufferAfter}
 
 -- "the same table in all places below n and M"
 pub record SameBelow (t u : Table) : Type 0 where
+  pub format : t .format ≡ u .format
   pub cycle : t .cycle ≡ u .cycle
   pub cores : t .cores ≡ u .cores
   pub boards : boardsOf t ≡ boardsOf u

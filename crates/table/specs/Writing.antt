@@ -18,8 +18,8 @@ bytesOfRow row = bytesOf 2 (row .tank) ++ bytesOf 2 (row .cost) ++ bytesOf 2 (ro
 -- The bytes of a table, part behind part as in 01's list. What stands past M and past n is not written.
 unfoldable pub bytesOfTable : Table → List ℕ
 bytesOfTable t =
-    -- "format, 1 | 1"
-    bytesOf 1 1
+    -- "format .. | 1"
+    bytesOf 1 (t .format)
     -- "cycle L .. | 4"
     ++ bytesOf 4 (t .cycle)
     -- "core count M .. then M board numbers .., each a field | 1 + M"
@@ -29,7 +29,8 @@ bytesOfTable t =
     ++ bytesOf 1 (t .n)
     ++ flatMap bytesOfRow (rowsOf t)
 
--- "Refusals: 12 to 20 in reading order, 22, then 37 if the buffer is too short for exactly the bytes needed."
+-- "Refusals: 12 to 20 in reading order, 22, then 37 if the buffer is too short for exactly the bytes needed"; "11 .. for a table to be written too, ahead
+-- of 12" (02, Eight).
 abbrev pub writeTests : Table → List ℕ → List Test
 writeTests t buffer = valueTests t then (shorter buffer (length (bytesOfTable t)) says 37 ∷ [])
 

@@ -15,12 +15,12 @@ use Rattle.table.specs.Writing.{writeTests, writing, bufferAfter}
 abbrev pub WriteNumbersAreFirstCauses : Type 0
 WriteNumbersAreFirstCauses = (t : Table) (buffer : List ℕ) (k : ℕ) → (k ≡ 0 → ⊥) → (writing t buffer .number ≡ k) ↔ FirstFound (writeTests t buffer) k
 
--- "Refusals: 12 to 20 .., 22, then 37": no others, and so none of 10, 11 and 21.
+-- "Refusals: 12 to 20 .., 22, then 37", and 11 (02, Eight): no others, and so neither 10 nor 21.
 abbrev pub WriteNumbers : Type 0
 WriteNumbers =
     (t : Table) (buffer : List ℕ) →
     let number = writing t buffer .number in
-    (number ≡ 0) ⊎ ((12 ≤ number) × (number ≤ 20)) ⊎ (number ≡ 22) ⊎ (number ≡ 37)
+    (number ≡ 0) ⊎ ((11 ≤ number) × (number ≤ 20)) ⊎ (number ≡ 22) ⊎ (number ≡ 37)
 
 -- "exactly the bytes needed": format and cycle have 1 + 4, the cores 1 + M, the rows 1 + 9n (01, "The table, in bytes").
 abbrev pub bytesNeeded : Table → ℕ

@@ -1,5 +1,7 @@
 // The first fields of a table: format, cycle and core count.
 ghost use mathlib.Core.Path.{_≡_};
+ghost use mathlib.Core.Bool.{not, _||_};
+ghost use lib.Dec.{eqb};
 ghost use Rattle.facts.specs.Findings.{firstFound};
 ghost use Rattle.table.specs.Limits.{cycleLimit, coreLimit};
 ghost use Rattle.table.specs.Causes.{outside};
@@ -16,7 +18,7 @@ pub(crate) fn fault(bytes: &[u8]) -> u8
     if bytes.len() < 1 {
         return 10;
     }
-    if fields::byte(bytes, 0) != 1 {
+    if format_is_unknown(fields::byte(bytes, 0)) {
         return 11;
     }
     if bytes.len() < 5 {
@@ -32,6 +34,13 @@ pub(crate) fn fault(bytes: &[u8]) -> u8
         return 13;
     }
     0
+}
+
+// Whether a format is neither 1 nor 2.
+pub(crate) fn format_is_unknown(format: u8) -> bool
+    ensures { λ r. ⌜ r ≡ not (eqb format 1 || eqb format 2) ⌝ }
+{
+    if format == 1 { false } else { format != 2 }
 }
 
 pub(crate) fn cycle_is_outside(cycle: u32) -> bool

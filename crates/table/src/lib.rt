@@ -21,6 +21,7 @@ pub struct Row {
 }
 
 pub struct Table {
+    pub format: u8,
     pub cycle: u32,
     pub cores: u8,
     pub boards: [u8; 8],
@@ -80,6 +81,7 @@ pub fn read(bytes: &[u8]) -> Reading
     if head != 0 {
         return refused(head);
     }
+    let format = fields::byte(bytes, 0);
     let cycle = fields::word(bytes, 1);
     let cores = fields::byte(bytes, 5);
     let m = cores as usize;
@@ -109,6 +111,7 @@ pub fn read(bytes: &[u8]) -> Reading
     let boards = boards_read.boards;
     let rows = rows_read.rows;
     let table = Table {
+        format,
         cycle,
         cores,
         boards,
@@ -118,10 +121,13 @@ pub fn read(bytes: &[u8]) -> Reading
     Reading { number: 0, table }
 }
 
-// The fault of a table value: 12 to 20, 22, or 0. The value may be wild.
+// The fault of a table value: 11 to 20, 22, or 0. The value may be wild.
 pub fn fault(table: Table) -> u8
     ensures { λ r. ⌜ r ≡ faultOf table ⌝ }
 {
+    if head::format_is_unknown(table.format) {
+        return 11;
+    }
     let cycle = table.cycle;
     if head::cycle_is_outside(cycle) {
         return 12;
@@ -182,6 +188,7 @@ fn refused(number: u8) -> Reading
     let zero = rows::zero();
     let rows = [zero; 32];
     let table = Table {
+        format: 0,
         cycle: 0,
         cores: 0,
         boards,

@@ -17,7 +17,7 @@ pub(crate) fn put(buffer: &mut [u8], table: Table)
 {
     let m = table.cores as usize;
     let n = table.n as usize;
-    put_head(buffer, table.cycle, table.cores);
+    put_head(buffer, table.format, table.cycle, table.cores);
     let boards = table.boards;
     put_boards(buffer, boards, m);
     fields::put(buffer, 6 + m, 1, table.n as u64);
@@ -26,10 +26,10 @@ pub(crate) fn put(buffer: &mut [u8], table: Table)
 }
 
 // Writes format, cycle and core count.
-fn put_head(buffer: &mut [u8], cycle: u32, cores: u8)
-    ensures { λ _. ⌜ now (buffer .exit) ≡ sets (now (buffer .entry)) 0 (bytesOf 1 1 ++ bytesOf 4 cycle ++ bytesOf 1 cores) ⌝ }
+fn put_head(buffer: &mut [u8], format: u8, cycle: u32, cores: u8)
+    ensures { λ _. ⌜ now (buffer .exit) ≡ sets (now (buffer .entry)) 0 (bytesOf 1 format ++ bytesOf 4 cycle ++ bytesOf 1 cores) ⌝ }
 {
-    fields::put(buffer, 0, 1, 1);
+    fields::put(buffer, 0, 1, format as u64);
     fields::put(buffer, 1, 4, cycle as u64);
     fields::put(buffer, 5, 1, cores as u64);
 }

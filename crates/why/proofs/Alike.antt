@@ -11,13 +11,14 @@ use Rattle.counts.specs.Numbers.{numbersOf}
 use Rattle.table.specs.declared.Row.{Row}
 use Rattle.table.specs.Value.{rowsOf}
 use Rattle.pd2.specs.Ready.{ready}
-use Rattle.pd2.specs.Order.{rankOf, Before, before}
+use Rattle.pd2.specs.Order.{rankOf, withFavour, Before, before}
 use Rattle.pd2.specs.Choice.{rowAt, quantaAt}
 use Rattle.trace.specs.Records.{names}
 use Rattle.dispatcher.specs.declared.State.{State}
 use Rattle.dispatcher.specs.State.{rowsIn, quantaIn, timeOf}
-use Rattle.dispatcher.specs.Slot.{picksIn}
-use Rattle.dispatcher.proofs.Places.{quanta-alike, broken-alike, picks-alike}
+use Rattle.dispatcher.specs.Slot.{favouredIn, picksIn}
+use Rattle.dispatcher.proofs.Favoured.{same-favours}
+use Rattle.dispatcher.proofs.Places.{quanta-alike, broken-alike, favour-alike, picks-alike}
 use Rattle.why.specs.declared.Answer.{Answer}
 use Rattle.why.specs.declared.Answer.the-variants.{Picked, NotReady, NoCoreFree, PassedOver, Broken, Stopped, AtLimit, TooManyCores, NoSuchRow}
 use Rattle.why.specs.Rules.{ruleFor}
@@ -27,10 +28,11 @@ use Rattle.why.specs.Why.{reasonOf, whyTests, whyOf, PastHasNoPart, Memo
 use Rattle.why.proofs.Rules.{one-rule}
 use Rattle.why.proofs.Why.{computed-holds, holds-computed, row-if-none}
 
--- What a reason hangs on: the rows, their quanta, the time, and the picks.
+-- What a reason hangs on: the rows, their quanta, who of them is favoured, the time, and the picks.
 record SameRows (s s′ : State) (k : ℕ) : Type 0 where
   rows : rowsIn s ≡ rowsIn s′
   quanta : (i : ℕ) → i < length (rowsIn s) → quantaAt (quantaIn s) i ≡ quantaAt (quantaIn s′) i
+  favour : (row : ℕ) → favouredIn s row ≡ favouredIn s′ row
   time : timeOf s ≡ timeOf s′
   picks : picksIn s k ≡ picksIn s′ k
 
@@ -40,7 +42,7 @@ module _ (s s′ : State) (k : ℕ) (same : SameRows s s′ k) where
   said-alike f i l = ap₂ f (ap (λ rows. rowAt rows i) (same .rows)) (same .quanta i l)
 
   ranks-alike : (i : ℕ) → i < length (rowsIn s) → rankIn s i ≡ rankIn s′ i
-  ranks-alike i = said-alike (λ row q. rankOf row i q) i
+  ranks-alike i l = said-alike (λ row q. withFavour (rankOf row i q) (favouredIn s i)) i l ∙ ap (withFavour (rankOf (rowAt (rowsIn s′) i) i (quantaAt (quantaIn s′) i))) (same .favour i)
 
   named-alike : (i : ℕ) → names (picksIn s k) i ≡ names (picksIn s′ k) i
   named-alike i = ap (λ rows. names rows i) (same .picks)
@@ -112,11 +114,11 @@ module _ (s s′ : State) (k : ℕ) (same : SameRows s s′ k) where
 pub past-has-no-part : PastHasNoPart
 past-has-no-part s s′ k row alike =
     why-alike s s′ k
-    (record { rows = alike .rows; quanta = quanta-alike s s′ alike; time = alike .time; picks = picks-alike s s′ alike k })
+    (record { rows = alike .rows; quanta = quanta-alike s s′ alike; favour = favour-alike s s′ alike; time = alike .time; picks = picks-alike s s′ alike k })
     row (rw (broken-alike s s′ alike, alike .stopped, alike .time, alike .cores, alike .rows) refl)
 
 pub memory-has-no-part : MemoryHasNoPart
-memory-has-no-part s s′ k row alike whole whole′ =
+memory-has-no-part s s′ k row alike favour whole whole′ =
     let rows : rowsIn s ≡ rowsIn s′ = ap (λ t. rowsOf t) (alike .table) in
     let quanta : quantaIn s ≡ quantaIn s′ = ap numbersOf (alike .quanta) in
     let time : timeOf s ≡ timeOf s′ = ap (λ t. t .0) (alike .time) in
@@ -124,7 +126,8 @@ memory-has-no-part s s′ k row alike whole whole′ =
     (record {
       rows = rows;
       quanta = λ i l. ap (λ q. quantaAt q i) quanta;
+      favour = favour;
       time = time;
-      picks = rw (rows, quanta, time) refl;
+      picks = same-favours (rowsIn s) (quantaIn s) (λ row _. favour row) (timeOf s) k ∙ rw (rows, quanta, time) refl;
     })
     row (rw (whole, whole′, alike .stopped, time, alike .table) refl)

@@ -2,7 +2,7 @@
 use Prim.Native.Nat.{ℕ, _+_, _-_, _≤_, _<_}
 use mathlib.Core.Path.{_≡_, refl, sym, ap, _∙_}
 use mathlib.Core.List.{List}
-use mathlib.Core.Bool.{Bool, true, false, not, true≢false}
+use mathlib.Core.Bool.{Bool, true, false, cond, not, _&&_, true≢false}
 use mathlib.Core.Logic.{⊎-elim}
 use native.Mathlib.Decide.{decLt}
 use native.Mathlib.Omega.{arith}
@@ -16,7 +16,7 @@ use Rattle.windows.specs.Windows.{start, jobStart}
 use Rattle.windows.proofs.Windows.{bit-is-0-or-1}
 use Rattle.table.specs.declared.Row.{Row}
 use Rattle.pd2.specs.Ready.{originOf}
-use Rattle.pd2.specs.Order.{Rank, rankOf}
+use Rattle.pd2.specs.Order.{Rank, rankOf, withFavour}
 use Rattle.pd2.specs.Choice.{rowAt, quantaAt}
 use Rattle.pd2.specs.Near.{HasWindow}
 use Rattle.pd2.proofs.Choice.{row-there}
@@ -25,11 +25,11 @@ use Rattle.trace.specs.Records.{names}
 use Rattle.trace.proofs.Names.{marked-are-named}
 use Rattle.dispatcher.specs.declared.State.{State}
 use Rattle.dispatcher.specs.State.{rowsIn, quantaIn, timeOf}
-use Rattle.dispatcher.specs.Slot.{picksIn}
+use Rattle.dispatcher.specs.Slot.{favouredIn, picksIn}
 use Rattle.dispatcher.specs.Usable.{UsableRow, UsableState}
 use Rattle.dispatcher.proofs.Asked.{usable-there}
 use Rattle.why.specs.declared.Rule.{Rule}
-use Rattle.why.specs.declared.Rule.the-variants.{Deadline, Bit, GroupDeadline, RowNumber}
+use Rattle.why.specs.declared.Rule.the-variants.{Deadline, Bit, GroupDeadline, RowNumber, RanBefore}
 use Rattle.why.specs.Rules.{ruleFor}
 use Rattle.why.specs.Reasons.{isReady, rankIn}
 use Rattle.why.specs.Why.{readyFrom, lowestIn}
@@ -55,10 +55,13 @@ module _ (row : Row) (q : ℕ) where
 pub usable-has-window : {row : Row} {q t : ℕ} → UsableRow row q t → HasWindow row q
 usable-has-window u = record { cost = u .cost; weight = u .within-period; quanta = omega (arith, u .quanta, u .time) }
 
--- The rule does not look at the numbers of rows.
-any-numbers : (ahead behind : Row) (had given i j : ℕ) → ruleFor (rankOf ahead 0 had) (rankOf behind 0 given) ≡ ruleFor (rankOf ahead i had) (rankOf behind j given)
+-- The rule does not look at the numbers of rows, and of who is favoured only at whether the one ahead is alone.
+any-numbers : (ahead behind : Row) (had given i j : ℕ) (f g : Bool) →
+    ruleFor (withFavour (rankOf ahead 0 had) (f && not g)) (rankOf behind 0 given) ≡ ruleFor (withFavour (rankOf ahead i had) f) (withFavour (rankOf behind j given) g)
 unfolding ruleFor
-any-numbers ahead behind had given i j = refl
+any-numbers ahead behind had given i j true true = refl
+any-numbers ahead behind had given i j true false = refl
+any-numbers ahead behind had given i j false g = refl
 
 -- A row of a state, as the code reads it.
 module _ (s : State) (u : UsableState s) {i : ℕ} (l : i < length (rowsIn s)) (r : Row) (q : Quanta) where
@@ -72,14 +75,17 @@ module _ (s : State) (u : UsableState s) {i : ℕ} (l : i < length (rowsIn s)) (
 
 -- The rule between two rows, as the code reads them, is the rule between these rows of the state.
 pub rule-there : (s : State) (u : UsableState s) {i j : ℕ} → i < length (rowsIn s) → j < length (rowsIn s) → (r r′ : Row) (q q′ : Quanta) {rule : Rule} →
-    rule ≡ ruleFor (rankOf (getD (s .table .rows) i r) 0 (getD (s .quanta) i q .0)) (rankOf (getD (s .table .rows) j r′) 0 (getD (s .quanta) j q′ .0)) →
+    {kinder : Bool} → kinder ≡ favouredIn s i && not (favouredIn s j) →
+    rule ≡ ruleFor (withFavour (rankOf (getD (s .table .rows) i r) 0 (getD (s .quanta) i q .0)) kinder) (rankOf (getD (s .table .rows) j r′) 0 (getD (s .quanta) j q′ .0)) →
     rule ≡ ruleFor (rankIn s i) (rankIn s j)
-rule-there s u {i} {j} l m r r′ q q′ e =
-    let behind = rankOf (getD (s .table .rows) j r′) j (getD (s .quanta) j q′ .0) in
-    e
-    ∙ (any-numbers (getD (s .table .rows) i r) (getD (s .table .rows) j r′) (getD (s .quanta) i q .0) (getD (s .quanta) j q′ .0) i j
-    ∙ (read-there s u l r q (λ row given. ruleFor (rankOf row i given) behind)
-    ∙ read-there s u m r′ q′ (λ row given. ruleFor (rankIn s i) (rankOf row j given))))
+rule-there s u {i} {j} l m r r′ q q′ is e =
+    let f = favouredIn s i in
+    let g = favouredIn s j in
+    let behind = withFavour (rankOf (getD (s .table .rows) j r′) j (getD (s .quanta) j q′ .0)) g in
+    (rw is at e)
+    ∙ (any-numbers (getD (s .table .rows) i r) (getD (s .table .rows) j r′) (getD (s .quanta) i q .0) (getD (s .quanta) j q′ .0) i j f g
+    ∙ (read-there s u l r q (λ row given. ruleFor (withFavour (rankOf row i given) f) behind)
+    ∙ read-there s u m r′ q′ (λ row given. ruleFor (rankIn s i) (withFavour (rankOf row j given) g))))
 
 -- The marks are the rows that are named.
 pub marks-name : (marks : List Bool) {rows : List ℕ} → marked marks ≡ rows → (i : ℕ) → getD marks i false ≡ names rows i
@@ -117,9 +123,9 @@ module _ (x y : Rank) where
     unfolding ruleFor
     by-bit p q = sym (rw (le-ltb (x .d) (y .d) due, eq-eqb (x .b) 1 p, eq-eqb (y .b) 0 q))
 
-    pub by-row-at-bit-0 : x .b ≡ 0 → RowNumber ≡ ruleFor x y
+    pub last-at-bit-0 : x .b ≡ 0 → cond (x .favoured && not (y .favoured)) RanBefore RowNumber ≡ ruleFor x y
     unfolding ruleFor
-    by-row-at-bit-0 p = let none : x .b ≡ 1 → ⊥ = λ one. omega arith in sym (rw (le-ltb (x .d) (y .d) due, ne-eqb (x .b) 1 none))
+    last-at-bit-0 p = let none : x .b ≡ 1 → ⊥ = λ one. omega arith in sym (rw (le-ltb (x .d) (y .d) due, ne-eqb (x .b) 1 none))
 
     module _ (p : x .b ≡ 1) (q : y .b ≡ 1) where
       not-0 : y .b ≡ 0 → ⊥
@@ -129,6 +135,6 @@ module _ (x y : Rank) where
       unfolding ruleFor
       by-group l = sym (rw (le-ltb (x .d) (y .d) due, eq-eqb (x .b) 1 p, ne-eqb (y .b) 0 not-0, eq-eqb (y .b) 1 q, lt-ltb (y .D) (x .D) l))
 
-      pub by-row : x .D ≤ y .D → RowNumber ≡ ruleFor x y
+      pub last-at-bit-1 : x .D ≤ y .D → cond (x .favoured && not (y .favoured)) RanBefore RowNumber ≡ ruleFor x y
       unfolding ruleFor
-      by-row l = sym (rw (le-ltb (x .d) (y .d) due, eq-eqb (x .b) 1 p, ne-eqb (y .b) 0 not-0, eq-eqb (y .b) 1 q, le-ltb (y .D) (x .D) l))
+      last-at-bit-1 l = sym (rw (le-ltb (x .d) (y .d) due, eq-eqb (x .b) 1 p, ne-eqb (y .b) 0 not-0, eq-eqb (y .b) 1 q, le-ltb (y .D) (x .D) l))

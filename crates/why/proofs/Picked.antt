@@ -26,7 +26,7 @@ use Rattle.trace.specs.Records.{names}
 use Rattle.trace.proofs.Names.{listed-are-named}
 use Rattle.dispatcher.specs.declared.State.{State}
 use Rattle.dispatcher.specs.State.{rowsIn, quantaIn, timeOf}
-use Rattle.dispatcher.specs.Slot.{picksIn}
+use Rattle.dispatcher.specs.Slot.{favouredIn, picksIn}
 use Rattle.why.specs.Lowest.{LowestPicked}
 use Rattle.why.specs.Reasons.{isReady, rankIn, goesBefore}
 use Rattle.why.specs.Why.{readyFrom, readyFromIn}
@@ -56,7 +56,7 @@ module _ (s : State) where
   ready-now = readyIn (rowsIn s) (quantaIn s) (timeOf s)
 
   strict : Strict ready-now (goesBefore s) n
-  strict = pd2-is-strict (rowsIn s) (quantaIn s) (timeOf s) n
+  strict = pd2-is-strict (rowsIn s) (quantaIn s) (favouredIn s) (timeOf s) n
 
   module _ (k : ℕ) where
     abbrev is-picked : ℕ → Bool

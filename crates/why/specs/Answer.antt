@@ -1,17 +1,18 @@
 -- What an answer says as numbers.
 use Prim.Native.Nat.{ℕ}
 use Rattle.why.specs.declared.Rule.{Rule}
-use Rattle.why.specs.declared.Rule.the-variants.{Deadline, Bit, GroupDeadline, RowNumber}
+use Rattle.why.specs.declared.Rule.the-variants.{Deadline, Bit, GroupDeadline, RowNumber, RanBefore}
 use Rattle.why.specs.declared.Answer.{Answer}
 use Rattle.why.specs.declared.Answer.the-variants.{Picked, NotReady, NoCoreFree, PassedOver, Broken, Stopped, AtLimit, TooManyCores, NoSuchRow}
 use Rattle.why.specs.declared.Told.{Told}
 
--- "(deadline, bit, group deadline, row number)": a rule by its place in this list
+-- "(deadline, bit, group deadline, row number)": a rule by its place in this list, which "gains 'ran in the slot before'" (02, Eight)
 abbrev pub rulePlace : Rule → ℕ
 rulePlace Deadline = 1
 rulePlace Bit = 2
 rulePlace GroupDeadline = 3
 rulePlace RowNumber = 4
+rulePlace RanBefore = 5
 
 -- A refusal by its number, a reason by its place in 02's list, each part that is not named 0: "In any refused answer each part that no rule names is 0
 -- or empty".

@@ -5,12 +5,12 @@ use mathlib.Core.Path.{_≡_}
 use mathlib.Core.Bool.{Bool, true, false}
 use lib.ListN.{length}
 use Rattle.facts.specs.First.{IsFirst}
-use Rattle.pd2.specs.Order.{Rank, rankOf, Before, before}
-use Rattle.pd2.specs.Choice.{rowAt, quantaAt, readyIn, goesBeforeBy}
+use Rattle.pd2.specs.Order.{Rank, Before, before}
+use Rattle.pd2.specs.Choice.{readyIn, rankAt, goesBeforeBy}
 use Rattle.trace.specs.Records.{names}
 use Rattle.dispatcher.specs.declared.State.{State}
 use Rattle.dispatcher.specs.State.{rowsIn, quantaIn, timeOf}
-use Rattle.dispatcher.specs.Slot.{picksIn}
+use Rattle.dispatcher.specs.Slot.{favouredIn, picksIn}
 use Rattle.why.specs.declared.Rule.{Rule}
 use Rattle.why.specs.declared.Answer.{Answer}
 use Rattle.why.specs.declared.Answer.the-variants.{Picked, NotReady, NoCoreFree, PassedOver, Broken, Stopped, AtLimit, TooManyCores, NoSuchRow}
@@ -21,13 +21,13 @@ use Rattle.why.specs.Lowest.{LowestPicked}
 abbrev pub isReady : State → ℕ → ℕ → Bool
 isReady s row t = readyIn (rowsIn s) (quantaIn s) t row
 
--- what 01's order looks at, of a row of a state,
+-- what the order looks at, of a row of a state,
 abbrev pub rankIn : State → ℕ → Rank
-rankIn s row = rankOf (rowAt (rowsIn s) row) row (quantaAt (quantaIn s) row)
+rankIn s = rankAt (rowsIn s) (quantaIn s) (favouredIn s)
 
 -- and that row j goes before row i by it
 abbrev pub goesBefore : State → ℕ → ℕ → Bool
-goesBefore s = goesBeforeBy before (rowsIn s) (quantaIn s)
+goesBefore s = goesBeforeBy before (rowsIn s) (quantaIn s) (favouredIn s)
 
 -- "picked": the slot's record names it.
 pub record IsPicked (s : State) (k row : ℕ) : Type 0 where

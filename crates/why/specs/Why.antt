@@ -18,7 +18,7 @@ use Rattle.dispatcher.specs.State.{rowsIn, isRow, quantaIn, timeOf}
 use Rattle.dispatcher.specs.Broken.{broken}
 use Rattle.dispatcher.specs.Slot.{picksIn}
 use Rattle.dispatcher.specs.Places.{AlikeBelow}
-use Rattle.dispatcher.specs.Placed.{AlikeButMemory}
+use Rattle.dispatcher.specs.Placed.{AlikeButMemory, FavourAlike}
 use Rattle.why.specs.declared.Answer.{Answer}
 use Rattle.why.specs.declared.Answer.the-variants.{Picked, NotReady, NoCoreFree, PassedOver, Broken, Stopped, AtLimit, TooManyCores, NoSuchRow}
 use Rattle.why.specs.Rules.{ruleFor}
@@ -73,9 +73,11 @@ WhyNumbers = (s : State) (k row : ℕ) → let number = numberOf (whyOf s k row)
 abbrev pub PastHasNoPart : Type 0
 PastHasNoPart = (s s′ : State) (k row : ℕ) → AlikeBelow s s′ → whyOf s k row ≡ whyOf s′ k row
 
--- Nor has what is remembered, if it breaks neither state.
+-- Nor has what is remembered, if it breaks neither state, but for the rows that it favours: in format 1 none (`FormatOneForgets`), in format 2 those that it
+-- names, on whichever cores (`RowsDecide`).
 abbrev pub MemoryHasNoPart : Type 0
-MemoryHasNoPart = (s s′ : State) (k row : ℕ) → AlikeButMemory s s′ → broken s ≡ false → broken s′ ≡ false → whyOf s k row ≡ whyOf s′ k row
+MemoryHasNoPart =
+    (s s′ : State) (k row : ℕ) → AlikeButMemory s s′ → FavourAlike s s′ → broken s ≡ false → broken s′ ≡ false → whyOf s k row ≡ whyOf s′ k row
 
 -- "The reason given must be the true one and the only true one in that list": what is answered holds, and of all other answers none does, so that the
 -- slot, the row and the rule in it are the only true ones too.

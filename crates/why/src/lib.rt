@@ -13,6 +13,7 @@ ghost use Rattle.facts.specs.First.{Lowest};
 ghost use Rattle.pd2.specs.Near.{HasWindow};
 ghost use Rattle.trace.specs.Record.{marked};
 ghost use Rattle.dispatcher.specs.Slot.{picksIn};
+ghost use Rattle.dispatcher.specs.Favoured.{favouredMarks};
 ghost use Rattle.dispatcher.specs.Usable.{UsableState};
 ghost use Rattle.why.specs.Answer.{toldOf};
 ghost use Rattle.why.specs.Why.{readyFrom, reasonOf, whyOf};
@@ -24,6 +25,7 @@ pub enum Rule {
     Bit,
     GroupDeadline,
     RowNumber,
+    RanBefore,
 }
 
 // One of the four reasons, or a refusal.
@@ -119,7 +121,8 @@ fn reason(state: State, k: u8, row: usize) -> Answer
     requires { ⌜ Asked state k row ⌝ }
     ensures { λ r. ⌜ r ≡ reasonOf state k row ⌝ }
 {
-    let marks = picks(state, k);
+    let favoured = state.favoured();
+    let marks = picks(state, favoured, k);
     if marks[row] {
         return Answer::Picked;
     }
@@ -135,24 +138,25 @@ fn reason(state: State, k: u8, row: usize) -> Answer
     if k == 0 {
         return Answer::NoCoreFree;
     }
-    let fewer = picks(state, k - 1);
+    let fewer = picks(state, favoured, k - 1);
     let by = dropped(marks, fewer);
     let ahead = rows[by];
     let had = quanta[by];
-    let rule = order::rule_between(ahead, had, asked, given);
+    let kinder = is_dropped(favoured[by], favoured[row]);
+    let rule = order::rule_between(ahead, had, asked, given, kinder);
     let by = by as u8;
     Answer::PassedOver { by, rule }
 }
 
-// The rows picked with k cores free, as marks.
-fn picks(state: State, k: u8) -> [bool; 32]
-    requires { ⌜ UsableState state × (k ≤ 8) ⌝ }
+// The rows picked with k cores free, as marks; those that are favoured are known.
+fn picks(state: State, favoured: [bool; 32], k: u8) -> [bool; 32]
+    requires { ⌜ UsableState state × (favoured ≡ favouredMarks state) × (k ≤ 8) ⌝ }
     ensures { λ r. ⌜ marked r ≡ picksIn state k ⌝ }
 {
     let n = state.table.n as usize;
     let rows = state.table.rows;
     let quanta = state.quanta;
-    choice::picks(rows, quanta, n, state.time, k)
+    choice::picks(rows, quanta, favoured, n, state.time, k)
 }
 
 // The row that is picked with k cores and not with one fewer: every other picked row goes before it. Past the rows where there is none; but where a ready

@@ -4,8 +4,10 @@ use counts::Quanta;
 use table::Row;
 use windows::Due;
 ghost use mathlib.Core.Path.{_≡_};
+ghost use mathlib.Core.Bool.{cond};
 ghost use Rattle.pd2.specs.Near.{HasWindow};
-ghost use Rattle.pd2.specs.Order.{rankOf};
+ghost use Rattle.pd2.specs.Order.{rankOf, withFavour};
+ghost use Rattle.why.specs.declared.Rule.the-variants.{RowNumber, RanBefore};
 ghost use Rattle.why.specs.Rules.{ruleFor};
 ghost use Rattle.why.specs.Answer.{rulePlace};
 
@@ -15,10 +17,16 @@ struct End {
     bit: u8,
 }
 
-// The first rule that decides. Group deadlines are asked for last, and only if both bits are 1.
-pub(crate) fn rule_between(ahead: Row, had: Quanta, behind: Row, given: Quanta) -> Rule
+// The first rule that decides. Group deadlines are asked for only if both bits are 1. `kinder` says that of the two rows the one ahead alone is favoured.
+pub(crate) fn rule_between(
+    ahead: Row,
+    had: Quanta,
+    behind: Row,
+    given: Quanta,
+    kinder: bool,
+) -> Rule
     requires { ⌜ HasWindow ahead (had .0) × HasWindow behind (given .0) ⌝ }
-    ensures { λ r. ⌜ r ≡ ruleFor (rankOf ahead 0 (had .0)) (rankOf behind 0 (given .0)) ⌝ }
+    ensures { λ r. ⌜ r ≡ ruleFor (withFavour (rankOf ahead 0 (had .0)) kinder) (rankOf behind 0 (given .0)) ⌝ }
 {
     let first = end_of(ahead, had);
     let second = end_of(behind, given);
@@ -29,13 +37,24 @@ pub(crate) fn rule_between(ahead: Row, had: Quanta, behind: Row, given: Quanta) 
         return Rule::Bit;
     }
     if first.bit == 0 {
-        return Rule::RowNumber;
+        return last_rule(kinder);
     }
     let larger = group_of(ahead, had);
     if group_of(behind, given) < larger {
         return Rule::GroupDeadline;
     }
-    Rule::RowNumber
+    last_rule(kinder)
+}
+
+// The rule that decides between full ties.
+fn last_rule(kinder: bool) -> Rule
+    ensures { λ r. ⌜ r ≡ cond kinder RanBefore RowNumber ⌝ }
+{
+    if kinder {
+        Rule::RanBefore
+    } else {
+        Rule::RowNumber
+    }
 }
 
 // The row has a next window, so that it is answered.
@@ -74,5 +93,6 @@ pub(crate) fn place(rule: Rule) -> u8
         Rule::Bit => 2,
         Rule::GroupDeadline => 3,
         Rule::RowNumber => 4,
+        Rule::RanBefore => 5,
     }
 }

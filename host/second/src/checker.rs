@@ -4,6 +4,9 @@
 //! the trace from the front: 40 for the count, 47, and for each record 40 (its first two bytes),
 //! 41, 42, 40 (its rows), 43, 44 for the lowest row, and 45 for the lowest late row at the
 //! slot's end. Last 46."
+//!
+//! Tables of both formats are taken, and what is then said of a trace is the same: 02, Eight parts
+//! them in the order alone, and who goes first is not asked of a trace.
 
 use crate::share;
 use crate::slot::{self, Answer};
@@ -175,7 +178,7 @@ mod tests {
     use crate::never_late::Chance;
     use crate::slot::tests::table_by_chance;
     use crate::slot::{fresh, slot};
-    use crate::table::tests::{bytes_of, value_of, EXAMPLE};
+    use crate::table::tests::{bytes_of, in_format, value_of, EXAMPLE};
     use crate::table::write;
 
     const TRACE: [u8; 16] = [3, 0, 0, 0, 2, 2, 0, 1, 2, 2, 0, 2, 2, 2, 1, 2];
@@ -210,6 +213,50 @@ mod tests {
         assert_eq!(check(&bytes_of(0, 1, &[]), &TRACE), named(12, 0, 0));
         assert!(!well_formed(&EXAMPLE[..35], &TRACE));
         assert!(!within_shares(&EXAMPLE[..35], &TRACE));
+    }
+
+    // ---- formats (02, Eight) ----
+
+    #[test]
+    fn the_format_is_judged_with_the_table() {
+        for format in 0..=255 {
+            let expected = if format == 1 || format == 2 { 0 } else { 11 };
+            let table = in_format(format, &EXAMPLE);
+            assert_eq!(check(&table, &TRACE), named(expected, 0, 0));
+            assert_eq!(well_formed(&table, &TRACE), expected == 0);
+            assert_eq!(within_shares(&table, &TRACE), expected == 0);
+            // before anything of the trace
+            if expected == 11 {
+                assert_eq!(check(&table, &[]), named(11, 0, 0));
+                assert_eq!(check(&[format], &TRACE), named(11, 0, 0));
+            }
+        }
+    }
+
+    #[test]
+    fn a_trace_is_judged_alike_in_both_formats() {
+        // six slots of the example as format 1 picks, and as format 2 does: rows 1 and 2 ran in
+        // slot 2, and are picked in slot 3
+        let first = [2, 2, 0, 1, 2, 2, 0, 2, 2, 2, 1, 2].repeat(2);
+        let mut second = first.clone();
+        second[12..].copy_from_slice(&[2, 2, 1, 2, 2, 2, 0, 1, 2, 2, 0, 2]);
+        for records in [first, second] {
+            let mut trace = vec![6, 0, 0, 0];
+            trace.extend_from_slice(&records);
+            for format in 1..=2 {
+                let table = in_format(format, &EXAMPLE);
+                assert_eq!(check(&table, &trace), named(0, 0, 0));
+                assert!(within_shares(&table, &trace));
+            }
+        }
+        // 1/2 and 2/3 on two cores: every trace of five slots, most of which do not pass
+        let table = write(&value_of(6, 2, &[(1, 2, 0, 0), (2, 3, 0, 1)]));
+        for trace in all_traces(2, 2, 5) {
+            let kind = in_format(2, &table);
+            assert_eq!(check(&kind, &trace), check(&table, &trace));
+            assert_eq!(well_formed(&kind, &trace), well_formed(&table, &trace));
+            assert_eq!(within_shares(&kind, &trace), within_shares(&table, &trace));
+        }
     }
 
     #[test]

@@ -490,7 +490,8 @@ pub(crate) mod tests {
             assert_eq!(count, must_move);
             moved += must_move;
             stayed += of_both - must_move;
-            // whatever the order in which the memory names them
+            // whatever the order in which the memory names them (in a state the rows rise since
+            // 02, Eight; asked alone they need not)
             let mut turned = last.clone();
             turned.reverse();
             assert_eq!(placed(&turned, &free, &rows), (cores, count));

@@ -1,11 +1,11 @@
-//! A real-time dispatcher after the paper "Exact scope and rules", called 01 below, and after seven
+//! A real-time dispatcher after the paper "Exact scope and rules", called 01 below, and after eight
 //! requests of the paper "More requests from customers": "A core for each picked row", called
 //! 02, One, "Why did tank 14 wait?", called 02, Two, "Half is heavy", called 02, Three, "The long
 //! walk", called 02, Four, "Writing tables", called 02, Five, "Whole-core rows", called 02, Six,
-//! and "Shorter slots", called 02, Seven. Where One, Three, Six and Seven change 01, they are
-//! followed; Two asks of the slot that is about to run and changes nothing; Four finds the group
-//! deadline by a formula and changes no answer; Five writes the tables that 01 reads and changes
-//! nothing else.
+//! "Shorter slots", called 02, Seven, and "Format 2 breaks ties kindly", called 02, Eight. Where
+//! One, Three, Six, Seven and Eight change 01, they are followed; Two asks of the slot that is
+//! about to run and changes nothing; Four finds the group deadline by a formula and changes no
+//! answer; Five writes the tables that 01 reads and changes nothing else.
 //!
 //! Six lets a row have e = p, in a table, in a state and in a window asked for alone: "From then on
 //! 18 means e above p", and 50 likewise. Such a row has windows of one slot, b = 0 and D = d, and
@@ -16,9 +16,14 @@
 //! and 47 stay: "Each trace still covers at most 1,000,000,000 slots from slot 0." That slots are
 //! shorter changes nothing else, since nothing here says how long one is.
 //!
-//! One module for each part of 01, and one for each of One, Two and Five; the papers' words stand
-//! in the comments beside the code that follows them, and their numbers stand in the code as they
-//! are written there.
+//! Eight lets a table have format 2, in bytes, as a value and in a state: "11 means neither 1 nor
+//! 2". The bytes after the format stay; the order ends differently: "among full ties, a row picked
+//! in the previous slot goes first, then the lower row number". Who that was is what One has the
+//! state remember, and of what is remembered the rows must rise now, in both formats.
+//!
+//! One module for each part of 01, one for each of One, Two and Five, and one for the probe's
+//! values; the papers' words stand in the comments beside the code that follows them, and their
+//! numbers stand in the code as they are written there.
 //!
 //! * `table`: the table, in bytes, and the faults of a table value.
 //! * `writing`: a table value written into a lent buffer (02, Five).
@@ -26,14 +31,16 @@
 //!   02, Four (with e = p it is the deadline), and by 01's walk.
 //! * `share`: the exact share of a row.
 //! * `cores`: a core for each picked row (02, One).
-//! * `slot`: who is ready, who goes first, one slot's choice, and what decided it.
+//! * `slot`: who is ready, who goes first in either format, one slot's choice, and what decided it.
 //! * `why`: why a row is picked in the slot about to run, or waits (02, Two).
 //! * `trace`: the record of one slot inside a trace.
 //! * `checker`: the judge of traces from any origin.
 //! * `printer`: the slot printer's whole output.
-//! * `never_late`: full boxes by chance, three in ten with rows of e = p, run with all cores free.
+//! * `never_late`: full boxes by chance, three in ten with rows of e = p and every second one in
+//!   format 2, run with all cores free.
 //! * `questions`: single rules of the above, asked of numbers that no table or state may have; D of
-//!   a next window by the walk.
+//!   a next window by the walk, and picks in the order of format 1.
+//! * `values`: a table value and a state in bytes, as the probe's protocol has them.
 //!
 //! # Planted slips
 //!
@@ -47,9 +54,12 @@
 //! the formula, the other in `windows::window_by_walk` and `questions::next_window`, where it is
 //! found by the walk. The next three are of 02, Five, and show in `writing::write_table` alone. The
 //! next three are of 02, Six, and show with e = p alone: the first wherever a table or a state is
-//! judged, the second in both windows asked for alone, the third in `windows::window`. The last
+//! judged, the second in both windows asked for alone, the third in `windows::window`. The next
 //! four are of 02, Seven: the first and the last show in a slot and in `why::why`, the second in
-//! both windows asked for alone, the third where a trace is judged.
+//! both windows asked for alone, the third where a trace is judged. The last ten are of 02, Eight:
+//! the first five show in the order, in a slot and in `why::why`, the first of them in format 1 and
+//! the others in format 2; the next three where a format is judged, in a value, in bytes and in a
+//! state; the ninth where a state is judged, the last in `why::answer`.
 //!
 //! | name | place | the mistake |
 //! |---|---|---|
@@ -87,6 +97,16 @@
 //! | `old_last_subtask` | `windows::LAST_SUBTASK` | 50 still uses 1,000,000,001 |
 //! | `one_limit_for_both` | `checker::MOST_SLOTS` | 47 uses the time limit; no count is above it |
 //! | `time_as_4_bytes` | `slot::state_refusal` | the time cut to 32 bits |
+//! | `kind_in_format_1` | `slot::one_alone_ran` | a row that ran goes first in format 1 too |
+//! | `kindness_forgotten` | `slot::one_alone_ran` | format 2 has the order of format 1 |
+//! | `row_before_ran` | `slot::rule_between` | the lower row number is asked before who ran |
+//! | `ran_before_group` | `slot::rule_between` | who ran is asked before the group deadline |
+//! | `ran_before_bit` | `slot::rule_between` | who ran is asked before the bit |
+//! | `format_0_taken` | `table::faultless` | format 0 of a table value is no fault |
+//! | `format_2_refused` | `table::read` | bytes of format 2 are still refused with 11 |
+//! | `format_of_value_not_asked` | `slot::broken` | in a state any format is taken |
+//! | `falling_rows_remembered` | `slot::not_rising` | remembered rows may stand in any order |
+//! | `why_row_number_for_ran` | `why::rule_number` | 4 is told where 5 decides |
 
 // compilers that know the lint warn of a cfg name they were not told of; older ones do not know
 // the lint
@@ -102,6 +122,7 @@ pub mod share;
 pub mod slot;
 pub mod table;
 pub mod trace;
+pub mod values;
 pub mod why;
 pub mod windows;
 pub mod writing;

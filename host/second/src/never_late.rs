@@ -16,6 +16,14 @@
 //! run as they would alone on M - w cores. Before a whole-core row begins they have more cores than
 //! that. Then nothing comes later: what has been given with fewer cores has been given with more by
 //! the same time, since the rows that go before it in the order are then the same or fewer.
+//!
+//! In format 2 (02, Eight) who goes first among full ties hangs on the slot before. 001's proof has
+//! one order of all subtasks, "obtained by arbitrarily breaking any ties left", that stays the same
+//! for the whole run. It comes to the same: of the subtasks that are full ties let those go first
+//! that the run gave earlier. With the order so fixed, afterwards, each slot picks the rows that it
+//! picked in the run, since of the full ties that were ready in it those it picked were given
+//! before those it left out. So what is said above holds of format 2 as well. Boxes are run in
+//! format 1 and in format 2 by turns.
 
 use crate::slot::{self, Answer};
 use crate::table::{self, Row, Table};
@@ -23,12 +31,14 @@ use crate::windows;
 
 /// Makes so many full boxes and runs each with all M cores free, for its longest phase and two
 /// cycles more. `Ok` counts what was run, in one line. `Err` tells the first slot that answered
-/// anything but 0; tables, like slots and rows, are numbered from 0.
+/// anything but 0; tables, like slots and rows, are numbered from 0. Those with an odd number are
+/// of format 2.
 pub fn full_boxes(seed: u64, tables: u32) -> Result<String, String> {
     let mut chance = Chance(seed);
     let mut counts = Counts::default();
     for number in 0..tables {
-        let table = full_box(&mut chance);
+        let mut table = full_box(&mut chance);
+        table.format = 1 + (number % 2) as u8;
         let slots = slots_to_run(&table);
         if let Some((at, answer)) = first_not_done(&table, table.cores, slots) {
             let text = not_done_text(&table, at, &answer);
@@ -73,6 +83,7 @@ fn not_done_text(table: &Table, at: u64, answer: &Answer) -> String {
 #[derive(Default)]
 struct Counts {
     tables: u64,
+    of_format_2: u64,
     slots: u64,
     plain: u64,
     early: u64,
@@ -85,6 +96,7 @@ struct Counts {
 impl Counts {
     fn add(&mut self, table: &Table, slots: u64) {
         self.tables += 1;
+        self.of_format_2 += u64::from(table.format == 2);
         self.slots += slots;
         for row in table.named_rows() {
             self.plain += u64::from(row.kind == 0);
@@ -98,9 +110,11 @@ impl Counts {
 
     fn text(&self, seed: u64) -> String {
         format!(
-            "never late: {} tables, {} slots, {} plain rows, {} early-release rows, {} heavy rows, \
-             {} whole-core rows, {} full-width boxes (M = 8), {} of them with 32 rows, seed {}",
+            "never late: {} tables, {} of format 2, {} slots, {} plain rows, \
+             {} early-release rows, {} heavy rows, {} whole-core rows, \
+             {} full-width boxes (M = 8), {} of them with 32 rows, seed {}",
             self.tables,
+            self.of_format_2,
             self.slots,
             self.plain,
             self.early,
@@ -144,9 +158,10 @@ const MIDDLE: [u32; 14] = [
 ];
 const LONG: [u32; 8] = [420, 504, 630, 720, 840, 1260, 2520, 5040];
 
-/// A table without fault whose sum of e·(L/p) is exactly M·L.
+/// A table without fault whose sum of e·(L/p) is exactly M·L, in format 1.
 pub(crate) fn full_box(chance: &mut Chance) -> Table {
     let mut table = Table::zero();
+    table.format = 1;
     table.cycle = match chance.below(16) {
         0 => chance.one_of(&LONG),
         1..=5 => chance.one_of(&MIDDLE),
@@ -492,7 +507,7 @@ fn fraction(chance: &mut Chance, taste: Taste, cycle: u32) -> Fraction {
 mod tests {
     use super::*;
     use crate::slot::Next;
-    use crate::table::tests::{value_of, EXAMPLE};
+    use crate::table::tests::{value_of, value_of_2, EXAMPLE};
 
     const LATE_AT_2: Answer = Answer {
         number: 1,
@@ -503,7 +518,8 @@ mod tests {
     #[test]
     fn boxes_by_chance_are_never_late() {
         let text = full_boxes(7, 60).unwrap();
-        assert!(text.starts_with("never late: 60 tables, "), "{}", text);
+        let front = "never late: 60 tables, 30 of format 2, ";
+        assert!(text.starts_with(front), "{}", text);
         assert!(text.ends_with(" rows, seed 7"), "{}", text);
         assert!(!text.contains(" 0 whole-core rows, "), "{}", text);
         assert!(!text.contains('\n'));
@@ -512,8 +528,13 @@ mod tests {
         assert_ne!(full_boxes(8, 60).unwrap(), text);
     }
 
-    /// A slip in the order must show in 2,000 full boxes.
-    #[cfg(any(slip = "bit_left_out", slip = "smaller_group_first"))]
+    /// A slip in the order must show in 2,000 full boxes. (`ran_before_group` makes rows late too,
+    /// but not in every 2,000 boxes one; the other slips in who ran before change full ties alone.)
+    #[cfg(any(
+        slip = "bit_left_out",
+        slip = "smaller_group_first",
+        slip = "ran_before_bit"
+    ))]
     #[test]
     fn the_planted_slip_makes_a_row_late() {
         for seed in 0..4 {
@@ -524,8 +545,9 @@ mod tests {
 
     #[test]
     fn no_box_at_all() {
-        let expected = "never late: 0 tables, 0 slots, 0 plain rows, 0 early-release rows, \
-                        0 heavy rows, 0 whole-core rows, 0 full-width boxes (M = 8), \
+        let expected = "never late: 0 tables, 0 of format 2, 0 slots, 0 plain rows, \
+                        0 early-release rows, 0 heavy rows, 0 whole-core rows, \
+                        0 full-width boxes (M = 8), \
                         0 of them with 32 rows, seed 5";
         assert_eq!(full_boxes(5, 0).unwrap(), expected);
     }
@@ -539,11 +561,12 @@ mod tests {
             24,
         );
         counts.add(&value_of(2, 8, &[(1, 2, 0, 0); 16]), 4);
-        counts.add(&value_of(4, 8, &[(1, 4, 0, 1); 32]), 8);
+        counts.add(&value_of_2(4, 8, &[(1, 4, 0, 1); 32]), 8);
         // two whole-core rows are two heavy rows more
         counts.add(&value_of(2, 2, &[(1, 1, 0, 0), (2, 2, 0, 1)]), 4);
-        let expected = "never late: 4 tables, 40 slots, 18 plain rows, 35 early-release rows, \
-                        21 heavy rows, 2 whole-core rows, 2 full-width boxes (M = 8), \
+        let expected = "never late: 4 tables, 1 of format 2, 40 slots, 18 plain rows, \
+                        35 early-release rows, 21 heavy rows, 2 whole-core rows, \
+                        2 full-width boxes (M = 8), \
                         1 of them with 32 rows, seed 9";
         assert_eq!(counts.text(9), expected);
     }
@@ -582,7 +605,7 @@ mod tests {
     }
 
     /// Every cyclic order of the rows of one table is never late, as plain rows, as early-release
-    /// rows, and with every second row early-release.
+    /// rows, and with every second row early-release, in both formats.
     fn never_late_in_any_turn(cycle: u32, cores: u8, fractions: &[(u16, u16)]) {
         for turn in 0..fractions.len() {
             for kinds in [[0, 0], [1, 1], [0, 1]] {
@@ -592,8 +615,11 @@ mod tests {
                     .map(|(place, &(e, p))| (e, p, 0, kinds[place % 2]))
                     .collect();
                 rows.rotate_left(turn);
-                let table = value_of(cycle, cores, &rows);
-                assert_eq!(first_not_done(&table, cores, 3 * u64::from(cycle)), None);
+                let first = value_of(cycle, cores, &rows);
+                let second = value_of_2(cycle, cores, &rows);
+                for table in [first, second] {
+                    assert_eq!(first_not_done(&table, cores, 3 * u64::from(cycle)), None);
+                }
             }
         }
     }
@@ -769,6 +795,45 @@ mod tests {
         beside(9, &[(9, 9)], &[((1, 3), 8), ((4, 9), 3)]);
         beside(22, &[(22, 22), (1, 1)], &[((5, 11), 5), ((19, 22), 2)]);
         beside(14, &[(7, 7), (2, 2)], &[((5, 7), 3), ((13, 14), 2)]);
+    }
+
+    /// How often, in a run of format 2, a slot picks other rows than it would in format 1.
+    fn slots_of_kindness(table: &Table) -> u64 {
+        let mut state = slot::fresh(*table);
+        let mut met = 0;
+        for _ in 0..slots_to_run(table) {
+            let mut plain = state;
+            plain.table.format = 1;
+            let (mut record, mut other) = ([0; 2 + 8], [0; 2 + 8]);
+            let answer = slot::slot(&mut state, table.cores, &mut record, 0);
+            slot::slot(&mut plain, table.cores, &mut other, 0);
+            assert_eq!(answer, Answer::plain(0));
+            met += u64::from(record != other);
+        }
+        met
+    }
+
+    #[test]
+    fn who_ran_decides_in_many_full_boxes() {
+        let mut chance = Chance(0x02_000D);
+        let (mut boxes, mut with_kindness, mut slots) = (0, 0, 0);
+        while boxes < 100 {
+            let mut table = full_box(&mut chance);
+            if table.cycle > 100 {
+                continue;
+            }
+            table.format = 2;
+            let met = slots_of_kindness(&table);
+            boxes += 1;
+            with_kindness += u64::from(met > 0);
+            slots += met;
+        }
+        assert!(
+            with_kindness > 20 && slots > 200,
+            "{}, {}",
+            with_kindness,
+            slots
+        );
     }
 
     #[test]

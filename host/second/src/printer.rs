@@ -2,6 +2,9 @@
 //!
 //! "Reads standard input, at most 65,536 bytes: table length (2), table, slots to run (2, at
 //! most 4,096), count of k values (2, at most the slots), those k bytes."
+//!
+//! The slots are run one after the other, so that with a table of format 2 (02, Eight) each knows
+//! who ran in the slot before; before slot 0 nobody did.
 
 use crate::slot;
 use crate::table;
@@ -117,7 +120,7 @@ fn run(input: &Input) -> String {
 #[cfg(test)]
 mod tests {
     use super::*;
-    use crate::table::tests::{bytes_of, EXAMPLE};
+    use crate::table::tests::{bytes_of, in_format, EXAMPLE};
 
     fn input_of(table: &[u8], slots: u16, free: &[u8]) -> Vec<u8> {
         let mut input = (table.len() as u16).to_le_bytes().to_vec();
@@ -258,6 +261,60 @@ mod tests {
             printed(&input_of(&camera_and_2_3(), 2, &[1, 2])),
             "slot free tanks\n0 1 7\n1 2 7 8\nend 2\n"
         );
+    }
+
+    // ---- formats (02, Eight) ----
+
+    #[test]
+    fn four_halves_in_both_formats() {
+        let rows = [
+            (1, 1, 2, 0, 0),
+            (2, 1, 2, 0, 0),
+            (3, 1, 2, 0, 0),
+            (4, 1, 2, 0, 0),
+        ];
+        let table = bytes_of(2, 2, &rows);
+        assert_eq!(
+            printed(&input_of(&table, 6, &[])),
+            "slot free tanks\n0 2 1 2\n1 2 3 4\n2 2 1 2\n3 2 3 4\n4 2 1 2\n5 2 3 4\nend 6\n"
+        );
+        assert_eq!(
+            printed(&input_of(&in_format(2, &table), 6, &[])),
+            "slot free tanks\n0 2 1 2\n1 2 3 4\n2 2 3 4\n3 2 1 2\n4 2 1 2\n5 2 3 4\nend 6\n"
+        );
+    }
+
+    #[test]
+    fn the_example_in_format_2() {
+        // the three slots of 01's listing are the same; in slot 3 tanks 11 and 20 ran before
+        let table = in_format(2, &EXAMPLE);
+        assert_eq!(
+            printed(&input_of(&table, 3, &[])),
+            printed(&input_of(&EXAMPLE, 3, &[]))
+        );
+        assert_eq!(
+            printed(&input_of(&table, 6, &[])),
+            "slot free tanks\n0 2 10 11\n1 2 10 20\n2 2 11 20\n\
+             3 2 11 20\n4 2 10 11\n5 2 10 20\nend 6\n"
+        );
+        // slot 2 with one core: rows 1 and 2 are due at 3, row 2 ran in slot 1, and row 1 is late
+        assert_eq!(
+            printed(&input_of(&table, 6, &[2, 2, 1])),
+            "slot free tanks\n0 2 10 11\n1 2 10 20\n2 1 20\nlate 3 11\n"
+        );
+        // in format 1 row 1 goes by its number, and row 2 is late
+        assert_eq!(
+            printed(&input_of(&EXAMPLE, 6, &[2, 2, 1])),
+            "slot free tanks\n0 2 10 11\n1 2 10 20\n2 1 11\nlate 3 20\n"
+        );
+    }
+
+    #[test]
+    fn a_format_that_is_neither() {
+        for format in [0, 3, 4, 128, 255] {
+            let table = in_format(format, &EXAMPLE);
+            assert_eq!(printed(&input_of(&table, 3, &[])), "refused 11\n");
+        }
     }
 
     #[test]

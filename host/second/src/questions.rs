@@ -6,7 +6,8 @@
 //!
 //! D of a next window is found by 01's walk, not by the formula of 02, Four, so that a program that
 //! reckons it can be checked by one that walks. The picks have the order of a slot, and with it the
-//! formula.
+//! formula. It is "01's order", that of format 1: neither a format nor a memory is asked with, so
+//! that 02, Eight changes nothing here.
 
 use crate::share;
 use crate::slot;
@@ -113,7 +114,8 @@ fn counts_as_late(row: &Row, quanta: u64, time: u64) -> bool {
 /// "32 marks: the rows picked": of those that count as ready "the first min(k, 8) in 01's order
 /// are picked, or all if fewer".
 pub fn picks(rows: &[Row; 32], quanta: &[u64; 32], n: u64, time: u64, k: u8) -> [bool; 32] {
-    let in_order = slot::in_order(rows_below(rows, n), quanta, |row, quanta| {
+    // "01's order" is that of format 1, in which it does not matter who ran before
+    let in_order = slot::in_order(1, rows_below(rows, n), quanta, &[], |row, quanta| {
         counts_as_ready(row, quanta, time)
     });
     let mut picked = [false; 32];
@@ -536,6 +538,15 @@ mod tests {
         assert_eq!(picks(&rows, &quanta, 5, 1, 1), marks_of(&[4]));
         assert_eq!(picks(&rows, &quanta, 5, 1, 8), marks_of(&[3, 4]));
         assert_eq!(picks(&rows, &quanta, 5, 3, 8), marks_of(&[2, 3, 4]));
+    }
+
+    #[test]
+    fn picks_know_no_slot_before() {
+        // four rows 1/2 at time 2, of which rows 2 and 3 ran in slot 1: the lower numbers all the
+        // same, as "01's order" has it
+        let rows = rows_of(&[(1, 2, 0, 0); 4]);
+        let quanta = quanta_of(&[1, 1, 1, 1]);
+        assert_eq!(picks(&rows, &quanta, 4, 2, 2), marks_of(&[0, 1]));
     }
 
     #[test]

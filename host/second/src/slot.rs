@@ -17,7 +17,8 @@ pub const LAST_TIME: u64 = if cfg!(slip = "old_time_limit") {
 };
 
 /// "The dispatcher's state holds the table, the time, a stopped mark and the quanta given to
-/// each row." And 02, One: "The state remembers which row ran on which core in the last slot".
+/// each row." And 02, One: "The state remembers which row ran on which core in the last slot". The
+/// same memory serves 02, Eight: "The state remembers the last slot's rows".
 #[derive(Clone, Copy, PartialEq, Eq, Debug)]
 pub struct State {
     pub table: Table,
@@ -47,7 +48,7 @@ impl Answer {
 }
 
 /// "A fresh state can be made from any table value: time 0, not stopped, all quanta 0". And of what
-/// is remembered of the last slot 02, One: "fresh, none".
+/// is remembered of the last slot 02, One: "fresh, none", and 02, Eight: "fresh, there are none".
 pub fn fresh(table: Table) -> State {
     State {
         table,
@@ -129,6 +130,8 @@ pub struct Next {
     pub bit: u8,
     /// D
     pub group: u128,
+    /// Was the row picked in the slot before?
+    pub ran: bool,
 }
 
 /// The rules of the order, in their turn.
@@ -140,29 +143,61 @@ pub enum Rule {
     Bit,
     /// "if both have b = 1, larger D"
     GroupDeadline,
+    /// 02, Eight, in format 2: "among full ties, a row picked in the previous slot goes first"
+    RanBefore,
     /// "then the lower row number"
     RowNumber,
 }
 
-/// Which rule decides between two rows. (A row with e = p, 02, Six, has b = 0 in every window: it
-/// stands behind any with the same d and b = 1, and its D is never asked.)
-pub fn rule_between(one: &Next, other: &Next) -> Rule {
+/// Which rule decides between two rows of a table of this format. (A row with e = p, 02, Six, has
+/// b = 0 in every window: it stands behind any with the same d and b = 1, and its D is never
+/// asked.)
+pub fn rule_between(format: u8, one: &Next, other: &Next) -> Rule {
     if one.deadline != other.deadline {
         return Rule::Deadline;
+    }
+    // slip: who ran is asked before the bit
+    if cfg!(slip = "ran_before_bit") && one_alone_ran(format, one, other) {
+        return Rule::RanBefore;
     }
     // slip: b left out of the order
     if one.bit != other.bit && !cfg!(slip = "bit_left_out") {
         return Rule::Bit;
     }
+    // slip: who ran is asked before the group deadline
+    if cfg!(slip = "ran_before_group") && one_alone_ran(format, one, other) {
+        return Rule::RanBefore;
+    }
     if one.bit == 1 && other.bit == 1 && one.group != other.group {
         return Rule::GroupDeadline;
+    }
+    // slip: the lower row number is asked before who ran; no two rows have the same
+    if cfg!(slip = "row_before_ran") && one.row != other.row {
+        return Rule::RowNumber;
+    }
+    // nothing above parts them: a "full tie"
+    if one_alone_ran(format, one, other) {
+        return Rule::RanBefore;
     }
     Rule::RowNumber
 }
 
-/// The order of two rows: `Less` when `one` goes first.
-pub fn order(one: &Next, other: &Next) -> Ordering {
-    match rule_between(one, other) {
+/// Was one of two rows picked in the slot before and the other not? It is asked in format 2 alone.
+fn one_alone_ran(format: u8, one: &Next, other: &Next) -> bool {
+    // slip: in format 1 too
+    if cfg!(slip = "kind_in_format_1") {
+        return one.ran != other.ran;
+    }
+    // slip: in neither format
+    if cfg!(slip = "kindness_forgotten") {
+        return false;
+    }
+    format == 2 && one.ran != other.ran
+}
+
+/// The order of two rows of a table of this format: `Less` when `one` goes first.
+pub fn order(format: u8, one: &Next, other: &Next) -> Ordering {
+    match rule_between(format, one, other) {
         // "smaller d"
         Rule::Deadline => one.deadline.cmp(&other.deadline),
         // "b = 1 before b = 0"
@@ -171,6 +206,8 @@ pub fn order(one: &Next, other: &Next) -> Ordering {
         Rule::GroupDeadline if cfg!(slip = "smaller_group_first") => one.group.cmp(&other.group),
         // "larger D"
         Rule::GroupDeadline => other.group.cmp(&one.group),
+        // "a row picked in the previous slot goes first"
+        Rule::RanBefore => other.ran.cmp(&one.ran),
         // "the lower row number"
         Rule::RowNumber => one.row.cmp(&other.row),
     }
@@ -178,29 +215,39 @@ pub fn order(one: &Next, other: &Next) -> Ordering {
 
 /// The ready rows of a state in its slot, first those that go first.
 pub fn ready_rows(state: &State) -> Vec<Next> {
-    in_order(state.table.named_rows(), &state.quanta, |row, quanta| {
-        ready(row, quanta, state.time)
-    })
+    let (rows, ran) = (state.table.named_rows(), state.last.named_rows());
+    in_order(
+        state.table.format,
+        rows,
+        &state.quanta,
+        ran,
+        |row, quanta| ready(row, quanta, state.time),
+    )
 }
 
-/// Of rows numbered from 0, with the quanta of each, those that `is_ready` says are ready, first
-/// those that go first.
+/// Of rows numbered from 0 in a table of this format, with the quanta of each, those that
+/// `is_ready` says are ready, first those that go first. `ran` has the numbers of those that were
+/// picked in the slot before.
 pub(crate) fn in_order(
+    format: u8,
     rows: &[Row],
     quanta: &[u64; 32],
+    ran: &[u8],
     is_ready: impl Fn(&Row, u64) -> bool,
 ) -> Vec<Next> {
     let mut found = Vec::new();
     for (number, row) in rows.iter().enumerate() {
         if is_ready(row, quanta[number]) {
-            put_in_order(&mut found, next_of(number as u8, row, quanta[number]));
+            let next = next_of(number as u8, row, quanta[number], ran);
+            put_in_order(format, &mut found, next);
         }
     }
     found
 }
 
-/// A row's next subtask, as the order sees it.
-pub(crate) fn next_of(number: u8, row: &Row, quanta: u64) -> Next {
+/// A row's next subtask, as the order sees it, with the numbers of the rows that were picked in the
+/// slot before.
+pub(crate) fn next_of(number: u8, row: &Row, quanta: u64, ran: &[u8]) -> Next {
     let (e, p, f) = (row.cost, row.period, u64::from(row.phase));
     let i = next_subtask(quanta);
     Next {
@@ -208,14 +255,15 @@ pub(crate) fn next_of(number: u8, row: &Row, quanta: u64) -> Next {
         deadline: windows::deadline(e, p, f, i),
         bit: windows::bit(e, p, i),
         group: windows::group_deadline(e, p, f, i),
+        ran: ran.contains(&number),
     }
 }
 
 /// Puts a row before the first of the others that it goes before. (Not a library's sort: with the
 /// slip of leaving b out three rows can go round in a circle, and what a sort then does is its
 /// own affair. This way there is one answer then too.)
-fn put_in_order(others: &mut Vec<Next>, next: Next) {
-    let goes_first = |other: &Next| order(&next, other) == Ordering::Less;
+fn put_in_order(format: u8, others: &mut Vec<Next>, next: Next) {
+    let goes_first = |other: &Next| order(format, &next, other) == Ordering::Less;
     match others.iter().position(goes_first) {
         Some(place) => others.insert(place, next),
         None => others.push(next),
@@ -244,17 +292,27 @@ pub fn deciding_rule(state: &State, k: u8) -> Option<Rule> {
     let ready = ready_rows(state);
     let left_out = ready.get(usize::from(k))?;
     let last_picked = ready.get(usize::from(k.checked_sub(1)?))?;
-    Some(rule_between(last_picked, left_out))
+    Some(rule_between(state.table.format, last_picked, left_out))
 }
 
 // ---- one slot ----
 
 /// "A state is broken (30) if its table has a fault 12 to 20 or 22, if time is above
 /// 1,000,000,000, if a row's quanta exceed time, or if it is not stopped and some row is outside
-/// its share at its time." "Places past row n ... are ignored." And by 02, One "30 also" for what
-/// it misremembers. 18 is the table's own: since 02, Six a state may have rows with e = p. For the
-/// time the limit is that of 02, Seven: "30, 32 and 50 use the new limit."
+/// its share at its time." "Places past row n ... are ignored." And by 02, One and Eight "30 also"
+/// for what it misremembers. 18 is the table's own: since 02, Six a state may have rows with e = p.
+/// For the time the limit is that of 02, Seven: "30, 32 and 50 use the new limit." 11 is among the
+/// faults since 02, Eight: "30 also for such a format", which is "neither 1 nor 2".
 pub fn broken(state: &State) -> bool {
+    // slip: the format of a state is not asked
+    #[cfg(slip = "format_of_value_not_asked")]
+    let state = &State {
+        table: Table {
+            format: 1,
+            ..state.table
+        },
+        ..*state
+    };
     if table::fault(&state.table) != 0 {
         return true;
     }
@@ -274,13 +332,19 @@ pub fn broken(state: &State) -> bool {
 }
 
 /// 02, One: "30 also for a remembered core not below M or given to two rows, or a remembered row
-/// not below n or on two cores". And the probe's protocol: "A count above 8 ...: the state is broken
-/// (30), whatever else. Each place counts for itself". Nothing else of the state is looked at, and
-/// M and n may be wild.
+/// not below n or on two cores". 02, Eight, and in both formats: "30 also ... for remembered rows
+/// not below n or not rising, or a count of them above M". And the probe's protocol: "A count above
+/// 8 ...: the state is broken (30), whatever else. Each place counts for itself". Nothing else of
+/// the state is looked at, and M and n may be wild.
 pub fn misremembers(state: &State) -> bool {
     let last = &state.last;
     // "A count above 8"
     if usize::from(last.count) > last.rows.len() {
+        return true;
+    }
+    // "or a count of them above M" (so many different cores below M there are not: what 02, One
+    // says of cores is then amiss as well)
+    if last.count > state.table.cores {
         return true;
     }
     let (rows, cores) = (last.named_rows(), last.named_cores());
@@ -292,8 +356,8 @@ pub fn misremembers(state: &State) -> bool {
     if rows.iter().any(|&row| row >= state.table.count) {
         return true;
     }
-    // a core "given to two rows", a row "on two cores"
-    one_twice(cores) || one_twice(rows)
+    // a core "given to two rows", a row "on two cores"; rows "not rising"
+    one_twice(cores) || one_twice(rows) || not_rising(rows)
 }
 
 /// Is there a core of this number? 02, One: "numbered 0 to M - 1".
@@ -303,6 +367,15 @@ fn is_core(table: &Table, core: u8) -> bool {
         return core <= table.cores;
     }
     core < table.cores
+}
+
+/// Is one of the numbers not above the one before it?
+fn not_rising(numbers: &[u8]) -> bool {
+    // slip: rows may be remembered in any order
+    if cfg!(slip = "falling_rows_remembered") {
+        return false;
+    }
+    numbers.windows(2).any(|pair| pair[1] <= pair[0])
 }
 
 /// Does one of the numbers stand at two places?
@@ -400,7 +473,8 @@ pub fn slot_on(state: &mut State, free: u32, buffer: &mut [u8], place: u64) -> (
     if let Some(number) = refusal(state, free) {
         return (Answer::plain(number), Placement::nobody());
     }
-    // 02, One: "k becomes the size of the set; picks, shares and traces stay as they are"
+    // 02, One: "k becomes the size of the set; picks, shares and traces stay as they are". Which
+    // cores they are chooses no row; which rows ran in the slot before does in format 2 (02, Eight)
     let k = free.count_ones() as u8;
     let picked = pick(state, k);
     // 34: "the place is past the buffer's end, or fewer than 2 + c bytes remain after it"
@@ -408,7 +482,8 @@ pub fn slot_on(state: &mut State, free: u32, buffer: &mut [u8], place: u64) -> (
         return (Answer::plain(34), Placement::nobody());
     }
     let placement = cores::place(&state.last, free, &picked);
-    // 02, One: "The state remembers which row ran on which core in the last slot"
+    // 02, One: "The state remembers which row ran on which core in the last slot"; the picked rise,
+    // and so do the rows remembered
     // slip: a slot that picks nobody keeps the old memory
     if !cfg!(slip = "memory_kept") || !picked.is_empty() {
         state.last = placement;
@@ -456,7 +531,7 @@ pub(crate) mod tests {
     use super::*;
     use crate::cores::tests::{placement_of, set_of};
     use crate::never_late::Chance;
-    use crate::table::tests::{value_of, EXAMPLE};
+    use crate::table::tests::{in_format, value_of, value_of_2, EXAMPLE};
 
     const DONE: Answer = Answer {
         number: 0,
@@ -576,6 +651,7 @@ pub(crate) mod tests {
             deadline,
             bit,
             group,
+            ran: false,
         };
         let cases = [
             // smaller d, whatever else
@@ -589,13 +665,45 @@ pub(crate) mod tests {
             (next(1, 4, 1, 9), next(5, 4, 1, 9), Rule::RowNumber),
             (next(1, 4, 0, 4), next(5, 4, 0, 9), Rule::RowNumber),
         ];
-        for (first, second, rule) in cases {
-            assert_eq!(rule_between(&first, &second), rule);
-            assert_eq!(rule_between(&second, &first), rule);
-            assert_eq!(order(&first, &second), Ordering::Less);
-            assert_eq!(order(&second, &first), Ordering::Greater);
-            assert_eq!(order(&first, &first), Ordering::Equal);
+        for (mut first, mut second, rule) in cases {
+            // who ran is asked in format 2 alone, and there of full ties alone
+            for (format, ran, ran_too) in [
+                (1, false, false),
+                (1, true, false),
+                (1, false, true),
+                (1, true, true),
+                (2, false, false),
+                (2, true, true),
+            ] {
+                first.ran = ran;
+                second.ran = ran_too;
+                in_this_order(format, &first, &second, rule);
+            }
+            let rule_of_ties = match rule {
+                Rule::RowNumber => Rule::RanBefore,
+                other => other,
+            };
+            first.ran = true;
+            second.ran = false;
+            in_this_order(2, &first, &second, rule_of_ties);
+            first.ran = false;
+            second.ran = true;
+            if rule == Rule::RowNumber {
+                in_this_order(2, &second, &first, Rule::RanBefore);
+            } else {
+                in_this_order(2, &first, &second, rule);
+            }
         }
+    }
+
+    /// The rule puts the first of them first, whichever is named first.
+    fn in_this_order(format: u8, first: &Next, second: &Next, rule: Rule) {
+        assert_eq!(rule_between(format, first, second), rule);
+        assert_eq!(rule_between(format, second, first), rule);
+        assert_eq!(order(format, first, second), Ordering::Less);
+        assert_eq!(order(format, second, first), Ordering::Greater);
+        assert_eq!(order(format, first, first), Ordering::Equal);
+        assert_eq!(order(format, second, second), Ordering::Equal);
     }
 
     /// Slot 0 of 2/3 (0 to 2, b 1, D 3), 1/2 (0 to 2, b 0, D 2), 1/4 (0 to 4, b 0, D 0), 3/4 (0 to
@@ -615,12 +723,13 @@ pub(crate) mod tests {
 
     #[test]
     fn ready_rows_stand_in_their_order() {
-        let state = six_rows();
+        let mut state = six_rows();
         let next = |row, deadline, bit, group| Next {
             row,
             deadline,
             bit,
             group,
+            ran: false,
         };
         let expected = [
             next(3, 2, 1, 4),
@@ -629,15 +738,23 @@ pub(crate) mod tests {
             next(4, 2, 0, 2),
             next(2, 4, 0, 0),
         ];
-        assert_eq!(ready_rows(&state), expected);
-        // every arrival of the same rows, each swapped with each
-        for one in 0..5 {
-            for other in 0..5 {
-                let mut arriving = expected;
+        // nobody ran before, so that both formats have the same order
+        for format in 1..=2 {
+            state.table.format = format;
+            assert_eq!(ready_rows(&state), expected);
+            in_any_arrival(format, &expected);
+        }
+    }
+
+    /// Every arrival of these rows, each swapped with each, leaves them in this order.
+    fn in_any_arrival(format: u8, expected: &[Next]) {
+        for one in 0..expected.len() {
+            for other in 0..expected.len() {
+                let mut arriving = expected.to_vec();
                 arriving.swap(one, other);
                 let mut ordered = Vec::new();
                 for next in arriving {
-                    put_in_order(&mut ordered, next);
+                    put_in_order(format, &mut ordered, next);
                 }
                 assert_eq!(ordered, expected);
             }
@@ -738,6 +855,8 @@ pub(crate) mod tests {
             change(&mut table);
             refused(&fresh(table), 0, 9, 0)
         };
+        assert_eq!(number(&|t| t.format = 0), 30);
+        assert_eq!(number(&|t| t.format = 3), 30);
         assert_eq!(number(&|t| t.cycle = 0), 30);
         assert_eq!(number(&|t| t.cores = 0), 30);
         assert_eq!(number(&|t| t.cores = 200), 30);
@@ -955,14 +1074,21 @@ pub(crate) mod tests {
     #[test]
     fn a_whole_core_row_stands_behind_one_with_b_1_and_the_same_deadline() {
         let mut state = camera_and_2_3_in_slot_1();
-        let next = |row, bit, group| Next {
+        let next = |row, bit, group, ran| Next {
             row,
             deadline: 2,
             bit,
             group,
+            ran,
         };
-        assert_eq!(ready_rows(&state), [next(1, 1, 3), next(0, 0, 2)]);
-        assert_eq!(deciding_rule(&state, 1), Some(Rule::Bit));
+        // that 1/1 ran in slot 0 does not help it, in format 2 either
+        let expected = [next(1, 1, 3, false), next(0, 0, 2, true)];
+        for format in 1..=2 {
+            state.table.format = format;
+            assert_eq!(ready_rows(&state), expected);
+            assert_eq!(deciding_rule(&state, 1), Some(Rule::Bit));
+        }
+        state.table.format = 1;
         // with both cores nobody waits
         let mut both = state;
         assert_eq!(picks(&mut both, 2), [0, 1]);
@@ -1342,6 +1468,7 @@ pub(crate) mod tests {
             deadline,
             bit,
             group,
+            ran: false,
         };
         let expected = [
             next(5, last, 0, last),
@@ -1458,6 +1585,368 @@ pub(crate) mod tests {
                 assert_eq!(refused(&state, 2, 9, 0), 30);
                 state.stopped = true;
                 assert_eq!(refused(&state, 2, 9, 0), 30);
+            }
+        }
+    }
+
+    // ---- format 2 (02, Eight) ----
+
+    #[test]
+    fn four_halves_on_two_cores() {
+        // subtask i of 1/2 is 2i-2 to 2i, b 0: in every second slot all four are ready, full ties,
+        // and in the slot after it those that were not picked
+        let rows = [(1, 2, 0, 0); 4];
+        let (low, high) = ([0, 1], [2, 3]);
+        let mut state = fresh(value_of(2, 2, &rows));
+        for expected in [low, high, low, high, low, high, low, high] {
+            assert_eq!(picks(&mut state, 2), expected);
+        }
+        // nobody ran before slot 0; before slot 2 rows 2 and 3 did, before slot 4 rows 0 and 1
+        let mut state = fresh(value_of_2(2, 2, &rows));
+        for expected in [low, high, high, low, low, high, high, low, low] {
+            assert_eq!(picks(&mut state, 2), expected);
+        }
+    }
+
+    #[test]
+    fn two_halves_on_one_core() {
+        let rows = [(1, 2, 0, 0); 2];
+        let mut state = fresh(value_of(2, 1, &rows));
+        for expected in [0, 1, 0, 1, 0, 1] {
+            assert_eq!(picks(&mut state, 1), [expected]);
+        }
+        let mut state = fresh(value_of_2(2, 1, &rows));
+        // in slot 0 the number decides, in the other even ones who ran; in the odd ones one alone
+        // is ready
+        for (time, expected) in (0..).zip([0, 1, 1, 0, 0, 1, 1, 0]) {
+            let rule = match time {
+                0 => Some(Rule::RowNumber),
+                _ if time % 2 == 0 => Some(Rule::RanBefore),
+                _ => None,
+            };
+            assert_eq!(deciding_rule(&state, 1), rule);
+            assert_eq!(picks(&mut state, 1), [expected]);
+        }
+    }
+
+    #[test]
+    fn the_example_in_format_2() {
+        let mut state = fresh(table::read(&in_format(2, &EXAMPLE)).unwrap());
+        // slots 0 to 2 are those of 01: in slot 1 row 2 is due first, and of the others both ran
+        assert_eq!(placed(&mut state, &[0, 1]), [(0, 0), (1, 1)]);
+        assert_eq!(placed(&mut state, &[0, 1]), [(0, 0), (2, 1)]);
+        assert_eq!(placed(&mut state, &[0, 1]), [(1, 0), (2, 1)]);
+        // slot 3: all are 3 to 5, b 1, D 6; rows 1 and 2 ran, and stay where they were
+        assert_eq!(placed(&mut state, &[0, 1]), [(1, 0), (2, 1)]);
+        // row 0 is due at 5; rows 1 and 2 are due at 6, and both ran
+        assert_eq!(placed(&mut state, &[0, 1]), [(0, 1), (1, 0)]);
+        // row 1 has its four quanta
+        assert_eq!(placed(&mut state, &[0, 1]), [(0, 1), (2, 0)]);
+        // slot 6: rows 0 and 2 ran
+        assert_eq!(placed(&mut state, &[0, 1]), [(0, 1), (2, 0)]);
+        assert_eq!(placed(&mut state, &[0, 1]), [(0, 1), (1, 0)]);
+        assert_eq!(placed(&mut state, &[0, 1]), [(1, 0), (2, 1)]);
+        assert_eq!(state.quanta[..4], [6, 6, 6, 0]);
+    }
+
+    #[test]
+    fn thirty_two_rows_in_format_2() {
+        // 1/4 on eight cores: in slots 0, 4 and 8 all are ready; eight at a time
+        let mut state = fresh(value_of_2(4, 8, &[(1, 4, 0, 0); 32]));
+        for eight in [0, 1, 2, 3, 3, 0, 1, 2, 2, 0, 1, 3, 3, 0] {
+            let expected: Vec<u8> = (8 * eight..8 * eight + 8).collect();
+            assert_eq!(picks(&mut state, 8), expected);
+        }
+    }
+
+    /// Two rows on two cores, one of them free: who goes, and by which rule, where nobody ran in
+    /// the slot before, where row 0 did, where row 1 did, and where both did.
+    fn by_who_ran(format: u8, state: &State) -> [(u8, Rule); 4] {
+        let memories = [vec![], vec![(0, 0)], vec![(1, 0)], vec![(0, 1), (1, 0)]];
+        memories.map(|pairs| {
+            let mut state = *state;
+            state.table.format = format;
+            state.last = placement_of(&pairs);
+            let rule = deciding_rule(&state, 1).unwrap();
+            let mut buffer = [0; 3];
+            assert!(slot(&mut state, 1, &mut buffer, 0).number < 2);
+            assert_eq!(buffer[..2], [1, 1]);
+            (buffer[2], rule)
+        })
+    }
+
+    #[test]
+    fn among_full_ties_a_row_that_ran_goes_first() {
+        let ties = [
+            // both b = 1 and the same D: 2/3 is 0 to 2, D 3; 2/5 is 0 to 3, D 0
+            at(3, &[(2, 3, 0, 0), (2, 3, 0, 0)], 0, &[]),
+            at(5, &[(2, 5, 0, 0), (2, 5, 0, 0)], 0, &[]),
+            // both b = 0: 1/2 is 0 to 2, of either kind
+            at(2, &[(1, 2, 0, 0), (1, 2, 0, 0)], 0, &[]),
+            at(2, &[(1, 2, 0, 1), (1, 2, 0, 0)], 0, &[]),
+            // both b = 0, where D is not asked: 1/4 (0 to 4, D 0), 3/4 with two quanta (2 to 4,
+            // D 4)
+            at(4, &[(1, 4, 0, 0), (3, 4, 0, 0)], 2, &[0, 2]),
+            at(4, &[(3, 4, 0, 0), (1, 4, 0, 0)], 2, &[2, 0]),
+            // an early-release row has its window's deadline: 2/6 with one quantum is 3 to 6, as
+            // 1/6 is 0 to 6
+            at(6, &[(2, 6, 0, 1), (1, 6, 0, 0)], 1, &[1, 0]),
+            // two whole-core rows, 0 to 1
+            at(2, &[(1, 1, 0, 0), (2, 2, 0, 1)], 0, &[]),
+        ];
+        let (number, ran) = (Rule::RowNumber, Rule::RanBefore);
+        for state in &ties {
+            assert_eq!(by_who_ran(1, state), [(0, number); 4]);
+            let expected = [(0, number), (0, ran), (1, ran), (0, number)];
+            assert_eq!(by_who_ran(2, state), expected);
+        }
+    }
+
+    #[test]
+    fn who_ran_is_asked_after_deadline_bit_and_group_deadline() {
+        let cases = [
+            // 1/3 is due at 3, 1/2 at 2
+            (at(6, &[(1, 3, 0, 0), (1, 2, 0, 0)], 0, &[]), Rule::Deadline),
+            // 1/2 has b = 0, 2/3 has b = 1
+            (at(6, &[(1, 2, 0, 0), (2, 3, 0, 0)], 0, &[]), Rule::Bit),
+            // 2/3 has D 3, 3/4 has D 4
+            (
+                at(12, &[(2, 3, 0, 0), (3, 4, 0, 0)], 0, &[]),
+                Rule::GroupDeadline,
+            ),
+            // light 3/8 with phase 1 (1 to 4, b 1, D 0), heavy 2/3 with phase 2 (2 to 4, b 1, D 5)
+            (
+                at(24, &[(3, 8, 1, 0), (2, 3, 2, 0)], 2, &[]),
+                Rule::GroupDeadline,
+            ),
+        ];
+        for (state, rule) in &cases {
+            for format in 1..=2 {
+                assert_eq!(by_who_ran(format, state), [(1, *rule); 4]);
+            }
+        }
+    }
+
+    #[test]
+    fn six_rows_of_which_two_ran() {
+        // rows 1 and 4 are full ties and row 4 ran; row 2, due at 4, ran as well and stays last
+        let mut state = six_rows();
+        state.table.format = 2;
+        state.last = placement_of(&[(2, 3), (4, 0)]);
+        let next = |row, deadline, bit, group, ran| Next {
+            row,
+            deadline,
+            bit,
+            group,
+            ran,
+        };
+        let expected = [
+            next(3, 2, 1, 4, false),
+            next(0, 2, 1, 3, false),
+            next(4, 2, 0, 2, true),
+            next(1, 2, 0, 2, false),
+            next(2, 4, 0, 0, true),
+        ];
+        assert_eq!(ready_rows(&state), expected);
+        in_any_arrival(2, &expected);
+        let rules = [
+            Rule::GroupDeadline,
+            Rule::Bit,
+            Rule::RanBefore,
+            Rule::Deadline,
+        ];
+        for (k, rule) in (1..).zip(rules) {
+            assert_eq!(deciding_rule(&state, k), Some(rule));
+        }
+        assert_eq!(picks(&mut state.clone(), 2), [0, 3]);
+        assert_eq!(picks(&mut state.clone(), 3), [0, 3, 4]);
+        assert_eq!(picks(&mut state.clone(), 4), [0, 1, 3, 4]);
+        // in format 1 row 1 goes by its number
+        state.table.format = 1;
+        assert_eq!(deciding_rule(&state, 3), Some(Rule::RowNumber));
+        assert_eq!(picks(&mut state.clone(), 3), [0, 1, 3]);
+    }
+
+    /// Three early-release rows 4/16 on three cores, in format 2: d is 4 for the first quantum, 8
+    /// for the second, 12, 16, and b is 0. After three slots with one core each has one quantum,
+    /// and row 2 ran in the slot before.
+    fn one_quantum_each() -> State {
+        let mut state = fresh(value_of_2(16, 3, &[(4, 16, 0, 1); 3]));
+        for row in 0..3 {
+            assert_eq!(picks(&mut state, 1), [row]);
+        }
+        state
+    }
+
+    #[test]
+    fn the_slot_before_is_the_one_just_before() {
+        let mut state = one_quantum_each();
+        // all are due at 8
+        assert_eq!(picks(&mut state.clone(), 2), [0, 2]);
+        assert_eq!(picks(&mut state, 1), [2]);
+        assert_eq!(picks(&mut state, 1), [0]);
+        assert_eq!(picks(&mut state, 1), [1]);
+        // all are due at 12: row 1 ran, row 2 three slots ago
+        assert_eq!(deciding_rule(&state, 1), Some(Rule::RanBefore));
+        assert_eq!(picks(&mut state.clone(), 2), [0, 1]);
+        assert_eq!(picks(&mut state, 1), [1]);
+        // in format 1 it is row 0, whoever ran
+        let mut plain = one_quantum_each();
+        plain.table.format = 1;
+        assert_eq!(picks(&mut plain, 1), [0]);
+    }
+
+    #[test]
+    fn after_a_slot_that_picks_nobody_nobody_ran() {
+        let mut state = one_quantum_each();
+        assert_eq!(picks(&mut state, 0), []);
+        assert_eq!(deciding_rule(&state, 1), Some(Rule::RowNumber));
+        assert_eq!(picks(&mut state, 1), [0]);
+        // nobody is ready in slots 2 and 3 of four rows 1/4 on two cores
+        let mut state = fresh(value_of_2(4, 2, &[(1, 4, 0, 0); 4]));
+        let expected: [&[u8]; 6] = [&[0, 1], &[2, 3], &[], &[], &[0, 1], &[2, 3]];
+        for rows in expected {
+            assert_eq!(picks(&mut state, 2), rows);
+        }
+    }
+
+    #[test]
+    fn a_refused_slot_is_no_slot_before() {
+        let mut state = one_quantum_each();
+        assert_eq!(refused(&state, 4, 9, 0), 35);
+        assert_eq!(refused(&state, 1, 2, 0), 34);
+        assert_eq!(picks(&mut state, 1), [2]);
+    }
+
+    #[test]
+    fn what_is_remembered_is_who_ran() {
+        // whoever was really picked; what stands past the count was not
+        let mut state = one_quantum_each();
+        state.last = Placement {
+            count: 1,
+            rows: [1, 2, 0, 0, 0, 0, 0, 0],
+            cores: [2, 1, 0, 0, 0, 0, 0, 0],
+        };
+        assert_eq!(picks(&mut state.clone(), 2), [0, 1]);
+        assert_eq!(picks(&mut state, 1), [1]);
+        // at time 0, where no slot was before, and of a row that is not ready
+        let mut state = fresh(value_of_2(
+            4,
+            2,
+            &[(1, 4, 1, 0), (1, 4, 0, 0), (1, 4, 0, 0)],
+        ));
+        state.last = placement_of(&[(0, 0), (2, 1)]);
+        assert_eq!(picks(&mut state, 1), [2]);
+    }
+
+    #[test]
+    fn a_row_that_ran_goes_first_whether_its_core_is_free_or_not() {
+        // four rows 1/2 on three cores, two of them free in slots 0 and 1
+        let mut state = fresh(value_of_2(2, 3, &[(1, 2, 0, 0); 4]));
+        assert_eq!(placed(&mut state, &[0, 1]), [(0, 0), (1, 1)]);
+        assert_eq!(placed(&mut state, &[0, 1]), [(2, 0), (3, 1)]);
+        // slot 2: rows 2 and 3 ran; one stays and one moves, or the one that goes moves
+        assert_eq!(placed(&mut state.clone(), &[0, 2]), [(2, 0), (3, 2)]);
+        assert_eq!(placed(&mut state.clone(), &[2]), [(2, 2)]);
+        // in format 1 row 0 goes
+        state.table.format = 1;
+        assert_eq!(placed(&mut state, &[2]), [(0, 2)]);
+    }
+
+    #[test]
+    fn a_whole_core_row_that_ran_goes_before_a_full_tie() {
+        // light 1/3 (0 to 3, b 0) and 1/1, due at 1, 2, 3; one core of two is free
+        let rows = [(1, 3, 0, 0), (1, 1, 0, 0)];
+        for (format, picked, late) in [(1, 0, 1), (2, 1, 0)] {
+            let mut state = at(3, &rows, 0, &[]);
+            state.table.format = format;
+            assert_eq!(picks(&mut state, 1), [1]);
+            assert_eq!(picks(&mut state, 1), [1]);
+            let mut buffer = [0; 3];
+            assert_eq!(slot(&mut state, 1, &mut buffer, 0), late_at(late, 3));
+            assert_eq!(buffer, [1, 1, picked]);
+        }
+    }
+
+    #[test]
+    fn who_ran_before_the_last_slot() {
+        // rows 1 and 4 differ in nothing but that row 4 ran
+        let mut state = the_last_slot_of_seven_rows();
+        state.table.format = 2;
+        state.last = placement_of(&[(4, 0), (6, 1)]);
+        assert_eq!(deciding_rule(&state, 5), Some(Rule::RanBefore));
+        assert_eq!(picks(&mut state.clone(), 4), [0, 2, 3, 5]);
+        assert_eq!(picks(&mut state.clone(), 5), [0, 2, 3, 4, 5]);
+        assert_eq!(picks(&mut state.clone(), 6), [0, 1, 2, 3, 4, 5]);
+    }
+
+    #[test]
+    fn a_format_that_is_neither_breaks_the_state() {
+        let mut sound = fresh(value_of(2, 2, &[(1, 2, 0, 0)]));
+        let mut last = fresh(value_of(1, 1, &[]));
+        last.time = 1_000_000_000_000;
+        for format in 0..=255 {
+            let neither = format != 1 && format != 2;
+            let number = |other| if neither { 30 } else { other };
+            sound.table.format = format;
+            last.table.format = format;
+            assert_eq!(broken(&sound), neither);
+            assert_eq!(number_of(&sound), number(0));
+            // before 31, 32, 35 and 34
+            let stopped = State {
+                stopped: true,
+                ..sound
+            };
+            assert_eq!(refused(&stopped, 2, 9, 0), number(31));
+            assert_eq!(refused(&last, 1, 9, 0), number(32));
+            assert_eq!(refused(&sound, 3, 9, 0), number(35));
+            assert_eq!(refused(&sound, 2, 2, 0), number(34));
+            // it has nothing to do with the memory
+            assert!(!misremembers(&sound));
+        }
+    }
+
+    #[test]
+    fn a_count_above_m_is_amiss_whatever_the_cores() {
+        // eight rows on M cores, as many remembered as one likes
+        for cores in 1..=8 {
+            for format in 1..=2 {
+                let mut state = fresh(value_of(8, cores, &[(1, 8, 0, 0); 8]));
+                state.table.format = format;
+                for count in 0..=8 {
+                    // on cores that are there, as far as they go, and on others
+                    let pairs: Vec<(u8, u8)> = (0..count).map(|row| (row, row)).collect();
+                    state.last = placement_of(&pairs);
+                    assert_eq!(misremembers(&state), count > cores);
+                    let pairs: Vec<(u8, u8)> = (0..count).map(|row| (row, row % cores)).collect();
+                    state.last = placement_of(&pairs);
+                    assert_eq!(misremembers(&state), count > cores);
+                }
+            }
+        }
+    }
+
+    #[test]
+    fn rows_that_do_not_rise_are_amiss_at_any_place() {
+        // eight rows on eight cores; two neighbours, and the first and the last, change places
+        let rising: Vec<(u8, u8)> = (0..8).map(|row| (row, 7 - row)).collect();
+        for format in 1..=2 {
+            let mut state = fresh(value_of(8, 8, &[(1, 8, 0, 0); 8]));
+            state.table.format = format;
+            state.last = placement_of(&rising);
+            assert_eq!(slot_on(&mut state.clone(), 0xFF, &mut [0; 10], 0).0, DONE);
+            for (one, other) in [(0, 1), (1, 2), (3, 4), (5, 6), (6, 7), (0, 7)] {
+                let mut pairs = rising.clone();
+                pairs.swap(one, other);
+                state.last = placement_of(&pairs);
+                assert_eq!(refused_on(&state, 0xFF, 10, 0), 30);
+                // stopped, too; and not if they stand past the count
+                state.stopped = true;
+                assert_eq!(refused_on(&state, 0xFF, 10, 0), 30);
+                state.last.count = other as u8;
+                let expected = if other - one == 1 { 31 } else { 30 };
+                assert_eq!(refused_on(&state, 0xFF, 10, 0), expected);
+                state.stopped = false;
             }
         }
     }
@@ -1623,15 +2112,20 @@ pub(crate) mod tests {
         assert_eq!(buffer, [0xEE, 1, 1, 0, 0xEE]);
     }
 
-    /// 01's example table at its start, remembering these (row, core): the slot's number.
+    /// 01's example table at its start, remembering these (row, core): the slot's number, the same
+    /// in both formats.
     fn remembering(pairs: &[(u8, u8)]) -> u8 {
-        let mut state = fresh(table::read(&EXAMPLE).unwrap());
-        state.last = placement_of(pairs);
-        assert_eq!(broken(&state), misremembers(&state));
-        if misremembers(&state) {
-            return refused_on(&state, 0b11, 9, 0);
-        }
-        slot_on(&mut state, 0b11, &mut [0; 9], 0).0.number
+        let numbers = [1, 2].map(|format| {
+            let mut state = fresh(table::read(&in_format(format, &EXAMPLE)).unwrap());
+            state.last = placement_of(pairs);
+            assert_eq!(broken(&state), misremembers(&state));
+            if misremembers(&state) {
+                return refused_on(&state, 0b11, 9, 0);
+            }
+            slot_on(&mut state, 0b11, &mut [0; 9], 0).0.number
+        });
+        assert_eq!(numbers[0], numbers[1]);
+        numbers[0]
     }
 
     #[test]
@@ -1639,7 +2133,8 @@ pub(crate) mod tests {
         // three rows on two cores
         assert_eq!(remembering(&[]), 0);
         assert_eq!(remembering(&[(0, 0)]), 0);
-        assert_eq!(remembering(&[(2, 1), (0, 0)]), 0);
+        assert_eq!(remembering(&[(0, 0), (2, 1)]), 0);
+        assert_eq!(remembering(&[(0, 1), (2, 0)]), 0);
         // "a remembered core not below M"
         assert_eq!(remembering(&[(0, 2)]), 30);
         assert_eq!(remembering(&[(0, 0), (1, 2)]), 30);
@@ -1654,13 +2149,20 @@ pub(crate) mod tests {
         assert_eq!(remembering(&[(1, 0), (1, 1)]), 30);
         // "one pair standing twice is 30"
         assert_eq!(remembering(&[(1, 0), (1, 0)]), 30);
+        // 02, Eight: "not rising", whatever the cores
+        assert_eq!(remembering(&[(2, 1), (0, 0)]), 30);
+        assert_eq!(remembering(&[(2, 0), (0, 1)]), 30);
+        assert_eq!(remembering(&[(1, 1), (0, 0)]), 30);
+        // "or a count of them above M"
+        assert_eq!(remembering(&[(0, 0), (1, 1), (2, 2)]), 30);
+        assert_eq!(remembering(&[(0, 0), (1, 1), (2, 0)]), 30);
     }
 
     #[test]
     fn what_is_remembered_is_held_against_nothing_else() {
         // at time 0, of rows that have no quantum, of rows that are not ready (phase 5)
         let mut state = fresh(value_of(6, 2, &[(1, 2, 0, 0), (1, 3, 5, 0)]));
-        state.last = placement_of(&[(1, 0), (0, 1)]);
+        state.last = placement_of(&[(0, 1), (1, 0)]);
         assert_eq!(placed(&mut state, &[0, 1]), [(0, 1)]);
         // a stopped state's memory is judged as well, before 31
         let mut stopped = state;
@@ -1727,18 +2229,20 @@ pub(crate) mod tests {
         assert!(misremembers(&state));
         state.table.count = 255;
         assert!(!misremembers(&state));
-        state.last = placement_of(&[(254, 0), (0, 254)]);
+        state.last = placement_of(&[(0, 254), (254, 0)]);
         assert!(!misremembers(&state));
         // the table breaks it all the same
         assert!(broken(&state));
         assert_eq!(refused_on(&state, 0, 9, 0), 30);
-        state.last = placement_of(&[(254, 0), (0, 255)]);
+        state.last = placement_of(&[(254, 0), (0, 254)]);
         assert!(misremembers(&state));
-        state.last = placement_of(&[(255, 0), (0, 254)]);
+        state.last = placement_of(&[(0, 255), (254, 0)]);
+        assert!(misremembers(&state));
+        state.last = placement_of(&[(0, 254), (255, 0)]);
         assert!(misremembers(&state));
         state.last = placement_of(&[(254, 0), (254, 254)]);
         assert!(misremembers(&state));
-        state.last = placement_of(&[(254, 9), (253, 9)]);
+        state.last = placement_of(&[(253, 9), (254, 9)]);
         assert!(misremembers(&state));
         state.table.count = 0;
         state.last = placement_of(&[(0, 9)]);
@@ -1747,8 +2251,8 @@ pub(crate) mod tests {
 
     // ---- tables by chance, for the statements over all runs ----
 
-    /// A table without fault, as full as its rows by chance allow. One row in eight that is tried
-    /// has e = p.
+    /// A table without fault, of either format, as full as its rows by chance allow. One row in
+    /// eight that is tried has e = p.
     pub(crate) fn table_by_chance(chance: &mut Chance) -> Table {
         let cycles = [6, 12, 24, 30, 60];
         let cycle = cycles[chance.below(5) as usize];
@@ -1776,7 +2280,10 @@ pub(crate) mod tests {
                 rows.pop();
             }
         }
-        value_of(cycle, cores, &rows)
+        Table {
+            format: 1 + chance.below(2) as u8,
+            ..value_of(cycle, cores, &rows)
+        }
     }
 
     fn has_the_whole_core(row: &Row) -> bool {
@@ -1819,6 +2326,7 @@ pub(crate) mod tests {
                 }
             }
             let whole = table.count - numbers.len() as u8;
+            others.format = table.format;
             others.cycle = table.cycle;
             others.cores = table.cores - whole;
             others.boards = table.boards;
@@ -1946,14 +2454,94 @@ pub(crate) mod tests {
         }
     }
 
-    /// "picks, shares and traces stay as they are": a slot with any set against one with the first
-    /// cores, as many, and with another memory.
+    /// Does one row go before the other? The papers' words, with the windows that may be asked for
+    /// alone.
+    fn goes_before(state: &State, one: u8, other: u8) -> bool {
+        let asked = |number: u8| {
+            let place = usize::from(number);
+            let row = &state.table.rows[place];
+            windows::window(row.cost, row.period, row.phase, state.quanta[place] + 1)
+        };
+        let (a, b) = (asked(one), asked(other));
+        // "smaller d; then b = 1 before b = 0; if both have b = 1, larger D"
+        if a.deadline != b.deadline {
+            return a.deadline < b.deadline;
+        }
+        if a.bit != b.bit {
+            return a.bit == 1;
+        }
+        if a.bit == 1 && a.group != b.group {
+            return a.group > b.group;
+        }
+        // "among full ties, a row picked in the previous slot goes first, then the lower row
+        // number"
+        let picked = |number: u8| state.last.named_rows().contains(&number);
+        match (state.table.format, picked(one), picked(other)) {
+            (2, true, false) => true,
+            (2, false, true) => false,
+            _ => one < other,
+        }
+    }
+
+    /// The ready rows before which fewer than k others go, by rising number.
+    fn first_by_the_words(state: &State, k: u8) -> Vec<u8> {
+        let is_ready = |&number: &u8| {
+            let place = usize::from(number);
+            ready(&state.table.rows[place], state.quanta[place], state.time)
+        };
+        let ready: Vec<u8> = (0..state.table.count).filter(is_ready).collect();
+        let is_first = |&one: &u8| {
+            let before = ready
+                .iter()
+                .filter(|&&other| goes_before(state, other, one));
+            before.count() < usize::from(k)
+        };
+        ready.iter().copied().filter(is_first).collect()
+    }
+
     #[test]
-    fn the_set_and_the_memory_choose_no_row() {
-        let mut chance = Chance(0x0123_4567_89AB_CDEF);
-        let (mut lates, mut moved) = (0, 0);
+    fn the_picks_are_the_first_by_the_words() {
+        let mut chance = Chance(0x02_000C);
+        // how often the picks of a slot would be others in the other format
+        let mut others = [0; 3];
         for _ in 0..300 {
             let table = table_by_chance(&mut chance);
+            let mut state = fresh(table);
+            for _ in 0..2 * table.cycle {
+                for k in 0..=table.cores {
+                    let expected = first_by_the_words(&state, k);
+                    assert_eq!(pick(&state, k), expected);
+                    let mut turned = state;
+                    turned.table.format = 3 - table.format;
+                    let differs = pick(&turned, k) != expected;
+                    others[usize::from(table.format)] += u32::from(differs);
+                }
+                let k = table.cores - u8::from(chance.below(8) == 0);
+                if slot(&mut state, k, &mut [0; 10], 0).number != 0 {
+                    break;
+                }
+            }
+        }
+        assert!(others[1] > 100 && others[2] > 100, "{:?}", others);
+    }
+
+    /// The same rows remembered, by rising number on the first cores.
+    fn on_the_first_cores(last: &Placement) -> Placement {
+        let rows = last.named_rows().iter().copied();
+        let pairs: Vec<(u8, u8)> = rows.zip(0..).collect();
+        placement_of(&pairs)
+    }
+
+    /// "picks, shares and traces stay as they are": a slot with any set against one with the first
+    /// cores, as many, and with another memory. In format 1 that remembers nobody; in format 2
+    /// (02, Eight) it must have the same rows, on whatever cores.
+    #[test]
+    fn the_set_and_the_cores_remembered_choose_no_row() {
+        let mut chance = Chance(0x0123_4567_89AB_CDEF);
+        let (mut lates, mut moved, mut formats) = (0, 0, [0; 3]);
+        for _ in 0..300 {
+            let table = table_by_chance(&mut chance);
+            formats[usize::from(table.format)] += 1;
             let (mut state, mut plain) = (fresh(table), fresh(table));
             for _ in 0..2 * table.cycle {
                 let set =
@@ -1981,7 +2569,10 @@ pub(crate) mod tests {
                 assert_eq!(state.last, placement);
                 plain.last = placement;
                 assert_eq!(state, plain);
-                plain.last = Placement::nobody();
+                plain.last = match table.format {
+                    1 => Placement::nobody(),
+                    _ => on_the_first_cores(&placement),
+                };
                 if answer.number == 1 {
                     lates += 1;
                     break;
@@ -1990,11 +2581,12 @@ pub(crate) mod tests {
             }
         }
         assert!(lates > 50 && moved > 50);
+        assert!(formats[1] > 100 && formats[2] > 100, "{:?}", formats);
     }
 
     // ---- half is heavy (02, Three) ----
 
-    /// A table without fault, in which many rows are one half, however written.
+    /// A table without fault, of either format, in which many rows are one half, however written.
     fn table_with_halves(chance: &mut Chance) -> Table {
         let periods = [2, 3, 4, 6, 8, 12, 24];
         let cores = 1 + chance.below(8) as u8;
@@ -2011,7 +2603,10 @@ pub(crate) mod tests {
                 rows.pop();
             }
         }
-        value_of(24, cores, &rows)
+        Table {
+            format: 1 + chance.below(2) as u8,
+            ..value_of(24, cores, &rows)
+        }
     }
 
     /// A row's e/p against one half.
@@ -2030,7 +2625,7 @@ pub(crate) mod tests {
             if against_one_half(&state.table.rows[usize::from(next.row)]) != Ordering::Greater {
                 next.group = 0;
             }
-            put_in_order(&mut found, next);
+            put_in_order(state.table.format, &mut found, next);
         }
         found
     }
@@ -2042,7 +2637,7 @@ pub(crate) mod tests {
         let (mut slots, mut with_another_d) = (0, 0);
         // where the last row picked and the first left out are due at the same time and one of them
         // alone is one half: the other is lighter, or heavier, and is left out, is picked by its
-        // number, or is picked by its bit
+        // number or since it ran before, or is picked by its bit
         let mut ties = [[0; 3]; 2];
         for _ in 0..300 {
             let table = table_with_halves(&mut chance);

@@ -3,6 +3,9 @@
 //! "Reading goes from the front. A field is tested as soon as its bytes are there, a row once
 //! all its nine are, and then in the order of the numbers below; after the last row come 21,
 //! then 22; the first fault met is answered."
+//!
+//! There are two formats. 02, Eight: "Tables of format 2 keep the bytes of format 1 but end PD2's
+//! order differently". So they are read, judged and written alike; what parts them is in `slot`.
 
 /// "A row: tank (2, rising strictly from row to row; 0 is a tank like any other), e (2), p (2),
 /// f (2; 0 is a phase), kind (1: 0 plain, 1 early release)."
@@ -22,6 +25,8 @@ pub struct Row {
 /// A table value. "A table that is taken has 0 in every place past n and past M."
 #[derive(Clone, Copy, PartialEq, Eq, Debug)]
 pub struct Table {
+    /// 1, or since 02, Eight 2: how the order ends
+    pub format: u8,
     /// L
     pub cycle: u32,
     /// M
@@ -57,6 +62,7 @@ impl Row {
 impl Table {
     pub fn zero() -> Table {
         Table {
+            format: 0,
             cycle: 0,
             cores: 0,
             boards: [0; 8],
@@ -73,6 +79,14 @@ impl Table {
 }
 
 // ---- the tests of single fields, each with its number ----
+
+/// 11: 01 has "format is not 1"; 02, Eight: "11 means neither 1 nor 2"
+fn test_format(format: u8) -> Result<(), u8> {
+    if format != 1 && format != 2 {
+        return Err(11);
+    }
+    Ok(())
+}
 
 /// 12: "L outside 1 to 1,000,000"
 fn test_cycle(cycle: u32) -> Result<(), u8> {
@@ -193,11 +207,13 @@ pub fn read(bytes: &[u8]) -> Result<Table, u8> {
     let mut rest = bytes;
     let mut table = Table::zero();
 
-    // "format, 1"
-    let format = take(&mut rest, 1)?[0];
-    if format != 1 {
+    // "format, 1", or 2, which keeps "the bytes of format 1" (02, Eight)
+    table.format = take(&mut rest, 1)?[0];
+    // slip: format 2 is still refused
+    if cfg!(slip = "format_2_refused") && table.format == 2 {
         return Err(11);
     }
+    test_format(table.format)?;
 
     // "cycle L, 1 to 1,000,000": 4 bytes
     let cycle = take(&mut rest, 4)?;
@@ -243,10 +259,11 @@ pub fn read(bytes: &[u8]) -> Result<Table, u8> {
 
 // ---- writing bytes ----
 
-/// The bytes a table value is read from, unjudged. (A wild M is cut at 8, a wild n at 32.) Judged,
-/// and in a lent buffer, they are written by `writing::write_table`.
+/// The bytes a table value is read from, unjudged; a wild format is written as it is. (A wild M is
+/// cut at 8, a wild n at 32.) Judged, and in a lent buffer, they are written by
+/// `writing::write_table`.
 pub fn write(table: &Table) -> Vec<u8> {
-    let mut bytes = vec![1];
+    let mut bytes = vec![table.format];
     bytes.extend_from_slice(&table.cycle.to_le_bytes());
     bytes.push(table.cores);
     bytes.extend(table.boards.iter().take(usize::from(table.cores)));
@@ -262,8 +279,9 @@ pub fn write(table: &Table) -> Vec<u8> {
 
 // ---- judging a table value ----
 
-/// The fault 12 to 20 or 22 that any table value has, first met in reading order, else 0.
-/// "Places past row n, and board numbers past M, are ignored."
+/// The fault 11 to 20 or 22 that any table value has, first met in reading order, else 0.
+/// "Places past row n, and board numbers past M, are ignored." 11 is there since 02, Eight made the
+/// format a part of the value; it goes "ahead of 12", as in reading.
 pub fn fault(table: &Table) -> u8 {
     match faultless(table) {
         Ok(()) => 0,
@@ -272,6 +290,10 @@ pub fn fault(table: &Table) -> u8 {
 }
 
 fn faultless(table: &Table) -> Result<(), u8> {
+    // slip: format 0, which a value without a table has, is no fault
+    if !cfg!(slip = "format_0_taken") || table.format != 0 {
+        test_format(table.format)?;
+    }
     test_cycle(table.cycle)?;
     test_cores(table.cores)?;
     let mut last_board = None;
@@ -300,7 +322,8 @@ pub(crate) mod tests {
         0x14, 0x00, 0x02, 0x00, 0x03, 0x00, 0x00, 0x00, 0x00,
     ];
 
-    /// The bytes of a table with boards 0 to M-1 and rows (tank, e, p, f, kind), unjudged.
+    /// The bytes of a table of format 1 with boards 0 to M-1 and rows (tank, e, p, f, kind),
+    /// unjudged.
     pub(crate) fn bytes_of(cycle: u32, cores: u8, rows: &[(u16, u16, u16, u16, u8)]) -> Vec<u8> {
         let mut bytes = vec![1];
         bytes.extend_from_slice(&cycle.to_le_bytes());
@@ -318,9 +341,27 @@ pub(crate) mod tests {
         bytes
     }
 
-    /// Plain and early-release rows by (e, p, f, kind), tanks 1, 2, 3 and so on; unjudged.
+    /// The same bytes in another format: the first byte alone.
+    pub(crate) fn in_format(format: u8, bytes: &[u8]) -> Vec<u8> {
+        let mut bytes = bytes.to_vec();
+        bytes[0] = format;
+        bytes
+    }
+
+    /// Plain and early-release rows by (e, p, f, kind), tanks 1, 2, 3 and so on, in format 2;
+    /// unjudged.
+    pub(crate) fn value_of_2(cycle: u32, cores: u8, rows: &[(u16, u16, u16, u8)]) -> Table {
+        Table {
+            format: 2,
+            ..value_of(cycle, cores, rows)
+        }
+    }
+
+    /// Plain and early-release rows by (e, p, f, kind), tanks 1, 2, 3 and so on, in format 1;
+    /// unjudged.
     pub(crate) fn value_of(cycle: u32, cores: u8, rows: &[(u16, u16, u16, u8)]) -> Table {
         let mut table = Table::zero();
+        table.format = 1;
         table.cycle = cycle;
         table.cores = cores;
         for m in 0..8u8 {
@@ -350,6 +391,7 @@ pub(crate) mod tests {
     #[test]
     fn the_example_is_taken() {
         let table = read(&EXAMPLE).unwrap();
+        assert_eq!(table.format, 1);
         assert_eq!(table.cycle, 3);
         assert_eq!(table.cores, 2);
         assert_eq!(table.boards, [0, 1, 0, 0, 0, 0, 0, 0]);
@@ -465,10 +507,113 @@ pub(crate) mod tests {
 
     #[test]
     fn format() {
-        assert_eq!(read(&changed(0, 0)), Err(11));
-        assert_eq!(read(&changed(0, 2)), Err(11));
         assert_eq!(read(&[]), Err(10));
-        assert_eq!(read(&[7]), Err(11));
+        for format in 0..=255 {
+            let neither = format != 1 && format != 2;
+            assert_eq!(read(&changed(0, format)).is_ok(), !neither);
+            // tested as soon as its byte is there
+            assert_eq!(read(&[format]), Err(if neither { 11 } else { 10 }));
+            // ahead of 12, and of all that comes after it
+            let all_0 = [format, 0, 0, 0, 0, 0, 0, 0];
+            assert_eq!(read(&all_0), Err(if neither { 11 } else { 12 }));
+        }
+    }
+
+    // ---- format 2 (02, Eight) ----
+
+    #[test]
+    fn format_2_keeps_the_bytes_of_format_1() {
+        let table = read(&changed(0, 2)).unwrap();
+        assert_eq!(table.format, 2);
+        // in all else it is the example
+        let example = read(&EXAMPLE).unwrap();
+        assert_eq!(Table { format: 1, ..table }, example);
+        assert_eq!(fault(&table), 0);
+        assert_eq!(write(&table), changed(0, 2));
+    }
+
+    #[test]
+    fn format_2_is_refused_where_format_1_is() {
+        let alike = |bytes: &[u8]| {
+            let expected = read(&in_format(1, bytes)).map(|table| Table { format: 2, ..table });
+            assert_eq!(read(&in_format(2, bytes)), expected);
+            expected.is_ok()
+        };
+        // every byte of the example but the format, changed to every other; shorter, and longer
+        let mut taken = 0;
+        for at in 1..36 {
+            for byte in 0..=255 {
+                taken += u32::from(alike(&changed(at, byte)));
+            }
+        }
+        // tanks, phases and board numbers may be others
+        assert!(taken > 1_000, "{}", taken);
+        for length in 1..36 {
+            assert!(!alike(&EXAMPLE[..length]));
+            assert_eq!(read(&changed(0, 2)[..length]), Err(10));
+        }
+        let mut more = changed(0, 2);
+        more.push(0);
+        assert_eq!(read(&more), Err(21));
+        // the sum, and a whole-core row
+        let four = [
+            (1, 2, 3, 0, 0),
+            (2, 2, 3, 0, 0),
+            (3, 2, 3, 0, 0),
+            (4, 1, 3, 0, 0),
+        ];
+        assert_eq!(read(&in_format(2, &bytes_of(3, 2, &four))), Err(22));
+        assert!(alike(&bytes_of(3, 2, &four[..3])));
+        assert!(alike(&bytes_of(1, 1, &[(0, 1, 1, 0, 1)])));
+    }
+
+    #[test]
+    fn a_value_s_format_is_a_fault_ahead_of_all_others() {
+        let good = value_of(3, 2, &[(2, 3, 0, 0); 3]);
+        for format in 0..=255 {
+            let neither = format != 1 && format != 2;
+            let number = |other| if neither { 11 } else { other };
+            assert_eq!(fault(&Table { format, ..good }), number(0));
+            assert_eq!(
+                fault(&Table {
+                    format,
+                    cycle: 0,
+                    ..good
+                }),
+                number(12)
+            );
+            assert_eq!(
+                fault(&Table {
+                    format,
+                    cores: 200,
+                    ..good
+                }),
+                number(13)
+            );
+            assert_eq!(
+                fault(&Table {
+                    format,
+                    count: 255,
+                    ..good
+                }),
+                number(15)
+            );
+            assert_eq!(
+                fault(&Table {
+                    format,
+                    cores: 1,
+                    ..good
+                }),
+                number(22)
+            );
+            assert_eq!(
+                fault(&Table {
+                    format,
+                    ..Table::zero()
+                }),
+                number(12)
+            );
+        }
     }
 
     #[test]
@@ -634,6 +779,9 @@ pub(crate) mod tests {
             change(&mut table);
             fault(&table)
         };
+        assert_eq!(fault_with(&|t| t.format = 0), 11);
+        assert_eq!(fault_with(&|t| t.format = 2), 0);
+        assert_eq!(fault_with(&|t| t.format = 3), 11);
         assert_eq!(fault_with(&|t| t.cycle = 0), 12);
         assert_eq!(fault_with(&|t| t.cycle = 1_000_001), 12);
         assert_eq!(fault_with(&|t| t.cores = 0), 13);
@@ -684,7 +832,7 @@ pub(crate) mod tests {
             }),
             12
         );
-        assert_eq!(fault(&Table::zero()), 12);
+        assert_eq!(fault(&Table::zero()), 11);
     }
 
     #[test]
@@ -755,6 +903,11 @@ pub(crate) mod tests {
             0x02, 0x01, 0x04, 0x03, 0x06, 0x05, 0x08, 0x07, 1,
         ];
         assert_eq!(write(&table), expected);
+        // the format in front, whatever it is
+        for format in [0, 2, 3, 255] {
+            let other = Table { format, ..table };
+            assert_eq!(write(&other), in_format(format, &expected));
+        }
         // wild M and n: all that is there
         table.cores = 255;
         table.count = 255;
@@ -769,6 +922,8 @@ pub(crate) mod tests {
             value_of(1_000_000, 1, &[(1, 50_000, 9, 1)]),
             value_of(1, 1, &[(1, 1, 0, 0)]),
             value_of(6, 3, &[(1, 1, 0, 1), (6, 6, 5, 0), (2, 3, 0, 0)]),
+            value_of_2(3, 2, &[(2, 3, 0, 0), (2, 3, 5, 1), (2, 3, 65535, 0)]),
+            value_of_2(1, 8, &[]),
         ];
         for table in tables {
             assert_eq!(fault(&table), 0);

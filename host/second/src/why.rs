@@ -4,7 +4,8 @@
 //! k: picked; not ready, with the first slot in which it will be; no core free; or passed over."
 //!
 //! What the slot will do is asked of `slot`, where it is done; here the reason is named. The state
-//! stays as it is.
+//! stays as it is. 02, Eight: "In request Two the list of rules gains 'ran in the slot before'"; it
+//! is asked in tables of format 2.
 
 use crate::slot::{self, Next, Rule, State};
 
@@ -18,7 +19,7 @@ pub enum Reason {
     /// "no core free"
     NoCoreFree,
     /// "passed over. For the last they get the lowest-ranked picked row and the rule that put it
-    /// ahead (deadline, bit, group deadline, row number)."
+    /// ahead (deadline, bit, group deadline, row number)", or "ran in the slot before".
     PassedOver { row: u8, rule: Rule },
 }
 
@@ -34,7 +35,7 @@ pub struct WhyAnswer {
     pub slot: u64,
     /// with "passed over" the lowest-ranked picked row
     pub row: u8,
-    /// "0 none, 1 deadline, 2 bit, 3 group deadline, 4 row number"
+    /// "0 none, 1 deadline, 2 bit, 3 group deadline, 4 row number, 5 ran in the slot before"
     pub rule: u8,
 }
 
@@ -49,7 +50,7 @@ pub fn why(state: &State, k: u8, row: u8) -> Result<Reason, u8> {
 /// "Refusals: 30 to 33 as in 01, then 36 for a row number not below n." None if there is a reason
 /// to give.
 fn refusal(state: &State, k: u8, row: u8) -> Option<u8> {
-    // 30 with what 02, One adds to it: the slot of such a state would be refused as well
+    // 30 with what 02, One and Eight add to it: the slot of such a state would be refused as well
     if let Some(number) = slot::state_refusal(state) {
         return Some(number);
     }
@@ -86,10 +87,11 @@ fn reason(state: &State, k: u8, number: u8) -> Reason {
     if picked.iter().any(|next| next.row == number) {
         return Reason::Picked;
     }
+    let asked = slot::next_of(number, row, quanta, state.last.named_rows());
     match named_of(&picked) {
         Some(ahead) => Reason::PassedOver {
             row: ahead.row,
-            rule: slot::rule_between(ahead, &slot::next_of(number, row, quanta)),
+            rule: slot::rule_between(state.table.format, ahead, &asked),
         },
         // a row is ready and nobody is picked: k = 0. "no core free being said only of a ready row
         // with k = 0"
@@ -141,13 +143,16 @@ pub fn answer(state: &State, k: u8, row: u8) -> WhyAnswer {
     }
 }
 
-/// "1 deadline, 2 bit, 3 group deadline, 4 row number"
+/// "1 deadline, 2 bit, 3 group deadline, 4 row number, 5 ran in the slot before"
 fn rule_number(rule: Rule) -> u8 {
     match rule {
         Rule::Deadline => 1,
         Rule::Bit => 2,
         Rule::GroupDeadline => 3,
         Rule::RowNumber => 4,
+        // slip: told as the row number, the last of the rules before 02, Eight
+        Rule::RanBefore if cfg!(slip = "why_row_number_for_ran") => 4,
+        Rule::RanBefore => 5,
     }
 }
 
@@ -172,7 +177,7 @@ mod tests {
     use crate::slot::tests::{begun_by_chance, later, LATER};
     use crate::slot::tests::{six_rows, table_by_chance, the_last_slot_of_seven_rows};
     use crate::slot::{fresh, slot};
-    use crate::table::tests::{value_of, EXAMPLE};
+    use crate::table::tests::{in_format, value_of, value_of_2, EXAMPLE};
     use crate::table::{self, Row, Table};
     use crate::windows;
 
@@ -440,6 +445,125 @@ mod tests {
         let ahead = state_of(15, 2, &rows, 4, &[4, 0]);
         let by_deadline = passed_over(1, Rule::Deadline);
         assert_eq!(reasons(&ahead, 1), [by_deadline, PICKED]);
+    }
+
+    // ---- ran in the slot before (02, Eight) ----
+
+    #[test]
+    fn four_halves_slot_by_slot() {
+        // on four cores: subtask i of 1/2 is 2i-2 to 2i, b 0
+        let mut state = fresh(value_of_2(2, 4, &[(1, 2, 0, 0); 4]));
+        let number = |row| passed_over(row, Rule::RowNumber);
+        let ran = |row| passed_over(row, Rule::RanBefore);
+        // nobody ran before slot 0
+        assert_eq!(reasons(&state, 2), [PICKED, PICKED, number(1), number(1)]);
+        slot(&mut state, 2, &mut [0; 4], 0);
+        let waits = not_ready(2);
+        assert_eq!(reasons(&state, 1), [waits, waits, PICKED, number(2)]);
+        slot(&mut state, 2, &mut [0; 4], 0);
+        // slot 2: the order is 2, 3, 0, 1
+        assert_eq!(reasons(&state, 0), [NO_CORE_FREE; 4]);
+        // both ran, and between them it is the number
+        assert_eq!(reasons(&state, 1), [ran(2), ran(2), PICKED, number(2)]);
+        assert_eq!(reasons(&state, 2), [ran(3), ran(3), PICKED, PICKED]);
+        // row 0 is the lowest-ranked now, and did not run, nor did row 1
+        assert_eq!(reasons(&state, 3), [PICKED, number(0), PICKED, PICKED]);
+        assert_eq!(reasons(&state, 4), [PICKED; 4]);
+        // format 1 has the numbers alone
+        state.table.format = 1;
+        assert_eq!(reasons(&state, 2), [PICKED, PICKED, number(1), number(1)]);
+    }
+
+    #[test]
+    fn who_ran_is_the_rule_also_where_the_number_is_lower() {
+        // two rows 1/2, of which row 0 ran
+        let mut state = fresh(value_of_2(2, 1, &[(1, 2, 0, 0); 2]));
+        state.last = placement_of(&[(0, 0)]);
+        assert_eq!(
+            reasons(&state, 1),
+            [PICKED, passed_over(0, Rule::RanBefore)]
+        );
+        state.table.format = 1;
+        assert_eq!(
+            reasons(&state, 1),
+            [PICKED, passed_over(0, Rule::RowNumber)]
+        );
+        // of which both ran
+        let mut state = fresh(value_of_2(2, 2, &[(1, 2, 0, 0); 2]));
+        state.last = placement_of(&[(0, 1), (1, 0)]);
+        assert_eq!(
+            reasons(&state, 1),
+            [PICKED, passed_over(0, Rule::RowNumber)]
+        );
+    }
+
+    #[test]
+    fn who_ran_is_no_rule_before_the_others() {
+        // the row that waits ran, the row that goes did not
+        let waits_by = |cycle, rows: &[(u16, u16, u16, u8)], rule| {
+            let mut state = fresh(value_of_2(cycle, 2, rows));
+            for pairs in [vec![(0, 0)], vec![(1, 0)], vec![(0, 0), (1, 1)]] {
+                state.last = placement_of(&pairs);
+                assert_eq!(reasons(&state, 1), [passed_over(1, rule), PICKED]);
+            }
+        };
+        waits_by(6, &[(1, 3, 0, 0), (1, 2, 0, 0)], Rule::Deadline);
+        waits_by(6, &[(1, 2, 0, 0), (2, 3, 0, 0)], Rule::Bit);
+        waits_by(12, &[(2, 3, 0, 0), (3, 4, 0, 0)], Rule::GroupDeadline);
+        // with both bits 0 D is not asked: light 1/4 without a quantum (0 to 4, D 0), heavy 3/4
+        // with two (2 to 4, D 4), at time 2
+        let mut state = state_of(4, 2, &[(1, 4, 0, 0), (3, 4, 0, 0)], 2, &[0, 2]);
+        state.table.format = 2;
+        state.last = placement_of(&[(1, 0)]);
+        assert_eq!(
+            reasons(&state, 1),
+            [passed_over(1, Rule::RanBefore), PICKED]
+        );
+    }
+
+    #[test]
+    fn six_rows_of_which_row_4_ran() {
+        // rows 1 and 4 are full ties; the order is 3, 0, 4, 1, 2
+        let mut state = six_rows();
+        state.table.format = 2;
+        state.last = placement_of(&[(2, 0), (4, 3)]);
+        let waits = not_ready(1);
+        let (bit, deadline) = (passed_over(0, Rule::Bit), passed_over(0, Rule::Deadline));
+        let expected = [PICKED, bit, deadline, PICKED, bit, waits];
+        assert_eq!(reasons(&state, 2), expected);
+        let (ran, deadline) = (
+            passed_over(4, Rule::RanBefore),
+            passed_over(4, Rule::Deadline),
+        );
+        let expected = [PICKED, ran, deadline, PICKED, PICKED, waits];
+        assert_eq!(reasons(&state, 3), expected);
+        let deadline = passed_over(1, Rule::Deadline);
+        let expected = [PICKED, PICKED, deadline, PICKED, PICKED, waits];
+        assert_eq!(reasons(&state, 4), expected);
+    }
+
+    #[test]
+    fn the_example_in_format_2_says_who_ran() {
+        let mut state = fresh(table::read(&in_format(2, &EXAMPLE)).unwrap());
+        for _ in 0..3 {
+            slot(&mut state, 2, &mut [0; 4], 0);
+        }
+        // slot 3: all are 3 to 5, b 1, D 6; rows 1 and 2 ran in slot 2
+        let ran = passed_over(2, Rule::RanBefore);
+        assert_eq!(reasons(&state, 2), [ran, PICKED, PICKED]);
+        let (ran, number) = (
+            passed_over(1, Rule::RanBefore),
+            passed_over(1, Rule::RowNumber),
+        );
+        assert_eq!(reasons(&state, 1), [ran, PICKED, number]);
+        let bytes = answer(&state, 1, 0).bytes();
+        assert_eq!(bytes, [0, 4, 0, 0, 0, 0, 0, 0, 0, 0, 1, 5]);
+        let bytes = answer(&state, 1, 2).bytes();
+        assert_eq!(bytes, [0, 4, 0, 0, 0, 0, 0, 0, 0, 0, 1, 4]);
+        // after a slot without a core nobody ran: the number again
+        slot(&mut state, 0, &mut [0; 2], 0);
+        let number = passed_over(1, Rule::RowNumber);
+        assert_eq!(reasons(&state, 2), [PICKED, PICKED, number]);
     }
 
     // ---- not ready ----
@@ -776,17 +900,22 @@ mod tests {
     #[test]
     fn what_is_remembered_amiss_is_30_as_well() {
         let mut state = two_rows();
-        state.last = placement_of(&[(1, 0), (0, 1)]);
+        state.last = placement_of(&[(0, 1), (1, 0)]);
         assert_eq!(why(&state, 1, 0), PICKED);
         let amiss = [
             vec![(0, 2)],
             vec![(2, 0)],
             vec![(0, 0), (1, 0)],
             vec![(0, 0), (0, 1)],
+            // 02, Eight: "not rising"
+            vec![(1, 0), (0, 1)],
         ];
         for pairs in &amiss {
             state.last = placement_of(pairs);
-            assert_eq!(refused_in_all_ways(&state), [30; 4]);
+            for format in 1..=2 {
+                state.table.format = format;
+                assert_eq!(refused_in_all_ways(&state), [30; 4]);
+            }
         }
         state.last.count = 9;
         assert_eq!(refused_in_all_ways(&state), [30; 4]);
@@ -795,18 +924,33 @@ mod tests {
     }
 
     #[test]
-    fn what_is_remembered_changes_no_reason() {
+    fn what_is_remembered_changes_no_reason_without_a_full_tie() {
+        // row 2 alone is due at 4, row 5 is not ready: the same in both formats
         let plain = six_rows();
         let mut state = plain;
         state.last = placement_of(&[(2, 0), (5, 3)]);
+        for format in 1..=2 {
+            state.table.format = format;
+            for k in 0..=4 {
+                assert_eq!(reasons(&state, k), reasons(&plain, k));
+            }
+        }
+        // rows 1 and 4 are full ties, which format 1 leaves to their number
+        state.table.format = 1;
+        state.last = placement_of(&[(4, 3)]);
         for k in 0..=4 {
             assert_eq!(reasons(&state, k), reasons(&plain, k));
         }
+        state.table.format = 2;
+        assert_ne!(reasons(&state, 3), reasons(&plain, 3));
     }
 
     #[test]
     fn table_faults_are_30() {
-        let changes: [&dyn Fn(&mut Table); 10] = [
+        let changes: [&dyn Fn(&mut Table); 13] = [
+            &|t| t.format = 0,
+            &|t| t.format = 3,
+            &|t| t.format = 255,
             &|t| t.cycle = 0,
             &|t| t.cores = 0,
             &|t| t.cores = 255,
@@ -831,6 +975,7 @@ mod tests {
     fn wild_states_are_stood() {
         let mut wild = fresh(Table::zero());
         assert_eq!(refused_in_all_ways(&wild), [30; 4]);
+        wild.table.format = 255;
         wild.table.cycle = u32::MAX;
         wild.table.cores = 255;
         wild.table.count = 255;
@@ -894,6 +1039,14 @@ mod tests {
         assert_eq!(passed(3, 4), (1, 4));
         assert_eq!(passed(2, 2), (0, 1));
         assert_eq!(passed(2, 1), (0, 2));
+        // in format 2, where row 4 ran and row 1 did not
+        let mut kind = state;
+        kind.table.format = 2;
+        kind.last = placement_of(&[(4, 0)]);
+        let given = answer(&kind, 3, 1);
+        assert_eq!((given.number, given.reason, given.slot), (0, 4, 0));
+        assert_eq!((given.row, given.rule), (4, 5));
+        assert_eq!(given.bytes()[10..], [4, 5]);
     }
 
     // ---- the reasons over runs by chance, held against the slot itself ----
@@ -916,17 +1069,20 @@ mod tests {
         (next.deadline, next.bit, next.group)
     }
 
-    /// The number of the rule by which `one` goes before `other`, 0 if it does not. 01's words, one
-    /// after the other.
+    /// The number of the rule by which `one` goes before `other`, 0 if it does not. The words of 01
+    /// and of 02, Eight, one after the other.
     fn ahead(state: &State, one: u8, other: u8) -> u8 {
         let (d, b, group) = asked_alone(state, one);
         let (d2, b2, group2) = asked_alone(state, other);
+        let ran = |row| state.last.named_rows().contains(&row);
         let (rule, goes_first) = if d != d2 {
             (1, d < d2)
         } else if b != b2 {
             (2, b == 1)
         } else if b == 1 && group != group2 {
             (3, group > group2)
+        } else if state.table.format == 2 && ran(one) != ran(other) {
+            (5, ran(one))
         } else {
             (4, one < other)
         };
@@ -977,7 +1133,7 @@ mod tests {
     #[test]
     fn the_reason_is_what_the_slot_will_do() {
         let mut chance = Chance(0x02_0002);
-        let (mut reasons, mut rules) = ([0; 5], [0; 5]);
+        let (mut reasons, mut rules) = ([0; 5], [0; 6]);
         for _ in 0..300 {
             let table = table_by_chance(&mut chance);
             let mut state = fresh(table);
@@ -998,8 +1154,8 @@ mod tests {
             }
         }
         // each reason and each rule often
-        for counts in [reasons, rules] {
-            assert!(counts[1..].iter().all(|&count| count > 500), "{:?}", counts);
+        for counts in [&reasons[1..], &rules[1..]] {
+            assert!(counts.iter().all(|&count| count > 500), "{:?}", counts);
         }
     }
 
@@ -1046,8 +1202,10 @@ mod tests {
     }
 
     /// What a whole-core row waits for in a run, with k cores free, one at least: 0 its phase, 1
-    /// its bit, 2 its number; None if it is picked. Once begun it is due at the end of the slot, so
-    /// that only rows that are due then too can go before it, and D is not asked of its b = 0.
+    /// its bit, 2 its number, 3 that another ran before; None if it is picked. Once begun it is due
+    /// at the end of the slot, so that only rows that are due then too can go before it, and D is
+    /// not asked of its b = 0. It runs in every slot, so that in its first alone another can have
+    /// run in the slot before and it not.
     fn waits_for(state: &State, k: u8, number: u8) -> Option<usize> {
         let phase = u64::from(state.table.rows[usize::from(number)].phase);
         let reason = why(state, k, number);
@@ -1059,16 +1217,22 @@ mod tests {
             Ok(Reason::Picked) => None,
             Ok(Reason::PassedOver { rule, .. }) if rule == Rule::Bit => Some(1),
             Ok(Reason::PassedOver { rule, .. }) if rule == Rule::RowNumber => Some(2),
+            Ok(Reason::PassedOver { rule, .. }) if rule == Rule::RanBefore => {
+                assert_eq!((state.table.format, state.time), (2, phase));
+                Some(3)
+            }
             other => panic!("{:?}", other),
         }
     }
 
     #[test]
-    fn in_a_run_a_whole_core_row_waits_for_its_phase_its_bit_or_its_number() {
+    fn what_a_whole_core_row_waits_for_in_a_run() {
         let mut chance = Chance(0x02_0009);
-        let mut met = [0; 3];
-        for _ in 0..300 {
-            let table = never_late::full_box(&mut chance);
+        // in format 1, and in format 2, where it may wait for who ran
+        let mut met = [[0; 4]; 2];
+        for made in 0..600 {
+            let mut table = never_late::full_box(&mut chance);
+            table.format = 1 + (made % 2) as u8;
             let rows = table.named_rows();
             if table.cycle > 60 || rows.iter().all(has_the_whole_core) {
                 continue;
@@ -1081,7 +1245,7 @@ mod tests {
                     }
                     for k in 1..=table.cores {
                         if let Some(cause) = waits_for(&state, k, number) {
-                            met[cause] += 1;
+                            met[usize::from(table.format - 1)][cause] += 1;
                         }
                     }
                 }
@@ -1089,7 +1253,10 @@ mod tests {
                 assert_eq!(slot(&mut state, table.cores, &mut [0; 10], 0).number, 0);
             }
         }
-        assert!(met.iter().all(|&count| count > 50), "{:?}", met);
+        for in_format in &met {
+            assert!(in_format[..3].iter().all(|&count| count > 50), "{:?}", met);
+        }
+        assert!(met[0][3] == 0 && met[1][3] > 0, "{:?}", met);
     }
 
     /// A state by chance, with which something may be amiss.
@@ -1101,6 +1268,7 @@ mod tests {
             1 => state.quanta[0] = wild,
             2 => state.last.count = wild as u8,
             3 => state.table.count = wild as u8,
+            6 => state.table.format = wild as u8,
             // near the last time no row has its share by chance
             4 | 5 => {
                 state.table.count = 0;

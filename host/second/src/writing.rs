@@ -1,9 +1,12 @@
-//! Writing tables. After 02, Five.
+//! Writing tables. After 02, Five, and of both formats since 02, Eight.
 //!
 //! "Given a cycle, cores and rows, write the table bytes into a lent buffer. What is written reads
 //! back as the same table in all places below n and M; what reads back and is written gives the
 //! same bytes; the buffer past them stays as it was; a table that the reader would refuse is
 //! refused with that number."
+//!
+//! The format is given with them: "11 means neither 1 nor 2, for a table to be written too, ahead
+//! of 12" (02, Eight).
 //!
 //! The faults of a table value and its bytes are asked of `table`; here is what comes first of the
 //! refusals, and what becomes of the buffer.
@@ -13,7 +16,7 @@ use crate::table::{self, Table};
 /// What comes back beside the buffer, as the probe's protocol has it for `P`.
 #[derive(Clone, Copy, PartialEq, Eq, Debug)]
 pub struct WriteAnswer {
-    /// 0, "done", or the refusal: 12 to 20, 22 or 37
+    /// 0, "done", or the refusal: 11 to 20, 22 or 37
     pub number: u8,
     /// How many bytes of the buffer, from its front, the table takes. "`P` refused: 0 bytes
     /// written."
@@ -45,8 +48,9 @@ pub fn write_table(table: &Table, buffer: &mut [u8]) -> WriteAnswer {
 }
 
 /// "Refusals: 12 to 20 in reading order, 22, then 37 if the buffer is too short for exactly the
-/// bytes needed." None if there is no fault and room. 18 is the reader's own, since 02, Six
-/// "e above p". (Of a table with a fault the bytes needed mean nothing, and are not looked at.)
+/// bytes needed", and since 02, Eight 11 "ahead of 12". None if there is no fault and room. 18 is
+/// the reader's own, since 02, Six "e above p". (Of a table with a fault the bytes needed mean
+/// nothing, and are not looked at.)
 fn refusal(table: &Table, needed: usize, room: usize) -> Option<u8> {
     let fault = table::fault(table);
     // slip: 37 before 22
@@ -93,7 +97,7 @@ mod tests {
     use super::*;
     use crate::never_late::Chance;
     use crate::slot::tests::table_by_chance;
-    use crate::table::tests::{value_of, EXAMPLE};
+    use crate::table::tests::{in_format, value_of, EXAMPLE};
     use crate::table::{read, Row};
 
     fn done(written: u64) -> WriteAnswer {
@@ -272,6 +276,51 @@ mod tests {
         assert_eq!(buffer[9..], TWO_ROWS[9..18]);
     }
 
+    // ---- formats (02, Eight) ----
+
+    #[test]
+    fn both_formats_are_written() {
+        for table in [example(), two_rows(), full_width(), value_of(1, 1, &[])] {
+            let (first, bytes) = written_in(&table, 400);
+            let other = Table { format: 2, ..table };
+            let (second, other_bytes) = written_in(&other, 400);
+            // "keep the bytes of format 1": all but the first
+            assert_eq!(first, second);
+            assert_eq!(bytes[0], 1);
+            assert_eq!(other_bytes, in_format(2, &bytes));
+            assert_eq!(read(&other_bytes[..second.written as usize]), Ok(other));
+        }
+        let kind = Table {
+            format: 2,
+            ..two_rows()
+        };
+        assert_eq!(written_in(&kind, 27), (done(27), in_format(2, &TWO_ROWS)));
+        assert_eq!(written_in(&kind, 26), (refused(37), vec![0xEE; 26]));
+    }
+
+    #[test]
+    fn a_format_that_is_neither_is_refused_first() {
+        for format in 0..=255 {
+            let neither = format != 1 && format != 2;
+            let number = |other| if neither { 11 } else { other };
+            let with = |table: Table| number_of(&Table { format, ..table });
+            assert_eq!(with(example()), number(0));
+            // ahead of 12 and of all that comes after it
+            assert_eq!(with(value_of(0, 1, &[])), number(12));
+            assert_eq!(with(value_of(1, 9, &[])), number(13));
+            assert_eq!(with(value_of(2, 1, &[(0, 0, 0, 2)])), number(17));
+            assert_eq!(with(value_of(2, 1, &[(1, 2, 0, 0); 3])), number(22));
+            // and of 37
+            let table = Table {
+                format,
+                ..example()
+            };
+            let expected = (refused(number(37)), vec![0xEE; 35]);
+            assert_eq!(written_in(&table, 35), expected);
+            assert_eq!(write_table(&table, &mut []), refused(number(37)));
+        }
+    }
+
     // ---- whole-core rows (02, Six) ----
 
     #[test]
@@ -366,7 +415,7 @@ mod tests {
         let before = buffer;
         assert_eq!(write_table(&full_width(), &mut buffer), refused(37));
         assert_eq!(buffer, before);
-        assert_eq!(write_table(&Table::zero(), &mut buffer), refused(12));
+        assert_eq!(write_table(&Table::zero(), &mut buffer), refused(11));
         assert_eq!(buffer, before);
     }
 
@@ -374,7 +423,8 @@ mod tests {
     fn no_buffer_at_all() {
         assert_eq!(write_table(&example(), &mut []), refused(37));
         assert_eq!(write_table(&value_of(1, 1, &[]), &mut []), refused(37));
-        assert_eq!(write_table(&Table::zero(), &mut []), refused(12));
+        assert_eq!(write_table(&value_of(0, 1, &[]), &mut []), refused(12));
+        assert_eq!(write_table(&Table::zero(), &mut []), refused(11));
     }
 
     // ---- the refusals ----
@@ -495,13 +545,15 @@ mod tests {
     /// each. At the end it is without fault and needs 1 + 4 + 3 + 28 = 36 bytes.
     fn mended_one_by_one() -> Vec<(u8, Table)> {
         let mut table = value_of(0, 9, &[(1, 2, 0, 0), (0, 0, 0, 2), (5, 6, 0, 0)]);
+        table.format = 3;
         table.boards = [7; 8];
         table.count = 33;
         table.rows[0].tank = 5;
         table.rows[1].tank = 5;
         table.rows[2].tank = 6;
         // 1·3 + 5·1 + 5·1 = 13 of 12, then 12 of 12
-        let mends: [(u8, &dyn Fn(&mut Table)); 11] = [
+        let mends: [(u8, &dyn Fn(&mut Table)); 12] = [
+            (11, &|t| t.format = 2),
             (12, &|t| t.cycle = 6),
             (13, &|t| t.cores = 2),
             (14, &|t| t.boards[1] = 8),
@@ -587,6 +639,7 @@ mod tests {
             kind: u8::MAX,
         };
         let wild = Table {
+            format: u8::MAX,
             cycle: u32::MAX,
             cores: u8::MAX,
             boards: [u8::MAX; 8],
@@ -594,8 +647,12 @@ mod tests {
             rows: [row; 32],
         };
         for length in [0, 1, 302, 303, 304] {
-            assert_eq!(written_in(&wild, length).0, refused(12));
-            assert_eq!(written_in(&Table::zero(), length).0, refused(12));
+            for value in [wild, Table::zero()] {
+                assert_eq!(written_in(&value, length).0, refused(11));
+                // of a format there is the cycle is the first
+                let value = Table { format: 2, ..value };
+                assert_eq!(written_in(&value, length).0, refused(12));
+            }
         }
     }
 
@@ -608,7 +665,9 @@ mod tests {
         // 303 is 1·256 + 47
         assert_eq!(bytes(&full_width(), 303), [0, 47, 1, 0, 0, 0, 0, 0, 0]);
         assert_eq!(bytes(&full_width(), 302), [37, 0, 0, 0, 0, 0, 0, 0, 0]);
-        assert_eq!(bytes(&Table::zero(), 400), [12, 0, 0, 0, 0, 0, 0, 0, 0]);
+        assert_eq!(bytes(&Table::zero(), 400), [11, 0, 0, 0, 0, 0, 0, 0, 0]);
+        let no_cycle = value_of(0, 1, &[]);
+        assert_eq!(bytes(&no_cycle, 400), [12, 0, 0, 0, 0, 0, 0, 0, 0]);
     }
 
     // ---- both round trips, and the reader's numbers, over tables by chance ----
@@ -622,7 +681,7 @@ mod tests {
     /// 01's table in bytes, part after part. Of a wild M or n the reader sees no more than the
     /// count.
     fn bytes_by_hand(table: &Table) -> Vec<u8> {
-        let mut bytes = vec![1];
+        let mut bytes = vec![table.format];
         push_pair(&mut bytes, (table.cycle % 65_536) as u16);
         push_pair(&mut bytes, (table.cycle / 65_536) as u16);
         bytes.push(table.cores);
@@ -645,7 +704,8 @@ mod tests {
         bytes
     }
 
-    /// A table without fault, with boards, tanks and phases by chance, and more cores at times.
+    /// A table without fault, of either format, with boards, tanks and phases by chance, and more
+    /// cores at times.
     fn sound(chance: &mut Chance) -> Table {
         let mut table = table_by_chance(chance);
         table.cores += chance.below(5) as u8;
@@ -719,7 +779,7 @@ mod tests {
             8 => row.period = [0, 1, 7, wild][usize::from(wild % 4)],
             9 => row.kind = wild as u8 % 3,
             10 => row.phase = wild,
-            _ => {}
+            _ => table.format = wild as u8 % 4,
         }
     }
 
@@ -752,7 +812,7 @@ mod tests {
             assert_eq!(buffer, after);
             numbers[usize::from(expected.number)] += 1;
         }
-        for number in [0, 12, 13, 14, 15, 16, 17, 18, 19, 20, 22, 37] {
+        for number in [0, 11, 12, 13, 14, 15, 16, 17, 18, 19, 20, 22, 37] {
             assert!(numbers[number] > 100, "{}: {}", number, numbers[number]);
         }
     }

@@ -28,7 +28,7 @@ is-ready : (c : tie.After-is-yes) → c .is-yes .result ≡ saysReady (c .before
 is-ready c = c .is-yes .ensures ∙ ap isYes (c .before .ready .ensures)
 
 returns : tie.Need-returns
-returns c = unready-key _ _ _ _ (sym (is-ready (c .before)) ∙ not-true _ (c .if1 .taken))
+returns c = unready-key _ _ _ _ _ (sym (is-ready (c .before)) ∙ not-true _ (c .if1 .taken))
 
 -- past the test it is, so it has a window
 ready-then : (c : tie.Else1) → let a = c .before .before .before in saysReady (a .args .row) (a .args .given .0) (a .args .slot .0) ≡ true
@@ -72,23 +72,26 @@ how-far-behind-requires c κs = (windowed (c .before .before .before .before .be
 time-requires : tie.Need-time-requires
 time-requires c κs = search needs
 
+end-requires : tie.Need-end-requires
+end-requires c κs = search needs
+
 packed-requires : tie.Need-packed-requires
 packed-requires c κs =
-    let known = c .before .before in
+    let known = c .before .before .before in
     let a = known .before .before .before .before .before .before .before .before in
     let row = a .args .row in
     let period : row .period < 65_536 = search needs in
     let soon = ready-is-due-soon row (a .args .given .0) (a .args .slot .0) period (ready-then (known .before .before .before .before .before)) in
     let one = bit-is-0-or-1 (row .cost) (row .period) (a .args .given .0 + 1) in
-    (omega (arith, c .time .ensures, said known .0, soon), ⊎-elim (λ z. omega (arith, said known .1, z)) (λ z. omega (arith, said known .1, z)) one, c .before .how-far-behind .ensures .1, omega (arith, a .pre))
+    (omega (arith, c .before .time .ensures, said known .0, soon), ⊎-elim (λ z. omega (arith, said known .1, z)) (λ z. omega (arith, said known .1, z)) one, c .before .before .how-far-behind .ensures .1, c .end .ensures .1)
 
 returns-3 : tie.Need-returns-3
 returns-3 c =
-    let known = c .before .before .before in
+    let known = c .before .before .before .before in
     let a = known .before .before .before .before .before .before .before .before in
     let cost : a .args .row .cost < 65_536 = search needs in
     let ready = ready-then (known .before .before .before .before .before) in
-    (ready-key _ _ _ _ ready (c .before .time .ensures ∙ said known .0) (said known .1) (c .before .before .how-far-behind .ensures .0) (c .packed .ensures .0), λ _. (c .packed .ensures .1, rank-has-key _ _ _ (windowed (known .before .before .before .before .before)) cost (omega (arith, a .pre))))
+    (ready-key _ _ _ _ _ ready (c .before .before .time .ensures ∙ said known .0) (said known .1) (c .before .before .before .how-far-behind .ensures .0) (c .before .end .ensures .0) (c .packed .ensures .0), λ _. (c .packed .ensures .1, rank-has-key _ _ _ _ (windowed (known .before .before .before .before .before)) cost (omega (arith, a .pre))))
 
 pub key-spec : {M : Type 1} → statement M
 key-spec =
@@ -104,5 +107,6 @@ key-spec =
     returns-2
     how-far-behind-requires
     time-requires
+    end-requires
     packed-requires
     returns-3)

@@ -2,18 +2,19 @@ use Prim.Native.Nat.{_-_, _<_}
 use native.Mathlib.Omega.{arith}
 use lib.ListN.{length, take}
 use Rattle.counts.specs.Numbers.{numbersOf}
+use Rattle.choice.specs.Choice.{favoursMarked}
 use Rattle.choice.proofs.Filled.{Keyed, no-keys-yet, one-more-keyed, all-keyed}
 use Rattle.choice.proofs.keys.Statement.{statement}
 use Rattle.choice.proofs.keys.Tie as tie
 
 abbrev Inv-loop : tie.InvT-loop
-Inv-loop n time rows quanta keys₀ i₀ keys i = Keyed (take n rows) (numbersOf quanta) (time .0) keys i
+Inv-loop n time rows quanta favoured keys₀ i₀ keys i = Keyed (take n rows) (numbersOf quanta) (favoursMarked favoured) (time .0) keys i
 
 abbrev μ-loop : tie.MeasureT-loop
-μ-loop n time rows quanta keys₀ i₀ keys i = n - i
+μ-loop n time rows quanta favoured keys₀ i₀ keys i = n - i
 
 loop-holds : tie.Need-loop-holds Inv-loop μ-loop
-loop-holds c = no-keys-yet _ _ _
+loop-holds c = no-keys-yet _ _ _ _
 
 mul-row : tie.Need-mul-row Inv-loop μ-loop
 mul-row c = omega arith
@@ -30,6 +31,9 @@ array-copy-out-given c = omega arith
 -- the row in question is one of the first n
 row-is : (c : tie.In-loop Inv-loop μ-loop) → let a = c .before .before in c .before .loop .i < length (take (a .args .n) (a .args .t1))
 row-is c = omega (arith, c .loop-test .taken, c .before .before .pre .all)
+
+array-read-key : tie.Need-array-read-key Inv-loop μ-loop
+array-read-key c = omega arith
 
 key-requires : tie.Need-key-requires Inv-loop μ-loop
 key-requires c κs = omega arith
@@ -67,6 +71,7 @@ keys-spec =
     array-copy-out-row
     mul-given
     array-copy-out-given
+    array-read-key
     key-requires
     mul-keys
     array-write-keys

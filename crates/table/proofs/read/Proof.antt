@@ -1,11 +1,13 @@
 use mathlib.Core.Path.{sym, _∙_}
+use Prim.Native.Nat.{_≤_}
 use native.Mathlib.Omega.{arith}
 use Rattle.facts.specs.Findings.{NoneFound}
 use Rattle.table.specs.Limits.{coreLimit}
-use Rattle.table.specs.Bytes.{coresIn, headTests}
+use Rattle.table.specs.Bytes.{coresIn, headTests, tableIn}
 use Rattle.table.proofs.Numbers.{none-met, head-says}
-use Rattle.table.proofs.Value.{not-outside}
-use Rattle.table.proofs.Answers.{head-passed, head-refused, boards-refused, count-cut, count-refused, rows-refused, after-refused, sum-refused, is-read}
+use Rattle.table.proofs.Value.{front-passed}
+use Rattle.table.proofs.Taken.{head-passed}
+use Rattle.table.proofs.Answers.{head-refused, boards-refused, count-cut, count-refused, rows-refused, after-refused, sum-refused, is-read}
 use borrow.Author.Needs.{needs}
 use Rattle.table.proofs.read.Statement.{statement}
 use Rattle.table.proofs.read.Tie as tie
@@ -23,20 +25,24 @@ refused-requires c κs = search needs
 returns : tie.Need-returns
 returns c = c .refused .ensures ∙ head-refused _ (c .before .before .fault .ensures) (c .before .if1 .taken)
 
+byte-requires : tie.Need-byte-requires
+byte-requires c κs = search needs
+
 word-requires : tie.Need-word-requires
 word-requires c κs = search needs
 
-byte-requires : tie.Need-byte-requires
-byte-requires c κs = search needs
+byte-requires-2 : tie.Need-byte-requires-2
+byte-requires-2 c κs = search needs
 
 cast-m : tie.Need-cast-m
 cast-m c = omega arith
 
 read-requires : tie.Need-read-requires
 read-requires c κs =
-    let first = c .before .before in
+    let first = c .before .before .before in
     let s = first .before .before .before .args .bytes .now in
-    omega (arith, c .byte .ensures, not-outside {low = 1} {high = coreLimit} {x = coresIn s} (head-passed s (head first) .1))
+    let few : coresIn s ≤ coreLimit = front-passed (tableIn s) (head-passed s (head first)) .2 .1 in
+    omega (arith, c .byte2 .ensures, few)
 
 refused-requires-2 : tie.Need-refused-requires-2
 refused-requires-2 c κs = search needs
@@ -44,8 +50,9 @@ refused-requires-2 c κs = search needs
 returns-2 : tie.Need-returns-2
 returns-2 c =
     let read = c .before .before .before in
-    let first = read .before .before .before in
-    c .refused2 .ensures ∙ boards-refused _ (head first) (read .before .before .word .ensures) (read .before .byte .ensures) (read .read .ensures) (c .before .if2 .taken)
+    let first = read .before .before .before .before in
+    c .refused2 .ensures
+    ∙ boards-refused _ (head first) (read .before .before .word .ensures) (read .before .byte2 .ensures) (read .read .ensures) (c .before .if2 .taken)
 
 add-at : tie.Need-add-at
 add-at c = omega arith
@@ -57,11 +64,13 @@ returns-3 : tie.Need-returns-3
 returns-3 c =
     let second = c .before .before in
     let boards = second .before .before in
-    let first = boards .before .before .before in
-    c .refused3 .ensures ∙ count-cut _ (head first) (boards .before .before .word .ensures) (boards .before .byte .ensures) (boards .read .ensures) (second .if2 .left) (c .before .if3 .taken)
+    let first = boards .before .before .before .before in
+    c .refused3 .ensures
+    ∙ count-cut _ (head first) (boards .before .before .word .ensures) (boards .before .byte2 .ensures) (boards .read .ensures)
+    (second .if2 .left) (c .before .if3 .taken)
 
-byte-requires-2 : tie.Need-byte-requires-2
-byte-requires-2 c κs = search needs
+byte-requires-3 : tie.Need-byte-requires-3
+byte-requires-3 c κs = search needs
 
 refused-requires-4 : tie.Need-refused-requires-4
 refused-requires-4 c κs = search needs
@@ -72,14 +81,16 @@ returns-4 c =
     let third = count .before in
     let second = third .before in
     let boards = second .before .before in
-    let first = boards .before .before .before in
-    c .refused4 .ensures ∙ count-refused _ (head first) (boards .before .before .word .ensures) (boards .before .byte .ensures) (boards .read .ensures) (second .if2 .left) (third .if3 .left) (count .byte2 .ensures) (c .before .if4 .taken)
+    let first = boards .before .before .before .before in
+    c .refused4 .ensures
+    ∙ count-refused _ (head first) (boards .before .before .word .ensures) (boards .before .byte2 .ensures) (boards .read .ensures)
+    (second .if2 .left) (third .if3 .left) (count .byte3 .ensures) (c .before .if4 .taken)
 
 cast-n : tie.Need-cast-n
 cast-n c = omega (arith, c .if4 .left)
 
 add-read : tie.Need-add-read
-add-read c = omega (arith, c .before .before .before .before .before .before .byte .ok)
+add-read c = omega (arith, c .before .before .before .before .before .before .byte2 .ok)
 
 read-requires-2 : tie.Need-read-requires-2
 read-requires-2 c κs = (omega (arith, c .before .before .if3 .left), c .if4 .left)
@@ -95,17 +106,19 @@ returns-5 c =
     let third = count .before in
     let second = third .before in
     let boards = second .before .before in
-    let first = boards .before .before .before in
-    c .refused5 .ensures ∙ rows-refused _ (head first) (boards .before .before .word .ensures) (boards .before .byte .ensures) (boards .read .ensures) (second .if2 .left) (third .if3 .left) (count .byte2 .ensures) (fourth .if4 .left) (rows .read2 .ensures .0) (c .before .if5 .taken)
+    let first = boards .before .before .before .before in
+    c .refused5 .ensures
+    ∙ rows-refused _ (head first) (boards .before .before .word .ensures) (boards .before .byte2 .ensures) (boards .read .ensures)
+    (second .if2 .left) (third .if3 .left) (count .byte3 .ensures) (fourth .if4 .left) (rows .read2 .ensures .0) (c .before .if5 .taken)
 
 add-if6 : tie.Need-add-if6
-add-if6 c = omega (arith, c .before .before .before .before .before .before .before .before .before .byte .ok)
+add-if6 c = omega (arith, c .before .before .before .before .before .before .before .before .before .byte2 .ok)
 
 mul-if6 : tie.Need-mul-if6
 mul-if6 c = omega (arith, c .before .before .before .if4 .left)
 
 add-if6-2 : tie.Need-add-if6-2
-add-if6-2 c = omega (arith, c .before .before .before .if4 .left, c .before .before .before .before .before .before .before .before .before .byte .ok)
+add-if6-2 c = omega (arith, c .before .before .before .if4 .left, c .before .before .before .before .before .before .before .before .before .byte2 .ok)
 
 refused-requires-6 : tie.Need-refused-requires-6
 refused-requires-6 c κs = search needs
@@ -119,8 +132,10 @@ returns-6 c =
     let third = count .before in
     let second = third .before in
     let boards = second .before .before in
-    let first = boards .before .before .before in
-    c .refused6 .ensures ∙ after-refused _ (head first) (boards .before .before .word .ensures) (boards .before .byte .ensures) (boards .read .ensures) (second .if2 .left) (third .if3 .left) (count .byte2 .ensures) (fourth .if4 .left) (rows .read2 .ensures .0) (fifth .if5 .left) (c .before .if6 .taken)
+    let first = boards .before .before .before .before in
+    c .refused6 .ensures
+    ∙ after-refused _ (head first) (boards .before .before .word .ensures) (boards .before .byte2 .ensures) (boards .read .ensures)
+    (second .if2 .left) (third .if3 .left) (count .byte3 .ensures) (fourth .if4 .left) (rows .read2 .ensures .0) (fifth .if5 .left) (c .before .if6 .taken)
 
 is-overfull-requires : tie.Need-is-overfull-requires
 is-overfull-requires c κs = search needs
@@ -139,9 +154,11 @@ returns-7 c =
     let third = count .before in
     let second = third .before in
     let boards = second .before .before in
-    let first = boards .before .before .before in
+    let first = boards .before .before .before .before in
     c .refused7 .ensures
-    ∙ sum-refused _ (head first) (boards .before .before .word .ensures) (boards .before .byte .ensures) (boards .read .ensures) (second .if2 .left) (third .if3 .left) (count .byte2 .ensures) (fourth .if4 .left) (rows .read2 .ensures .0) (fifth .if5 .left) (sixth .if6 .left) (rows .read2 .ensures .1 (fifth .if5 .left)) (sym (sum .is-overfull .ensures) ∙ c .before .if7 .taken)
+    ∙ sum-refused _ (head first) (boards .before .before .word .ensures) (boards .before .byte2 .ensures) (boards .read .ensures)
+    (second .if2 .left) (third .if3 .left) (count .byte3 .ensures) (fourth .if4 .left) (rows .read2 .ensures .0)
+    (fifth .if5 .left) (sixth .if6 .left) (rows .read2 .ensures .1 (fifth .if5 .left)) (sym (sum .is-overfull .ensures) ∙ c .before .if7 .taken)
 
 returns-8 : tie.Need-returns-8
 returns-8 c =
@@ -155,8 +172,11 @@ returns-8 c =
     let third = count .before in
     let second = third .before in
     let boards = second .before .before in
-    let first = boards .before .before .before in
-    is-read _ (head first) (boards .before .before .word .ensures) (boards .before .byte .ensures) (boards .read .ensures) (second .if2 .left) (third .if3 .left) (count .byte2 .ensures) (fourth .if4 .left) (rows .read2 .ensures .0) (fifth .if5 .left) (sixth .if6 .left) (rows .read2 .ensures .1 (fifth .if5 .left)) (sym (sum .is-overfull .ensures) ∙ seventh .if7 .left)
+    let first = boards .before .before .before .before in
+    is-read _ (head first) (boards .before .before .word .ensures) (boards .before .byte2 .ensures) (boards .read .ensures)
+    (second .if2 .left) (third .if3 .left) (count .byte3 .ensures) (fourth .if4 .left) (rows .read2 .ensures .0)
+    (fifth .if5 .left) (sixth .if6 .left) (rows .read2 .ensures .1 (fifth .if5 .left)) (sym (sum .is-overfull .ensures) ∙ seventh .if7 .left)
+    (boards .before .before .before .byte .ensures)
 
 pub read-spec : {M : Type 1} → statement M
 read-spec =
@@ -165,8 +185,9 @@ read-spec =
     fault-requires
     refused-requires
     returns
-    word-requires
     byte-requires
+    word-requires
+    byte-requires-2
     cast-m
     read-requires
     refused-requires-2
@@ -174,7 +195,7 @@ read-spec =
     add-at
     refused-requires-3
     returns-3
-    byte-requires-2
+    byte-requires-3
     refused-requires-4
     returns-4
     cast-n

@@ -13,7 +13,7 @@ picks-requires c κs = search needs
 returns : tie.Need-returns
 returns c =
     let a = c .before .before .before .before in
-    c .picks .ensures .1 ∙ state-chosen-as-pd2 (a .args .state) (a .args .k) (a .pre .0) (a .pre .1)
+    (rw (a .pre .1) at (c .picks .ensures .1)) ∙ state-chosen-as-pd2 (a .args .state) (a .args .k) (a .pre .0) (a .pre .2)
 
 pub picks-spec : {M : Type 1} → statement M
 picks-spec = tie.close (tie.spec cast-n picks-requires returns)

@@ -10,9 +10,10 @@ use Rattle.choice.specs.Arrays.{InPlace}
 use Rattle.cores.specs.Sets.{size, namesPast}
 use Rattle.cores.specs.Fault.{misremembers}
 use Rattle.dispatcher.specs.declared.Answer.the-variants.{Broken, Stopped, AtLimit, NoSuchCore, NoRoom}
-use Rattle.dispatcher.specs.State.{timeOf}
+use Rattle.dispatcher.specs.State.{rowsIn, timeOf}
 use Rattle.dispatcher.specs.Broken.{broken}
 use Rattle.dispatcher.specs.Slot.{picksIn}
+use Rattle.dispatcher.proofs.Favoured.{keys-by-marks}
 use Rattle.dispatcher.proofs.BrokenBy.{by-fault, by-time, in-place, testable, by-rows, by-memory}
 use Rattle.dispatcher.proofs.Refused.{first-30, first-31, first-32, first-35, past-end, no-room, cause-is, no-cause}
 use Rattle.dispatcher.proofs.Picking.{picks-are-counted}
@@ -60,12 +61,15 @@ arrays : (c : tie.Else2) → let s = c .before .before .before .before .args .se
 arrays c =
     let a = c .before .before .before .before in
     in-place (a .args .self) (no-fault (c .before .before))
-    (sym (length-map (a .args .self .table .rows) _) ∙ a .good .0 .1 .1 .0 .1 .1 .1 .1 .1 .1 .0 .1 .0 .1)
+    (sym (length-map (a .args .self .table .rows) _) ∙ a .good .0 .1 .1 .0 .1 .1 .1 .1 .1 .1 .1 .0 .1 .0 .1)
     (sym (length-map (a .args .self .quanta) _) ∙ a .good .0 .1 .1 .1 .1 .1 .0 .1 .0 .1)
+
+favoured-requires : tie.Need-favoured-requires
+favoured-requires c κs = search needs
 
 look-requires : tie.Need-look-requires
 look-requires c κs =
-    let passed = c .before .before .before .before in
+    let passed = c .before .before .before .before .before in
     let a = passed .before .before .before .before in
     (testable (a .args .self) (no-fault (passed .before .before)) (arrays passed) (in-time passed), a .pre)
 
@@ -75,7 +79,7 @@ refusal-requires-3 c κs = search needs
 returns-3 : tie.Need-returns-3
 returns-3 c =
     let looked = c .before .before in
-    let passed = looked .before .before .before .before .before in
+    let passed = looked .before .before .before .before .before .before in
     let a = passed .before .before .before .before .args in
     rw (c .refusal3 .ensures)
     (cause-is _ _ _ _ Broken refl (λ buffer long. first-30 (a .self) (a .free) buffer (a .place) (sym (by-rows (a .self) (no-fault (passed .before .before)) (in-time passed) (sym (looked .look .ensures .broken) ∙ c .before .if3 .taken)))))
@@ -84,10 +88,10 @@ is-faulty-requires : tie.Need-is-faulty-requires
 is-faulty-requires c κs = search needs
 
 -- whether the memory breaks the state is all that is left
-by-last : (c : tie.After-is-faulty) → c .is-faulty .result ≡ broken (c .before .before .before .before .before .before .before .before .before .before .before .args .self)
+by-last : (c : tie.After-is-faulty) → c .is-faulty .result ≡ broken (c .before .before .before .before .before .before .before .before .before .before .before .before .args .self)
 by-last c =
     let looked = c .before .before in
-    let passed = looked .before .before .before .before .before in
+    let passed = looked .before .before .before .before .before .before in
     let s = passed .before .before .before .before .args .self in
     c .is-faulty .ensures
     ∙ (ap (λ n. misremembers (s .last) (λ row. ltb row n) (s .table .cores)) (sym (arrays passed .all))
@@ -99,12 +103,12 @@ refusal-requires-4 c κs = search needs
 returns-4 : tie.Need-returns-4
 returns-4 c =
     let asked = c .before .before in
-    let a = asked .before .before .before .before .before .before .before .before .before .before .before .args in
+    let a = asked .before .before .before .before .before .before .before .before .before .before .before .before .args in
     rw (c .refusal4 .ensures)
     (cause-is _ _ _ _ Broken refl (λ buffer long. first-30 (a .self) (a .free) buffer (a .place) (sym (by-last asked) ∙ c .before .if4 .taken)))
 
 -- the state is whole
-whole : (c : tie.Else4) → broken (c .before .before .before .before .before .before .before .before .before .before .before .before .args .self) ≡ false
+whole : (c : tie.Else4) → broken (c .before .before .before .before .before .before .before .before .before .before .before .before .before .args .self) ≡ false
 whole c = sym (by-last (c .before)) ∙ c .if4 .left
 
 refusal-requires-5 : tie.Need-refusal-requires-5
@@ -113,7 +117,7 @@ refusal-requires-5 c κs = search needs
 returns-5 : tie.Need-returns-5
 returns-5 c =
     let sound = c .before .before in
-    let a = sound .before .before .before .before .before .before .before .before .before .before .before .before .args in
+    let a = sound .before .before .before .before .before .before .before .before .before .before .before .before .before .args in
     rw (c .refusal5 .ensures) (cause-is _ _ _ _ Stopped refl (λ buffer long. first-31 (a .self) (a .free) buffer (a .place) (whole sound) (c .before .if5 .taken)))
 
 time-requires-2 : tie.Need-time-requires-2
@@ -126,14 +130,14 @@ returns-6 : tie.Need-returns-6
 returns-6 c =
     let timed = c .before .before in
     let sound = timed .before .before in
-    let passed = sound .before .before .before .before .before .before .before .before in
+    let passed = sound .before .before .before .before .before .before .before .before .before in
     let a = passed .before .before .before .before .args in
     let at-limit : timeOf (a .self) ≡ timeLimit = omega (arith, c .before .if6 .taken, timed .time2 .ensures, in-time passed) in
     rw (c .refusal6 .ensures)
     (cause-is _ _ _ _ AtLimit refl (λ buffer long. first-32 (a .self) (a .free) buffer (a .place) (whole sound) (timed .before .if5 .left) at-limit))
 
 -- a slot is left
-slot-left : (c : tie.Else6) → timeOf (c .before .before .before .before .before .before .before .before .before .before .before .before .before .before .before .args .self) < timeLimit
+slot-left : (c : tie.Else6) → timeOf (c .before .before .before .before .before .before .before .before .before .before .before .before .before .before .before .before .args .self) < timeLimit
 slot-left c = omega (arith, c .if6 .left, c .before .time2 .ensures)
 
 names-past-requires : tie.Need-names-past-requires
@@ -148,14 +152,14 @@ returns-7 c =
     let left = named .before in
     let runs = left .before .before in
     let sound = runs .before in
-    let a = sound .before .before .before .before .before .before .before .before .before .before .before .before .args in
+    let a = sound .before .before .before .before .before .before .before .before .before .before .before .before .before .args in
     rw (c .refusal7 .ensures)
     (cause-is _ _ _ _ NoSuchCore refl
     (λ buffer long. first-35 (a .self) (a .free) buffer (a .place) (whole sound) (runs .if5 .left) (slot-left left) (sym (named .names-past .ensures) ∙ c .before .if7 .taken)))
 
 -- the set names cores that are there
 there : (c : tie.Else7) →
-    let a = c .before .before .before .before .before .before .before .before .before .before .before .before .before .before .before .before .before .args in
+    let a = c .before .before .before .before .before .before .before .before .before .before .before .before .before .before .before .before .before .before .args in
     namesPast (a .self .table .cores) (a .free) ≡ false
 there c = sym (c .before .names-past .ensures) ∙ c .if7 .left
 
@@ -168,7 +172,7 @@ returns-8 c =
     let left = set .before .before in
     let runs = left .before .before in
     let sound = runs .before in
-    let a = sound .before .before .before .before .before .before .before .before .before .before .before .before .args in
+    let a = sound .before .before .before .before .before .before .before .before .before .before .before .before .before .args in
     let past = c .before .if8 .taken in
     rw (c .refusal8 .ensures)
     (cause-is _ _ _ _ NoRoom refl
@@ -186,15 +190,19 @@ cast-if9 c = search needs
 add-if9 : tie.Need-add-if9
 add-if9 c = search needs
 
+-- there are no more rows than a table has places for, so that their marks say who is favoured
+few-rows : (c : tie.Else5) → length (rowsIn (c .before .before .before .before .before .before .before .before .before .before .before .before .before .before .args .self)) ≤ 32
+few-rows c = let passed = c .before .before .before .before .before .before .before .before .before .before in omega (arith, arrays passed .few, arrays passed .all)
+
 -- the keys of the ready rows are found, and so the rows that are picked are counted
 counted : (c : tie.After-picked-of) →
-    let a = c .before .before .before .before .before .before .before .before .before .before .before .before .before .before .before .before .before .before .before .before .args in
+    let a = c .before .before .before .before .before .before .before .before .before .before .before .before .before .before .before .before .before .before .before .before .before .args in
     c .picked-of .result ≡ length (picksIn (a .self) (size (a .free)))
 counted c =
     let runs = c .before .before .before .before .before .before .before in
     let looked = runs .before .before .before .before in
-    let a = looked .before .before .before .before .before .before .before .before .before .args in
-    let ready = looked .look .ensures .ready (runs .if5 .left) (runs .before .before .before .if3 .left) in
+    let a = looked .before .before .before .before .before .before .before .before .before .before .args in
+    let ready = keys-by-marks (a .self) (few-rows runs) (looked .before .before .favoured .ensures) (looked .look .ensures .ready (runs .if5 .left) (runs .before .before .before .if3 .left)) in
     c .picked-of .ensures ∙ (ap (λ k. min k (looked .look .result .found)) (c .before .how-many .ensures .0) ∙ sym (picks-are-counted (a .self) (size (a .free)) ready))
 
 refusal-requires-9 : tie.Need-refusal-requires-9
@@ -207,7 +215,7 @@ returns-9 c =
     let left = set .before .before in
     let runs = left .before .before in
     let sound = runs .before in
-    let a = sound .before .before .before .before .before .before .before .before .before .before .before .before .args in
+    let a = sound .before .before .before .before .before .before .before .before .before .before .before .before .before .args in
     let short = c .before .if9 .taken in
     let count = counted (c .before .before) in
     rw (c .refusal9 .ensures)
@@ -230,7 +238,8 @@ returns-10 c =
       inside = inside .if8 .left;
       room = omega (arith, c .if9 .left);
     })
-    (runs .before .before .before .before .look .ensures .ready (runs .if5 .left) (runs .before .before .before .if3 .left))
+    (keys-by-marks (runs .before .before .before .before .before .before .before .before .before .before .before .before .before .before .args .self) (few-rows runs) (runs .before .before .before .before .before .before .favoured .ensures)
+    (runs .before .before .before .before .look .ensures .ready (runs .if5 .left) (runs .before .before .before .if3 .left)))
 
 pub cause-spec : {M : Type 1} → statement M
 cause-spec =
@@ -243,6 +252,7 @@ cause-spec =
     refusal-requires-2
     returns-2
     cast-n
+    favoured-requires
     look-requires
     refusal-requires-3
     returns-3

@@ -25,10 +25,10 @@ fits c =
     let a = c .before .before .before in
     let cost : a .args .row .cost < 65_536 = search needs in
     let period : a .args .row .period < 65_536 = search needs in
-    (product-is-small {n = a .args .time - a .args .row .phase} (omega (arith, a .pre .time)) cost, product-is-small {n = a .args .given} (omega (arith, a .pre .time, a .pre .quanta)) period)
+    (product-is-small {n = a .args .time - a .args .row .phase} (omega (arith, a .pre .0 .time)) cost, product-is-small {n = a .args .given} (omega (arith, a .pre .0 .time, a .pre .0 .quanta)) period)
 
 sub-share : tie.Need-sub-share
-sub-share c = let a = c .before .before .before in past-phase _ _ _ _ (a .pre)
+sub-share c = let a = c .before .before .before in past-phase _ _ _ (a .pre .0)
 
 mul-share : tie.Need-mul-share
 mul-share c = omega (arith, fits c .0)
@@ -43,7 +43,7 @@ add-lacking c =
     omega (arith, fits c .1, period)
 
 sub-lacking : tie.Need-sub-lacking
-sub-lacking c = let a = c .before .before .before in omega (arith, owed-less _ _ _ _ (a .pre))
+sub-lacking c = let a = c .before .before .before in omega (arith, owed-less _ _ _ (a .pre .0))
 
 div-whole : tie.Need-div-whole
 div-whole c = search needs
@@ -55,7 +55,7 @@ soon : (c : tie.After-struct-known3) →
 soon c =
     let a = c .before .before .before in
     let period : a .args .row .period < 65_536 = search needs in
-    omega (arith, few-slots _ _ _ _ (a .pre) refl, period, a .pre .time)
+    omega (arith, few-slots _ _ _ (a .pre .0) refl, period, a .pre .0 .time)
 
 add-whole : tie.Need-add-whole
 add-whole c = omega (arith, soon c)
@@ -72,13 +72,13 @@ add-packed c = omega (arith, soon (c .before))
 packed-requires : tie.Need-packed-requires
 packed-requires c κs =
     let a = c .before .before .before .before in
-    (omega (arith, soon (c .before)), omega arith, omega (arith, a .pre .number))
+    (omega (arith, soon (c .before)), omega arith, a .pre .1)
 
 returns : tie.Need-returns
 returns c =
     let a = c .before .before .before .before .before in
     let cost : a .args .row .cost < 65_536 = search needs in
-    key-of-whole _ _ _ _ (a .pre) refl cost refl (c .before .if1 .taken) (c .packed .ensures)
+    key-of-whole _ _ _ (a .pre .0) refl cost (a .args .end) refl (c .before .if1 .taken) (c .packed .ensures)
 
 mul-packed-2 : tie.Need-mul-packed-2
 mul-packed-2 c = omega (arith, soon (c .before))
@@ -91,18 +91,18 @@ far-requires c κs =
     let a = c .before .before .before .before in
     let cost : a .args .row .cost < 65_536 = search needs in
     let period : a .args .row .period < 65_536 = search needs in
-    (omega (arith, c .if1 .left), mod-lt _ (a .pre .can .cost), below-period _ _ _ _ (a .pre) refl cost (c .if1 .left), period)
+    (omega (arith, c .if1 .left), mod-lt _ (a .pre .0 .can .cost), below-period _ _ _ (a .pre .0) refl cost (c .if1 .left), period)
 
 packed-requires-2 : tie.Need-packed-requires-2
 packed-requires-2 c κs =
     let a = c .before .before .before .before .before in
-    (omega (arith, soon (c .before .before)), c .far .ensures .1, omega (arith, a .pre .number))
+    (omega (arith, soon (c .before .before)), c .far .ensures .1, a .pre .1)
 
 returns-2 : tie.Need-returns-2
 returns-2 c =
     let a = c .before .before .before .before .before .before in
     let cost : a .args .row .cost < 65_536 = search needs in
-    key-of-part _ _ _ _ (a .pre) refl cost (c .before .before .if1 .left) (c .before .far .ensures .0) (c .packed2 .ensures)
+    key-of-part _ _ _ (a .pre .0) refl cost (c .before .before .if1 .left) (a .args .end) (c .before .far .ensures .0) (c .packed2 .ensures)
 
 pub key-spec : {M : Type 1} → statement M
 key-spec =

@@ -14,7 +14,7 @@ returns : tie.Need-returns
 returns c = search needs
 
 -- the buffer begins before the request's end
-begins : (c : tie.Else1) → 598 ≤ c .before .slot-end .result
+begins : (c : tie.Else1) → 599 ≤ c .before .slot-end .result
 begins c = c .before .slot-end .ensures .1 (omega (arith, c .if1 .left))
 
 byte-requires : tie.Need-byte-requires

@@ -24,7 +24,7 @@ returns c =
     let second = third .before .before .before .before in
     let first = second .before .before .before .before in
     let args = first .before .before .before .args in
-    head-stored (args .buffer .now) (args .cycle) (args .cores) (first .put .ensures .1) (second .put2 .ensures .1) (third .put3 .ensures .1)
+    head-stored (args .buffer .now) (args .format) (args .cycle) (args .cores) (first .put .ensures .1) (second .put2 .ensures .1) (third .put3 .ensures .1)
 
 pub put-head-spec : {M : Type 1} → statement M
 put-head-spec = tie.close (tie.spec put-requires put-requires-2 put-requires-3 same-length returns)

@@ -1,8 +1,10 @@
-use mathlib.Core.Path.{_≡_}
+use mathlib.Core.Path.{_≡_, refl, _∙_}
+use mathlib.Core.Bool.{Bool, true, false, cond, _&&_}
 use Prim.Native.Nat.{_≤_}
 use native.Mathlib.Omega.{arith}
-use Rattle.pd2.specs.Order.{Rank, rankOf}
-use Rattle.why.proofs.Asked.{by-deadline, by-bit, by-row-at-bit-0, by-group, by-row, bit-is-small}
+use Rattle.pd2.specs.Order.{Rank, rankOf, withFavour}
+use Rattle.why.specs.declared.Rule.the-variants.{RowNumber, RanBefore}
+use Rattle.why.proofs.Asked.{by-deadline, by-bit, last-at-bit-0, by-group, last-at-bit-1, bit-is-small}
 use borrow.Author.Needs.{needs}
 use Rattle.why.proofs.order.rule_between.Statement.{statement}
 use Rattle.why.proofs.order.rule_between.Tie as tie
@@ -15,7 +17,7 @@ end-of-requires-2 c κs = search needs
 
 -- the two ranks
 abbrev first : tie.Start → Rank
-first c = rankOf (c .args .ahead) 0 (c .args .had .0)
+first c = withFavour (rankOf (c .args .ahead) 0 (c .args .had .0)) (c .args .kinder)
 
 abbrev second : tie.Start → Rank
 second c = rankOf (c .args .behind) 0 (c .args .given .0)
@@ -41,12 +43,20 @@ returns-2 c =
     (omega (arith, one, c .if2 .taken, ends .end-of2 .ensures, ends .before .end-of .ensures))
     (omega (arith, one, c .if2 .taken, ends .end-of2 .ensures, ends .before .end-of .ensures))
 
+last-rule-requires : tie.Need-last-rule-requires
+last-rule-requires c κs = search needs
+
+-- between full ties only who is favoured is left to be asked
+last : (kinder : Bool) → cond kinder RanBefore RowNumber ≡ cond (kinder && true) RanBefore RowNumber
+last true = refl
+last false = refl
+
 returns-3 : tie.Need-returns-3
 returns-3 c =
-    let due = c .before .before .before .before .before in
+    let due = c .before .before .before .before .before .before in
     let ends = due .before .before .before in
     let a = ends .before .before in
-    by-row-at-bit-0 (first a) (second a) (not-sooner due) (omega (arith, c .if3 .taken, ends .before .end-of .ensures))
+    c .last-rule .ensures ∙ last (a .args .kinder) ∙ last-at-bit-0 (first a) (second a) (not-sooner due) (omega (arith, c .before .if3 .taken, ends .before .end-of .ensures))
 
 -- past the tests of the bits both are 1
 both-1 : (c : tie.Else3) → let a = c .before .before .before .before .before .before .before .before .before .before in (first a .b ≡ 1) × (second a .b ≡ 1)
@@ -74,13 +84,16 @@ returns-4 c =
     let a = due .before .before .before .before .before in
     by-group (first a) (second a) (not-sooner due) (both-1 bits .0) (both-1 bits .1) (omega (arith, c .if4 .taken, groups .group-of2 .ensures, groups .before .group-of .ensures))
 
+last-rule-requires-2 : tie.Need-last-rule-requires-2
+last-rule-requires-2 c κs = search needs
+
 returns-5 : tie.Need-returns-5
 returns-5 c =
-    let groups = c .before in
+    let groups = c .before .before in
     let bits = groups .before .before in
     let due = bits .before .before .before .before .before in
     let a = due .before .before .before .before .before in
-    by-row (first a) (second a) (not-sooner due) (both-1 bits .0) (both-1 bits .1) (omega (arith, c .if4 .left, groups .group-of2 .ensures, groups .before .group-of .ensures))
+    c .last-rule2 .ensures ∙ last (a .args .kinder) ∙ last-at-bit-1 (first a) (second a) (not-sooner due) (both-1 bits .0) (both-1 bits .1) (omega (arith, c .before .if4 .left, groups .group-of2 .ensures, groups .before .group-of .ensures))
 
 pub rule-between-spec : {M : Type 1} → statement M
 rule-between-spec =
@@ -90,8 +103,10 @@ rule-between-spec =
     end-of-requires-2
     returns
     returns-2
+    last-rule-requires
     returns-3
     group-of-requires
     group-of-requires-2
     returns-4
+    last-rule-requires-2
     returns-5)
