@@ -20,12 +20,13 @@ pub struct Row {
     pub kind: u8,
 }
 
+// The format stands behind n, where a byte is free: in front it would make every copy of a table longer.
 pub struct Table {
-    pub format: u8,
     pub cycle: u32,
     pub cores: u8,
     pub boards: [u8; 8],
     pub n: u8,
+    pub format: u8,
     pub rows: [Row; 32],
 }
 
