@@ -12,7 +12,7 @@ use Rattle.facts.proofs.Counting.{same-count}
 use Rattle.table.specs.Limits.{coreLimit}
 use Rattle.trace.specs.Records.{names}
 use Rattle.cores.specs.declared.Placement.{Placement}
-use Rattle.cores.specs.Placement.{rowIn, coreIn, placesOf, placement, ranOn, ranBefore}
+use Rattle.cores.specs.Placement.{rowIn, coreIn, placesOf, placement, ranBefore}
 use Rattle.cores.specs.Cores.{letsStay, stays, ownCore, wanted, leftOver, inTurn, coresFor, placedFor}
 use Rattle.cores.specs.Fault.{badPlace, misremembers}
 

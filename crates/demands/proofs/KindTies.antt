@@ -2,7 +2,7 @@
 use Prim.Native.Nat.{ℕ, _<_}
 use mathlib.Core.Path.{_≡_, refl, sym, ap, _∙_}
 use mathlib.Core.List.{List, [], _∷_, flatMap}
-use mathlib.Core.Bool.{Bool, true, false, cond, not, _&&_, _||_, Bool·beq, true≢false}
+use mathlib.Core.Bool.{Bool, true, false, not, _&&_, _||_, Bool·beq, true≢false}
 use mathlib.Core.Logic.{_↔_}
 use native.Mathlib.Nat.{mod-eq-of-lt}
 use native.Mathlib.Omega.{arith}
@@ -27,7 +27,7 @@ use Rattle.table.specs.Fits.{rowsFit}
 use Rattle.table.specs.Writing.{bytesOfRow, bytesOfTable, writeNumber, writing, bufferAfter}
 use Rattle.pd2.specs.Ready.{ready, late}
 use Rattle.pd2.specs.Share.{lower, upper}
-use Rattle.pd2.specs.Order.{FullTie, Before, before}
+use Rattle.pd2.specs.Order.{Before, before}
 use Rattle.pd2.specs.Picks.{picked}
 use Rattle.pd2.specs.Choice.{favoursNobody, readyIn, pd2Picks, given}
 use Rattle.pd2.specs.InFormat1.{BeforeIn01}
@@ -57,7 +57,7 @@ use Rattle.why.specs.Lowest.{lowestPicked}
 use Rattle.why.specs.Reasons.{isReady, rankIn, goesBefore}
 use Rattle.why.specs.Why.{readyFrom, reasonOf, whyOf}
 use Rattle.demands.specs.Bench.{inFormat}
-use Rattle.demands.specs.KindLaws.{fourHalves, halvesAfter}
+use Rattle.demands.specs.KindLaws.{halvesAfter}
 use Rattle.demands.specs.Inputs.{Bytes, Possible, CanAsk, CanWrite}
 use Rattle.demands.specs.ShutOut.{Dispatcher, IsDispatcher, numberOf, rowsWritten}
 use Rattle.demands.specs.KindTies.{KeepsTheBytes, FormatOneIsIn01, KindTie, startsAfter, StartsLess, KindShutOut, KindTies}

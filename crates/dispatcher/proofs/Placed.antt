@@ -1,12 +1,11 @@
 -- A core for each picked row: what a slot answers and remembers, and what stays as it was. Assumes nothing.
-use Prim.Native.Nat.{ℕ, zero, suc, _+_, _≤_, _<_}
+use Prim.Native.Nat.{ℕ, zero, suc, _+_}
 use mathlib.Core.Path.{_≡_, refl, sym, ap, ap₂, _∙_}
 use mathlib.Core.List.{List}
 use mathlib.Core.Bool.{Bool, false}
 use mathlib.Core.Logic.{_⊎_, inl, inr}
 use native.Mathlib.Omega.{arith}
 use lib.ListN.{length}
-use Rattle.facts.specs.Findings.{firstFound}
 use Rattle.counts.proofs.Numbers.{as-counted}
 use Rattle.pd2.specs.Choice.{given}
 use Rattle.trace.specs.Record.{recordOf, withRecord}

@@ -5,7 +5,7 @@ use mathlib.Core.List.{List}
 use mathlib.Core.Bool.{Bool, true, false}
 use native.Mathlib.Omega.{arith}
 use borrow.Author.Tests.{lt-ltb}
-use lib.ListN.{length, getD, take}
+use lib.ListN.{length, getD}
 use lib.Seq.{take-all}
 use Rattle.facts.proofs.Listing.{listed-rise, listed-pass}
 use Rattle.table.specs.Limits.{coreLimit}
@@ -19,7 +19,7 @@ use Rattle.trace.specs.Record.{marked}
 use Rattle.trace.specs.Records.{names}
 use Rattle.cores.specs.Sets.{size, namesPast}
 use Rattle.cores.specs.Placement.{placesOf, coreIn, rowsPlaced, coresPlaced, placement}
-use Rattle.cores.specs.Best.{moves, IsPlacement, IsBest}
+use Rattle.cores.specs.Best.{moves, IsBest}
 use Rattle.cores.specs.Cores.{Rising, coresFor}
 use Rattle.cores.specs.Fault.{misremembers}
 use Rattle.cores.proofs.Moves.{none-must-move}

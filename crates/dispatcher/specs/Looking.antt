@@ -15,7 +15,7 @@ use Rattle.table.specs.declared.Row.{Row}
 use Rattle.table.specs.Limits.{rowLimit}
 use Rattle.pd2.specs.Share.{within, CanBe}
 use Rattle.pd2.specs.Ready.{ready}
-use Rattle.pd2.specs.Choice.{rowAt, quantaAt, rankAt, readyIn}
+use Rattle.pd2.specs.Choice.{quantaAt, rankAt, readyIn}
 use Rattle.trace.specs.Records.{names}
 use Rattle.choice.specs.Keys.{endOf, keyFor, HasKey, keyIn}
 use Rattle.dispatcher.specs.declared.Stand.{Stand}

@@ -1,7 +1,7 @@
 -- In format 1 the order is 01's. Assumes nothing.
-use mathlib.Core.Path.{_≡_, sym, _∙_}
+use mathlib.Core.Path.{sym, _∙_}
 use mathlib.Core.Bool.{true≢false}
-use Rattle.pd2.specs.Order.{Rank, Before}
+use Rattle.pd2.specs.Order.{Before}
 use Rattle.pd2.specs.InFormat1.{BeforeIn01, AlikeIsIn01}
 
 pub alike-is-in-01 : AlikeIsIn01
