@@ -10,7 +10,7 @@ static const char *meaning(uint8_t number) {
     switch (number) {
     case ZB_DONE: return "done";
     case ZB_TABLE_CUT: return "table ends inside a field or row";
-    case ZB_TABLE_FORMAT: return "format is not 1";
+    case ZB_TABLE_FORMAT: return "format is neither 1 nor 2";
     case ZB_TABLE_CYCLE: return "L outside 1 to 1,000,000";
     case ZB_TABLE_CORES: return "M outside 1 to 8";
     case ZB_TABLE_BOARDS: return "board numbers not rising";

@@ -75,7 +75,7 @@ struct refusal {
 
 static const struct refusal refusals[] = {
     {0, 1, 0, 10},
-    {0, 2, ZB_TABLE_LONGEST, 11},
+    {0, 3, ZB_TABLE_LONGEST, 11},
     {1, 0, ZB_TABLE_LONGEST, 12},
     {5, 9, ZB_TABLE_LONGEST, 13},
     {13, 6, ZB_TABLE_LONGEST, 14},

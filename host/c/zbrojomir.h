@@ -29,7 +29,7 @@ enum zb_number {
     ZB_DONE = 0,            /* done */
 
     ZB_TABLE_CUT = 10,      /* table ends inside a field or row */
-    ZB_TABLE_FORMAT = 11,   /* format is not 1 */
+    ZB_TABLE_FORMAT = 11,   /* format is neither 1 nor 2 */
     ZB_TABLE_CYCLE = 12,    /* L outside 1 to 1,000,000 */
     ZB_TABLE_CORES = 13,    /* M outside 1 to 8 */
     ZB_TABLE_BOARDS = 14,   /* board numbers not rising */
@@ -59,7 +59,7 @@ enum zb_number {
  * Checks a job table and answers 01's number for its bytes: ZB_DONE or one of ZB_TABLE_...
  *
  * A table, every number in it little-endian:
- *     format, 1                                                1 byte
+ *     format, 1 or 2                                           1 byte
  *     cycle L, 1 to 1,000,000                                  4 bytes
  *     core count M, 1 to 8                                     1 byte
  *     M board numbers, rising strictly                         1 byte each

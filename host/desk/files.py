@@ -123,7 +123,7 @@ def unjudged(name: str) -> Iterator[tuple[bytes, IO[bytes]]]:
 
 def is_hex(name: str, start: bytes) -> bool:
     """Hex text: its name says so, or there is nothing but hex digits, white space and comments, and a digit. (Bytes of a table, a trace or a printer's
-    input have others: a format of 1, a count, a length. A typed table has names of columns.)
+    input have others: a format of 1 or 2, a count, a length. A typed table has names of columns.)
     """
     return name.lower().endswith(".hex") or (HEX_TEXT.match(start) is not None and HEX_DIGIT.search(start) is not None)
 

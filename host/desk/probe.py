@@ -1,8 +1,8 @@
 """A client of the probe (crates/probe, docs/PROBE.md): it builds requests and takes answers apart. It judges nothing: whether a table is taken, who
 runs and on which core, who waits and why, who is late and what is refused is what the probe answers.
 
-Numbers are little-endian. A table value is L (4), M (1), 8 board numbers, n (1) and 32 rows of 9 bytes; a placement a count (1), 8 rows and 8
-cores; a state a table value, the time (8), a stopped mark (1), 32 quanta (8 each), and the placement of the last slot.
+Numbers are little-endian. A table value is its format (1), L (4), M (1), 8 board numbers, n (1) and 32 rows of 9 bytes; a placement a count (1), 8 rows
+and 8 cores; a state a table value, the time (8), a stopped mark (1), 32 quanta (8 each), and the placement of the last slot.
 """
 from __future__ import annotations
 
@@ -15,7 +15,7 @@ import building
 from trouble import Trouble
 
 CORES, ROWS, ROW = 8, 32, 9  # places for cores and for rows, and the bytes of a row
-CORE_COUNT_AT = 4
+CORE_COUNT_AT = 1 + 4
 ROW_COUNT_AT = CORE_COUNT_AT + 1 + CORES
 ROWS_AT = ROW_COUNT_AT + 1
 TABLE_VALUE = ROWS_AT + ROWS * ROW
@@ -27,7 +27,7 @@ RECORD = 2 + CORES  # the longest record of a slot: each slot is lent a buffer o
 LONGEST_TABLE = 1 + 4 + 1 + CORES + 1 + ROWS * ROW  # bytes: each table that is written is lent a buffer of this length
 REQUEST_LIMIT = 1 << 20  # the most bytes that the probe reads
 
-TABLE_HEAD = struct.Struct(f"<IB{CORES}sB")  # of a table value: cycle, cores, board numbers, row count; the rows follow
+TABLE_HEAD = struct.Struct(f"<BIB{CORES}sB")  # of a table value: format, cycle, cores, board numbers, row count; the rows follow
 ROW_PARTS = struct.Struct("<HHHHB")  # tank, cost, period, phase, kind
 STATE_PARTS = struct.Struct(f"<{TABLE_VALUE}sQB{ROWS}Q{PLACEMENT}s")  # table value, time, stopped, quanta, memory
 TABLE_REQUEST = struct.Struct("<cI")  # T, length; the table's bytes follow
@@ -61,6 +61,14 @@ class Placement:
         if count > CORES:
             raise Trouble(f"the probe names {count} rows in one slot, and there are {CORES} cores at most")
         return cls(tuple(zip(raw[1 : 1 + count], raw[1 + CORES : 1 + CORES + count])))
+
+
+def remembered(rows: Sequence[int]) -> bytes:
+    """The memory of a slot of which only the rows are known, as a trace has them: they are given the cores 0, 1, .., on which no pick hangs. Of more rows
+    than there are places for, the first stand there: their count alone makes the state broken.
+    """
+    placed = bytes(rows[:CORES])
+    return bytes([len(rows)]) + placed.ljust(CORES, b"\0") + bytes(range(len(placed))).ljust(CORES, b"\0")
 
 
 @dataclass(frozen=True)
@@ -102,12 +110,14 @@ class Table:
         return int.from_bytes(self.value[at : at + 2], "little")
 
     def fresh(self) -> State:
-        """Time 0, no quanta given."""
-        return self.at(0, ROWS * (0,))
+        """Time 0, no quanta given, nobody remembered."""
+        return self.at(0, ROWS * (0,), ())
 
-    def at(self, time: int, quanta: Sequence[int]) -> State:
-        """Not stopped, nobody remembered; of the quanta there are 32, one number for each place for a row."""
-        return State(STATE_PARTS.pack(self.value, time, 0, *quanta, bytes(PLACEMENT)))
+    def at(self, time: int, quanta: Sequence[int], last: Sequence[int]) -> State:
+        """Not stopped; of the quanta there are 32, one number for each place for a row. `last` has the rows of the slot before, on which the picks of a
+        table of format 2 hang.
+        """
+        return State(STATE_PARTS.pack(self.value, time, 0, *quanta, remembered(last)))
 
 
 @dataclass(frozen=True)

@@ -22,9 +22,9 @@ PICKED, NOT_READY = why.PICKED, why.NOT_READY
 def drawn(title: str, taken: Table, course: Course, first: int, end: int, probe: Probe) -> Picture:
     """The picture of the slots from `first` up to `end`."""
     rows = tables.plan_of(taken.value).rows
-    given, shown = split(course.records, first, end)
+    given, last, shown = split(course.records, first, end)
     windows = windows_of(rows, given, shown, first, end, probe)
-    waits = waits_of(taken, first, shown, given, probe)
+    waits = waits_of(taken, first, shown, given, last, probe)
     lines = tuple(
         Line(row.tank, row.cost, row.period, row.phase, row.kind == 1, overlapping(windows[at], first, end), quanta_of(at, given[at], windows[at], first, shown, course), waits[at])
         for at, row in enumerate(rows)
@@ -43,13 +43,14 @@ def drawn(title: str, taken: Table, course: Course, first: int, end: int, probe:
     )
 
 
-def split(records: Sequence[bytes], first: int, end: int) -> tuple[list[int], Sequence[bytes]]:
-    """How many quanta each row has had before the first slot, and the records of the slots that are shown."""
-    given = ROWS * [0]
+def split(records: Sequence[bytes], first: int, end: int) -> tuple[list[int], bytes, Sequence[bytes]]:
+    """How many quanta each row has had before the first slot, the rows of the slot before it, and the records of the slots that are shown."""
+    given, last = ROWS * [0], b""
     for record in records[:first]:
-        for row in record[2:]:
+        last = record[2:]
+        for row in last:
             given[row] += 1
-    return given, records[first:end]
+    return given, last, records[first:end]
 
 
 def windows_of(rows: Sequence[Row], given: Sequence[int], shown: Sequence[bytes], first: int, end: int, probe: Probe) -> list[dict[int, Window]]:
@@ -86,10 +87,10 @@ def quanta_of(row: int, given: int, windows: dict[int, Window], first: int, show
     return tuple(quanta)
 
 
-def waits_of(taken: Table, first: int, shown: Sequence[bytes], given: Sequence[int], probe: Probe) -> list[dict[int, str]]:
+def waits_of(taken: Table, first: int, shown: Sequence[bytes], given: Sequence[int], last: bytes, probe: Probe) -> list[dict[int, str]]:
     """For each row the slots in which it was ready and did not run, with the reason."""
     asked = [(slot, record, row) for slot, record in enumerate(shown, first) for row in range(len(taken.tanks)) if row not in record[2:]]
-    states = list(each_state(taken, first, shown, list(given)))
+    states = list(each_state(taken, first, shown, list(given), last))
     questions = ((states[slot - first], record[0], row) for slot, record, row in asked)
     waits: list[dict[int, str]] = [{} for _ in taken.tanks]
     answers = endings.watched(probe.whys(questions), "asking why tanks waited", len(asked))
@@ -100,9 +101,10 @@ def waits_of(taken: Table, first: int, shown: Sequence[bytes], given: Sequence[i
     return waits
 
 
-def each_state(taken: Table, first: int, shown: Sequence[bytes], quanta: list[int]) -> Iterator[State]:
-    """The state before each slot that is shown, by the quanta before the first."""
+def each_state(taken: Table, first: int, shown: Sequence[bytes], quanta: list[int], last: bytes) -> Iterator[State]:
+    """The state before each slot that is shown, by the quanta before the first and the rows of the slot before it."""
     for slot, record in enumerate(shown, first):
-        yield taken.at(slot, quanta)
-        for row in record[2:]:
+        yield taken.at(slot, quanta, last)
+        last = record[2:]
+        for row in last:
             quanta[row] += 1

@@ -75,7 +75,7 @@ def count_waits(found: Sequence[Tank], taken: Table, course: Course, probe: Prob
     """Once a row has had a quantum it is asked when the next can run at the earliest: with no core free it is either not ready, with the first slot in
     which it is, or it is ready.
     """
-    turns, asked = itertools.tee(each_turn(taken, course))  # no more of them are kept than the probe is asked at once: a state has 584 bytes
+    turns, asked = itertools.tee(each_turn(taken, course))  # no more of them are kept than the probe is asked at once: a state has 585 bytes
     answers = probe.whys((turn.state, 0, turn.row) for turn in asked)
     total = len(found) + sum(len(tank.slots) for tank in found)
     ran = [iter([*tank.slots, len(course.records)]) for tank in found]
@@ -92,12 +92,12 @@ def count_waits(found: Sequence[Tank], taken: Table, course: Course, probe: Prob
 def each_turn(taken: Table, course: Course) -> Iterator[Turn]:
     """The start, and the time after each quantum, in the order of time."""
     quanta = ROWS * [0]
-    state = taken.at(0, quanta)
+    state = taken.fresh()
     yield from (Turn(row, 0, state) for row in range(len(taken.tanks)))
     for slot, record in enumerate(course.records):
         for row in record[2:]:
             quanta[row] += 1
-        state = taken.at(slot + 1, quanta)
+        state = taken.at(slot + 1, quanta, record[2:])
         yield from (Turn(row, slot + 1, state) for row in record[2:])
 
 
@@ -117,7 +117,8 @@ def lines(found: Sequence[Tank], course: Course) -> Iterator[str]:
     rows = [COLUMNS, *(cells(tank, course.cores is not None) for tank in found)]
     widths = [max(len(row[column]) for row in rows) for column in range(len(COLUMNS))]
     free, used = sum(record[0] for record in course.records), sum(len(record) - 2 for record in course.records)
-    yield f"{words.counted(len(course.records), 'slot')}; {used} of {free} free core slots used"
+    starts = words.counted(sum(tank.starts for tank in found), "start")
+    yield f"{words.counted(len(course.records), 'slot')}; {used} of {free} free core slots used; {starts}"
     for row in rows:
         yield "  ".join(cell.rjust(width) for cell, width in zip(row, widths)).rstrip()
     yield "waited: slots in which the tank was ready and did not run, longest: most of them one after another; starts: slots in which it ran and had not run in"

@@ -14,7 +14,8 @@ from dataclasses import dataclass
 from typing import Callable, Iterable, Iterator, NamedTuple
 
 TEXT_LIMIT = 1 << 20  # bytes; a full table takes about a thousand
-CYCLE_MOST, BOARD_MOST = 0xFFFF_FFFF, 0xFF  # what the fields of a cycle and of a board number hold at most
+FORMAT_MOST, CYCLE_MOST, BOARD_MOST = 0xFF, 0xFFFF_FFFF, 0xFF  # what the fields of a format, a cycle and a board number hold at most
+FORMAT_LEFT_OUT = 1  # what a text means that has no line of format
 MOST = {"tank": 0xFFFF, "cost": 0xFFFF, "period": 0xFFFF, "phase": 0xFFFF, "kind": 0xFF}  # the columns that are read, and what their fields hold
 LEFT_OUT = {"phase": "0", "kind": "plain"}  # what is read where the column is missing or the cell is empty; the others must be there
 KINDS = {"plain": 0, "early release": 1, "early-release": 1, "early": 1}
@@ -35,16 +36,17 @@ class Row(NamedTuple):
 
 @dataclass(frozen=True)
 class Plan:
-    """A cycle, a board number for each core, and rows: what a table holds, in any number, whether it would be taken or not."""
+    """A cycle, a board number for each core, rows, and a format: what a table holds, in any number, whether it would be taken or not."""
 
     cycle: int
     boards: tuple[int, ...]
     rows: tuple[Row, ...]
+    format: int = FORMAT_LEFT_OUT
 
 
 @dataclass(frozen=True)
 class Typed:
-    """A plan as it was typed: the line of each of its parts, or none where the cycle or the boards were left out; and the names of the
+    """A plan as it was typed: the line of each of its parts, or none where the cycle, the boards or the format were left out; and the names of the
     columns that are not read.
     """
 
@@ -53,6 +55,7 @@ class Typed:
     boards_line: int | None
     row_lines: tuple[int, ...]
     not_read: tuple[str, ...] = ()
+    format_line: int | None = None
 
 
 class Fault(Exception):
@@ -83,7 +86,7 @@ def read(data: bytes) -> Typed:
             raise Fault("this line must stand above the line of column names", line, word)
         if names:
             rows.append((line, typed_row(cells, names, line)))
-        elif word not in ABOVE:
+        elif word not in ABOVE or names_columns(cells[1:]):
             names = column_names(cells, line)
         elif word in above:
             raise Fault(f"line {above[word][0]} says this already", line, word)
@@ -91,8 +94,10 @@ def read(data: bytes) -> Typed:
             above[word] = line, ABOVE[word](cells[1:], line)
     cycle_line, cycle = above.get("cycle", (None, (least_common_multiple(row.period for _, row in rows),)))
     boards_line, boards = above.get("boards", (None, ()))
-    plan = Plan(cycle[0], boards, tuple(row for _, row in rows))
-    return Typed(plan, cycle_line, boards_line, tuple(line for line, _ in rows), tuple(name for name in names if name and name not in MOST))
+    format_line, format = above.get("format", (None, (FORMAT_LEFT_OUT,)))
+    plan = Plan(cycle[0], boards, tuple(row for _, row in rows), format[0])
+    not_read = tuple(name for name in names if name and name not in MOST)
+    return Typed(plan, cycle_line, boards_line, tuple(line for line, _ in rows), not_read, format_line)
 
 
 def decoded(data: bytes) -> str:
@@ -145,12 +150,17 @@ def records(lines: list[str], separator: str, strict: bool) -> Iterator[tuple[in
         line += reader.line_num
 
 
+def names_columns(cells: list[str]) -> bool:
+    """A column of the planner's own may have any name, also that of a line above the rows."""
+    return any(cell.lower() in MOST for cell in cells)
+
+
 def column_names(cells: list[str], line: int) -> list[str]:
     names = [cell.lower() for cell in cells]
-    if not any(name in MOST for name in names):
+    if not names_columns(cells):
         if re.fullmatch("[0-9]+", names[0]):
             raise Fault("a row stands above the line of column names", line)
-        raise Fault(f"{quoted(cells[0])} is neither cycle nor boards, and this is no line of column names (tank, cost, period)", line)
+        raise Fault(f"{quoted(cells[0])} is neither format, cycle nor boards, and this is no line of column names (tank, cost, period)", line)
     for name in MOST:
         if names.count(name) > 1:
             raise Fault("two columns have this name", line, name)
@@ -197,18 +207,27 @@ def quoted(cell: str) -> str:
     return repr(cell if len(cell) <= 40 else f"{cell[:40]}..")
 
 
+def format_number(cells: list[str], line: int) -> tuple[int]:
+    return only_number(cells, line, "format")
+
+
 def cycle_number(cells: list[str], line: int) -> tuple[int]:
-    """The one number behind the word cycle. If it is above its field, only that it is so need be right: see `natural`."""
+    return only_number(cells, line, "cycle")
+
+
+def only_number(cells: list[str], line: int, word: str) -> tuple[int]:
+    """The one number behind a word. If it is above its field, only that it is so need be right: see `natural`."""
     if len(cells) > 1:
-        raise Fault(f"one number stands here, and not {quoted(cells[-1])} too", line, "cycle")
-    return (natural(cells[0] if cells else "", line, "cycle"),)
+        raise Fault(f"one number stands here, and not {quoted(cells[-1])} too", line, word)
+    return (natural(cells[0] if cells else "", line, word),)
 
 
 def board_numbers(cells: list[str], line: int) -> tuple[int, ...]:
     return tuple(fitting(cell, BOARD_MOST, line, "boards") for cell in cells)
 
 
-ABOVE: dict[str, Callable[[list[str], int], tuple[int, ...]]] = {"cycle": cycle_number, "boards": board_numbers}  # the words above the rows
+# The words above the rows.
+ABOVE: dict[str, Callable[[list[str], int], tuple[int, ...]]] = {"format": format_number, "cycle": cycle_number, "boards": board_numbers}
 
 
 def least_common_multiple(periods: Iterable[int]) -> int:
@@ -223,7 +242,8 @@ def least_common_multiple(periods: Iterable[int]) -> int:
 
 
 def text(plan: Plan) -> str:
-    """The plan in the one spelling that this module writes."""
+    """The plan in the one spelling that this module writes. A format that would be read without its line has none: so texts of format 1 are as ever."""
+    format = [f"format,{plan.format}"] if plan.format != FORMAT_LEFT_OUT else []
     head = [f"cycle,{plan.cycle}", ",".join(["boards", *map(str, plan.boards)]), ",".join(Row._fields)]
     rows = [",".join([*map(str, row[:-1]), KIND_WORDS.get(row.kind, str(row.kind))]) for row in plan.rows]
-    return "".join(f"{line}\n" for line in head + rows)
+    return "".join(f"{line}\n" for line in format + head + rows)

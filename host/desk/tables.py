@@ -16,7 +16,7 @@ import inputs
 import table_text
 import words
 from probe import CORES, LONGEST_TABLE, ROW, ROW_PARTS, ROWS, ROWS_AT, TABLE_HEAD, TABLE_VALUE, Probe, Table
-from table_text import CYCLE_MOST, TEXT_LIMIT, Fault, Plan, Row, Typed
+from table_text import CYCLE_MOST, FORMAT_LEFT_OUT, FORMAT_MOST, TEXT_LIMIT, Fault, Plan, Row, Typed
 from trouble import Trouble
 
 COUNT_MOST = 0xFF  # what the fields of the two counts hold at most
@@ -25,21 +25,21 @@ ROW_COLUMNS = {16: "tank", 17: "cost", 18: "cost", 19: "period", 20: "kind"}  # 
 
 
 def value_of(plan: Plan) -> bytes:
-    """The table value of a plan. For a cycle or a count above its field stands the most that the field holds: the writer refuses either alike. Boards
-    and rows for which there are no places are only counted.
+    """The table value of a plan. For a format, a cycle or a count above its field stands the most that the field holds: the writer refuses either alike.
+    Boards and rows for which there are no places are only counted.
     """
     cores, rows = (min(len(part), COUNT_MOST) for part in (plan.boards, plan.rows))
-    head = TABLE_HEAD.pack(min(plan.cycle, CYCLE_MOST), cores, bytes(plan.boards[:CORES]), rows)
+    head = TABLE_HEAD.pack(min(plan.format, FORMAT_MOST), min(plan.cycle, CYCLE_MOST), cores, bytes(plan.boards[:CORES]), rows)
     return (head + b"".join(ROW_PARTS.pack(*row) for row in plan.rows[:ROWS])).ljust(TABLE_VALUE, b"\0")
 
 
 def plan_of(value: bytes) -> Plan:
     """What a table value holds that was taken."""
-    cycle, cores, boards, count = TABLE_HEAD.unpack_from(value)
+    format, cycle, cores, boards, count = TABLE_HEAD.unpack_from(value)
     if cores > CORES or count > ROWS:
         raise Trouble(f"the probe takes a table of {cores} cores and {count} rows, and there are {CORES} and {ROWS} at most")
     rows = ROW_PARTS.iter_unpack(value[ROWS_AT : ROWS_AT + ROW_PARTS.size * count])
-    return Plan(cycle, tuple(boards[:cores]), tuple(Row(*row) for row in rows))
+    return Plan(cycle, tuple(boards[:cores]), tuple(Row(*row) for row in rows), format)
 
 
 def taken(table: bytes, probe: Probe) -> Table:
@@ -71,6 +71,8 @@ def refusal(number: int, typed: Typed, boards: Sequence[int], rows: Sequence[int
     cut with the same number has the fault in its last board or row.
     """
     plan = typed.plan
+    if number == 11 and typed.format_line:
+        return fault(number, f"format {up_to(plan.format, FORMAT_MOST)}", typed.format_line, "format")
     if number == 12:
         return fault(number, cycle_words(typed), typed.cycle_line, "cycle")
     if number == 13:
@@ -93,8 +95,13 @@ def fault(number: int, detail: str, line: int | None = None, column: str | None 
     return Fault(f"{words.of_number(number)} ({detail})", line, column, number, detail)
 
 
+def up_to(number: int, most: int) -> str:
+    """A number that was typed; of one above its field only that it is so is right."""
+    return str(number) if number <= most else f"more than {most}"
+
+
 def cycle_words(typed: Typed) -> str:
-    cycle = str(typed.plan.cycle) if typed.plan.cycle <= CYCLE_MOST else f"more than {CYCLE_MOST}"
+    cycle = up_to(typed.plan.cycle, CYCLE_MOST)
     return f"cycle {cycle}" if typed.cycle_line else f"left out, so it is the least common multiple of the periods, {cycle}"
 
 
@@ -196,7 +203,9 @@ def would_need(plan: Plan, probe: Probe) -> str:
 
 
 def about(plan: Plan) -> str:
-    return f"{words.counted(len(plan.rows), 'tank')}; {load(plan)}"
+    """In a line; of the format only where it is not the one that a text means which says nothing of it."""
+    format = f", in format {plan.format}" if plan.format != FORMAT_LEFT_OUT else ""
+    return f"{words.counted(len(plan.rows), 'tank')}{format}; {load(plan)}"
 
 
 def place(table: bytes, number: int, probe: Probe) -> str:
@@ -232,7 +241,8 @@ def laid_out(table: bytes) -> Plan:
     count = table[rows_at - 1] if len(table) >= rows_at else 0
     whole = min(count, max(0, len(table) - rows_at) // ROW)
     rows = ROW_PARTS.iter_unpack(table[rows_at : rows_at + ROW * whole])
-    return Plan(int.from_bytes(table[1:5], "little"), tuple(table[6 : 6 + cores]), tuple(Row(*row) for row in rows))
+    format = table[0] if table else FORMAT_LEFT_OUT
+    return Plan(int.from_bytes(table[1:5], "little"), tuple(table[6 : 6 + cores]), tuple(Row(*row) for row in rows), format)
 
 
 def inside(table: bytes) -> str:

@@ -11,10 +11,10 @@ from pathlib import Path
 from typing import Iterator
 
 import archive
-import commands
 import cores
 import files
 import inputs
+import slot_commands
 import zb
 from archive import Archive, Ran
 from probe import RUN, Check, Placement, Probe, State, first_cores
@@ -44,6 +44,8 @@ from testing import (
 from trouble import Trouble
 
 EXAMPLE, MOVES, LATE = (str(ROOT / "examples" / name) for name in ("three-tanks-slots.hex", "moves.hex", "late.hex"))
+
+HALVES = {format: str(ROOT / "examples" / f"four-halves-{format}.hex") for format in (1, 2)}
 
 EXAMPLE_LISTING = """\
 slot free moves tanks on cores
@@ -84,6 +86,38 @@ moves 4
 """
 
 
+# examples/four-halves-1.hex and four-halves-2.hex, whose picks test_why.py works out. Tanks that run again stay where they ran; others take the cores
+# that are left, the lower to the lower row: so there is no move in either.
+HALVES_LISTINGS = {
+    1: """\
+slot free moves tanks on cores
+0 2 0 10@0 11@1
+1 2 0 12@0 13@1
+2 2 0 10@0 11@1
+3 2 0 12@0 13@1
+4 2 0 10@0 11@1
+5 2 0 12@0 13@1
+6 2 0 10@0 11@1
+7 2 0 12@0 13@1
+end 8
+moves 0
+""",
+    2: """\
+slot free moves tanks on cores
+0 2 0 10@0 11@1
+1 2 0 12@0 13@1
+2 2 0 12@0 13@1
+3 2 0 10@0 11@1
+4 2 0 10@0 11@1
+5 2 0 12@0 13@1
+6 2 0 12@0 13@1
+7 2 0 10@0 11@1
+end 8
+moves 0
+""",
+}
+
+
 def slot_answer(number: int, time: int, *pairs: tuple[int, int], row: int = 0, late: int = 0) -> bytes:
     """An answer to K over 01's table. The quanta in its state are left 0: nobody looks at them here."""
     state = VALUE + time.to_bytes(8, "little") + bytes(1 + 256) + placement(*pairs)
@@ -95,7 +129,7 @@ def done(*pairs: tuple[int, int]) -> Ran:
     return Ran(0, 0, bytes([2, len(pairs), *(row for row, _ in pairs)]), pairs)
 
 
-# What two T answer of an input with 01's table: its bytes are no table, since a table's first byte is 1; the table in it is taken.
+# What two T answer of an input with 01's table: its bytes are no table, since a table's first byte is 1 or 2; the table in it is taken.
 INPUT_READ = refused(11), TAKEN
 # The three slots of 01's example.
 EXAMPLE_RUN = done((0, 0), (1, 1)), done((0, 0), (2, 1)), done((1, 0), (2, 1))
@@ -104,7 +138,7 @@ EXAMPLE_RUN = done((0, 0), (1, 1)), done((0, 0), (2, 1)), done((1, 0), (2, 1))
 def text(input: bytes, probe: Probe, archive: Archive) -> str:
     asked = inputs.split(input)
     assert asked is not None
-    return "".join(line + "\n" for line in commands.list_slots(asked, True, zb.Desk(probe, archive)))
+    return "".join(line + "\n" for line in slot_commands.list_slots(asked, True, zb.Desk(probe, archive)))
 
 
 class InFolder(unittest.TestCase):
@@ -234,13 +268,13 @@ class Requests(unittest.TestCase):
         fake = Fake(TAKEN, slot_answer(0, 1, (0, 0), (1, 1)), slot_answer(0, 2, (0, 0), (2, 1)), slot_answer(0, 3, (1, 0), (2, 1)))
         self.assertEqual([slot.pairs for slot in SlotBySlot(fake).run(TABLE, b"\2\2\2")], [slot.pairs for slot in EXAMPLE_RUN])
         self.assertEqual([request[:1] for request in fake.requests], [b"T", b"K", b"K", b"K"])
-        self.assertEqual([request[303:311] for request in fake.requests[1:]], [bytes([time]) + bytes(7) for time in range(3)])
-        self.assertEqual(fake.requests[3][568:585], placement((0, 0), (2, 1)))
+        self.assertEqual([request[304:312] for request in fake.requests[1:]], [bytes([time]) + bytes(7) for time in range(3)])
+        self.assertEqual(fake.requests[3][569:586], placement((0, 0), (2, 1)))
 
     def test_the_cores_of_each_slot(self) -> None:
         fake = Fake(TAKEN, slot_answer(0, 1), slot_answer(0, 2), slot_answer(1, 3, row=2, late=3))
         self.assertEqual([slot.number for slot in SlotBySlot(fake).run(TABLE, b"\2\1\x28\0")], [0, 0, 1])
-        self.assertEqual([request[585:589] for request in fake.requests[1:]], [b"\3\0\0\0", b"\1\0\0\0", b"\xff\xff\xff\xff"])
+        self.assertEqual([request[586:590] for request in fake.requests[1:]], [b"\3\0\0\0", b"\1\0\0\0", b"\xff\xff\xff\xff"])
 
     def test_set_of_the_first_cores(self) -> None:
         for k, free in [(0, 0), (1, 1), (2, 3), (8, 0xFF), (9, 0x1FF), (31, 0x7FFFFFFF), (32, 0xFFFFFFFF), (33, 0xFFFFFFFF), (255, 0xFFFFFFFF)]:
@@ -253,7 +287,7 @@ class Requests(unittest.TestCase):
     def test_a_probe_that_names_more_rows_than_there_are_cores(self) -> None:
         plain = slot_answer(0, 1)
         with self.assertRaisesRegex(Trouble, "^the probe names 9 rows in one slot"):
-            Fake(plain[:10] + b"\x09" + plain[11:]).run_slot(State(bytes(584)), 0)
+            Fake(plain[:10] + b"\x09" + plain[11:]).run_slot(State(bytes(585)), 0)
 
 
 class Archives(InFolder):
@@ -361,7 +395,7 @@ class Listings(InFolder):
     def test_lines_come_one_by_one(self) -> None:
         asked = inputs.split(THREE_SLOTS)
         assert asked is not None
-        lines = commands.list_slots(asked, True, zb.Desk(Fake(TAKEN), OneByOne()))
+        lines = slot_commands.list_slots(asked, True, zb.Desk(Fake(TAKEN), OneByOne()))
         self.assertEqual([next(lines), next(lines)], [cores.HEADER, "0 2 0 10@0 11@1"])
 
     def test_late_with_a_move(self) -> None:
@@ -425,8 +459,14 @@ class Command(InFolder):
         self.assertEqual(self.printed(THREE_SLOTS, fake, ours, "--slots", "4097"), (1, "input\n", words))
         self.assertEqual(([request[:1] for request in fake.requests], ours.asked), ([b"T"], []))
 
+    def test_what_was_to_be_an_input_with_a_table_of_format_2(self) -> None:
+        # As below, with a 2 where the table begins.
+        cut = b"\x24\0\2" + THREE_SLOTS[3:-1]
+        words = "zb: input: the table's length says 36, so the input must have 42 bytes with 0 k values, and has 41\n"
+        self.assertEqual(self.printed(cut, Fake(refused(11)), FakeArchive()), (1, "input\n", words))
+
     def test_what_is_neither_input_nor_table(self) -> None:
-        # One byte too many: no input. The first byte is its length's, 0x24, and a table's is 1, so it was to be an input.
+        # One byte too many: no input. The first byte is its length's, 0x24, and a table's is 1 or 2, so it was to be an input.
         fake, ours = Fake(refused(11)), FakeArchive()
         words = "zb: input: the table's length says 36, so the input must have 42 bytes with 0 k values, and has 43\n"
         self.assertEqual(self.printed(THREE_SLOTS + b"\0", fake, ours), (1, "input\n", words))
@@ -480,7 +520,7 @@ class Endings(EndingCase):
         self.assert_trouble(asked, Probe([str(HERE / "none")]), "does not start")
         self.assert_trouble(asked, Probe(["/bin/sh", "-c", "echo it is not built >&2; exit 2"]), "it is not built")
         self.assert_trouble(asked, Probe(["/bin/sh", "-c", "exit 3"]), "status 3")
-        self.assert_trouble(asked, Probe(["/bin/sh", "-c", "printf '\\377'"]), "1 bytes answer T, not 303")
+        self.assert_trouble(asked, Probe(["/bin/sh", "-c", "printf '\\377'"]), "1 bytes answer T, not 304")
 
     def test_an_archive_that_does_not_answer(self) -> None:
         for command, words in [
@@ -518,6 +558,10 @@ class AgainstProbe(unittest.TestCase):
     def test_moves(self) -> None:
         self.assert_listed(files.read(MOVES, inputs.INPUT_LIMIT).data, MOVES_LISTING)
 
+    def test_formats(self) -> None:
+        for format, listed in HALVES_LISTINGS.items():
+            self.assert_listed(files.read(HALVES[format], inputs.INPUT_LIMIT).data, listed)
+
     def test_k_above_the_cores(self) -> None:
         for k in [3, 9, 32, 255]:
             self.assert_listed(THREE_SLOTS[:-2] + bytes([2, 0, 2, k]), cores.HEADER + "\n0 2 0 10@0 11@1\nrefused 35\n")
@@ -540,7 +584,7 @@ class AgainstArchive(AgainstProbe):
         self.archive = Archive()
 
     def test_as_the_probe(self) -> None:
-        for name in ["three-tanks-slots.hex", "four-cores.hex", "full-box.hex", "moves.hex", "late.hex"]:
+        for name in ["three-tanks-slots.hex", "four-cores.hex", "full-box.hex", "moves.hex", "late.hex", "four-halves-1.hex", "four-halves-2.hex"]:
             asked = inputs.split(files.read(str(ROOT / "examples" / name), inputs.INPUT_LIMIT).data)
             assert asked is not None
             table = Probe().read_table(asked.table)
@@ -570,7 +614,7 @@ class ProgramAgainstProbe(unittest.TestCase):
     def test_standard_input(self) -> None:
         self.assert_input("the table's length says 36, so the input must have 42 bytes with 0 k values, and has 43", THREE_SLOTS + b"\0")
         self.assert_input("it has more than 65,536 bytes", b"\0\0\1" + bytes(70_000))
-        self.assert_refused(11, "format is not 1", bytes(70_000))
+        self.assert_refused(11, "format is neither 1 nor 2", bytes(70_000))
         self.assert_input("it is empty", b"")
 
     def test_input(self) -> None:

@@ -16,8 +16,8 @@ PAGE = (ROOT / "docs" / "NUMBERS.md").read_text(encoding="utf-8")
 BY_HAND = (ROOT / "host" / "compare" / "by_hand.txt").read_text(encoding="utf-8")
 
 # 01's example as a table value, and states over it: time, stopped, quanta and nobody remembered.
-VALUE = bytes.fromhex("03000000 02 0001000000000000 03  0A00 0200 0300 0000 00  0B00 0200 0300 0000 00  1400 0200 0300 0000 00").ljust(TABLE_VALUE, b"\0")
-NO_ROWS = bytes.fromhex("01000000 01").ljust(TABLE_VALUE, b"\0")
+VALUE = bytes.fromhex("01 03000000 02 0001000000000000 03  0A00 0200 0300 0000 00  0B00 0200 0300 0000 00  1400 0200 0300 0000 00").ljust(TABLE_VALUE, b"\0")
+NO_ROWS = bytes.fromhex("01 01000000 01").ljust(TABLE_VALUE, b"\0")
 TABLE = bytes.fromhex("01 03000000 02 0001 03  0A00 0200 0300 0000 00  0B00 0200 0300 0000 00  1400 0200 0300 0000 00")
 
 
@@ -44,6 +44,22 @@ REQUESTS = {
     37: b"P" + VALUE + b"\x23\0\0\0" + bytes(35),
     50: b"W" + bytes.fromhex("0200 0100 0000 0100000000000000"),
 }
+
+
+# States that request Eight of 02 makes broken: over a format that is neither 1 nor 2, and by what they remember: rows that do not rise, and more rows than
+# the table has cores. Each differs in one thing from a state that is fine, over 01's table at time 1, where rows 0 and 1 have had a quantum.
+def ran(memory: str, value: bytes = VALUE) -> bytes:
+    return value + (1).to_bytes(8, "little") + b"\0" + 2 * (b"\1" + bytes(7)) + bytes(8 * (ROWS - 2)) + bytes.fromhex(memory).ljust(PLACEMENT, b"\0")
+
+
+RAN_0_AND_1 = "02 0001000000000000 0001"
+FINE = [ran(RAN_0_AND_1), ran(RAN_0_AND_1, b"\2" + VALUE[1:]), ran("00")]
+BROKEN = [
+    *(ran(RAN_0_AND_1, bytes([format]) + VALUE[1:]) for format in (0, 3, 255)),
+    ran("02 0100000000000000 0001"),
+    ran("02 0000000000000000 0001"),
+    ran("03 0001020000000000 0001"),
+]
 
 
 def page_numbers(text: str) -> set[int]:
@@ -90,6 +106,11 @@ class Page(unittest.TestCase):
 class AgainstProbe(unittest.TestCase):
     def answered(self, request: bytes) -> int:
         return subprocess.run(RUN, input=request, capture_output=True, check=True).stdout[0]
+
+    def test_broken_states(self) -> None:
+        for states, number in [(FINE, 0), (BROKEN, 30)]:
+            self.assertEqual([self.answered(slot(state, 3)) for state in states], len(states) * [number])
+            self.assertEqual([self.answered(b"Y" + state + b"\2\0") for state in states], len(states) * [number])
 
     def by_hand(self, number: int) -> bytes:
         """The first table made by hand that has this number, or the first trace of 01's example."""

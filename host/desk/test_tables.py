@@ -10,6 +10,7 @@ import stat
 import subprocess
 import tempfile
 import unittest
+from dataclasses import replace
 from pathlib import Path
 
 import files
@@ -47,6 +48,11 @@ FARM_BYTES = bytes.fromhex(
 # examples/camera.csv. A cost equal to the period (02, Six). Periods 1 and 3.
 CAMERA_BYTES = bytes.fromhex("01 03000000 02 0001 02  0700 0100 0100 0000 00  0900 0200 0300 0000 00")
 
+# The same three tanks in format 2: another first byte, a line more, and a word where it is said.
+THREE_2 = replace(THREE, format=2)
+TABLE_2, THREE_2_TEXT = b"\2" + TABLE[1:], f"format,2\n{THREE_TEXT}"
+THREE_2_SAID = "36 bytes, 3 tanks, in format 2; load 6 of 6 quanta in a cycle of 3 slots on 2 cores: nothing is left\n"
+
 NO_NUMBER = "is not a whole number written in digits"
 HEAD = "boards,0,1\ntank,cost,period,phase,kind,name\n"  # two lines: the first row stands in line 3
 
@@ -75,7 +81,7 @@ def refusing(*numbers: int) -> Fake:
 
 def taking(table: bytes, parts: int, value: bytes = VALUE) -> Fake:
     """The same for a table that is taken, and that has so many boards and rows together; with this value it is read again."""
-    return Fake(write_answer(0, table) + parts * write_answer(0, b"\1"), b"\0" + value.ljust(302, b"\0"))
+    return Fake(write_answer(0, table) + parts * write_answer(0, b"\1"), b"\0" + value.ljust(303, b"\0"))
 
 
 def ran(arguments: list[str], probe: Probe) -> tuple[int, str, str]:
@@ -104,6 +110,20 @@ class Reading(FaultCase):
         self.assertEqual(typed(text), Typed(THREE, 2, 4, (6, 7, 9), ("name",)))
         self.assertEqual(typed(THREE_TEXT), Typed(THREE, 1, 2, (4, 5, 6)))
         self.assertEqual(table_text.read(Path(THREE_TANKS).read_bytes()).plan, THREE)
+
+    def test_formats(self) -> None:
+        # In any place above the columns; without its line it is 1, and with `format,1` too.
+        self.assertEqual(typed(THREE_2_TEXT), Typed(THREE_2, 2, 3, (5, 6, 7), (), 1))
+        self.assertEqual(typed(THREE_TEXT.replace("boards", "Format;2\nboards", 1).replace(",", ";")), Typed(THREE_2, 1, 3, (5, 6, 7), (), 2))
+        self.assertEqual(typed(f"format,1\n{THREE_TEXT}"), Typed(THREE, 2, 3, (5, 6, 7), (), 1))
+        self.assertEqual((typed(THREE_TEXT).plan.format, typed(THREE_TEXT).format_line), (1, None))
+        # Any number is read, for the writer to judge.
+        self.assertEqual([plan_of(f"format,{number}\n").format for number in (0, 3, 255, 256)], [0, 3, 255, 256])
+        self.assertGreater(plan_of(f"format,{9000 * '2'}\n").format, 255)
+
+    def test_a_column_of_that_name_is_not_read(self) -> None:
+        for names, row in [("tank,cost,period,format", "1,1,2,9"), ("Format,tank,cost,period", "9,1,1,2"), ("format,tank,cost,period", "format,1,1,2")]:
+            self.assertEqual(typed(f"boards,0\n{names}\n{row}\n"), Typed(Plan(2, (0,), (Row(1, 1, 2, 0, 0),)), None, 1, (3,), ("format",)))
 
     def test_what_may_be_left_out(self) -> None:
         self.assertEqual(typed(""), Typed(Plan(1, (), ()), None, None, ()))
@@ -176,6 +196,7 @@ class Reading(FaultCase):
 class TextFaults(FaultCase):
     def test_numbers(self) -> None:
         for cell in ["1.5", "-3", "+3", "ten", "0x3", "1_0", "1e3", "\u0663", "\u00b2", "1 000", "3 ms"]:
+            self.assert_faults(f"format,{cell}\n", f"line 1, format: {cell!r} {NO_NUMBER}")
             self.assert_faults(f"cycle,{cell}\n", f"line 1, cycle: {cell!r} {NO_NUMBER}")
             self.assert_faults(f"boards,0,{cell}\n", f"line 1, boards: {cell!r} {NO_NUMBER}")
             for place, column in enumerate(["tank", "cost", "period", "phase"]):
@@ -187,6 +208,7 @@ class TextFaults(FaultCase):
     def test_empty_cells(self) -> None:
         empty = "the cell is empty, and a number must be there"
         for text, place in [
+            ("format\n", "line 1, format"),
             ("cycle\n", "line 1, cycle"),
             ("cycle,,\n", "line 1, cycle"),
             ("boards,0,,1\n", "line 1, boards"),
@@ -213,10 +235,13 @@ class TextFaults(FaultCase):
         for text, words in [
             ("cycle,3\n# x\ncycle,3\n", "line 3, cycle: line 1 says this already"),
             ("boards,0\nboards,1\n", "line 2, boards: line 1 says this already"),
+            ("format,2\nformat,2\n", "line 2, format: line 1 says this already"),
+            ("format,1,2\n", "line 1, format: one number stands here, and not '2' too"),
+            (HEAD + "10,2,3\nformat,2\n", "line 4, format: this line must stand above the line of column names"),
             ("cycle,1,000\n", "line 1, cycle: one number stands here, and not '000' too"),
             ("boards,0\n10,2,3\n", "line 2: a row stands above the line of column names"),
-            ("bords,0\n", "line 1: 'bords' is neither cycle nor boards, and this is no line of column names (tank, cost, period)"),
-            (",boards,0\n", "line 1: '' is neither cycle nor boards, and this is no line of column names (tank, cost, period)"),
+            ("bords,0\n", "line 1: 'bords' is neither format, cycle nor boards, and this is no line of column names (tank, cost, period)"),
+            (",boards,0\n", "line 1: '' is neither format, cycle nor boards, and this is no line of column names (tank, cost, period)"),
             ("tank,cost\n", "line 1, period: no column has this name"),
             ("kind\n", "line 1, tank: no column has this name"),
             ("tank,cost,period,Cost\n", "line 1, cost: two columns have this name"),
@@ -263,18 +288,20 @@ class TextFaults(FaultCase):
 class Spelling(unittest.TestCase):
     def test_text(self) -> None:
         self.assertEqual(table_text.text(THREE), THREE_TEXT)
+        self.assertEqual(table_text.text(THREE_2), THREE_2_TEXT)
         self.assertEqual(table_text.text(Plan(1, (), ())), "cycle,1\nboards\ntank,cost,period,phase,kind\n")
         rows = Row(0, 1, 2, 3, 1), Row(65535, 0, 0, 65535, 2)
         text = "cycle,4294967295\nboards,255,0\ntank,cost,period,phase,kind\n0,1,2,3,early release\n65535,0,0,65535,2\n"
         self.assertEqual(table_text.text(Plan(4294967295, (255, 0), rows)), text)
 
     def test_text_reads_back(self) -> None:
-        for plan in [THREE, Plan(1, (), ()), Plan(0, (9, 9, 9), 40 * (Row(5, 9, 1, 2, 255),)), Plan(12, (3,), (Row(0, 1, 2, 3, 1), Row(1, 0, 0, 0, 0)))]:
+        for plan in [THREE, THREE_2, Plan(1, (), (), 0), Plan(1, (), ()), Plan(0, (9, 9, 9), 40 * (Row(5, 9, 1, 2, 255),)), Plan(12, (3,), (Row(0, 1, 2, 3, 1), Row(1, 0, 0, 0, 0)))]:
             self.assertEqual(plan_of(table_text.text(plan)), plan)
 
     def test_hex(self) -> None:
         self.assertEqual(tables.hex_text(TABLE, THREE), THREE_HEX)
         self.assertEqual(files.unhexed(THREE_HEX.encode(), "f"), TABLE)
+        self.assertEqual(tables.hex_text(TABLE_2, THREE_2), THREE_HEX.replace("01 03000000   # format 1", "02 03000000   # format 2"))
         raw = bytes.fromhex("01 0C000000 01 05 02  6400 0600 0C00 0300 01  6500 0100 0400 0000 01")
         plan = Plan(12, (5,), (Row(100, 6, 12, 3, 1), Row(101, 1, 4, 0, 1)))
         expected = """\
@@ -297,55 +324,68 @@ class Spelling(unittest.TestCase):
         ]:
             self.assertEqual(tables.load(plan), words)
 
+    def test_about(self) -> None:
+        # The format is said where it is 2.
+        load = "load 6 of 6 quanta in a cycle of 3 slots on 2 cores: nothing is left"
+        self.assertEqual((tables.about(THREE), tables.about(THREE_2)), (f"3 tanks; {load}", f"3 tanks, in format 2; {load}"))
+
 
 class Requests(unittest.TestCase):
     def test_value(self) -> None:
         self.assertEqual(tables.value_of(THREE), VALUE)
         self.assertEqual(tables.plan_of(VALUE), THREE)
         plan = Plan(0x01020304, (7, 8), (Row(0x0102, 0x0304, 0x0506, 0x0708, 9),))
-        raw = bytes.fromhex("04030201 02 0708000000000000 01  0201 0403 0605 0807 09") + bytes(31 * 9)
+        raw = bytes.fromhex("01 04030201 02 0708000000000000 01  0201 0403 0605 0807 09") + bytes(31 * 9)
         self.assertEqual(tables.value_of(plan), raw)
         self.assertEqual(tables.plan_of(raw), plan)
+
+    def test_format(self) -> None:
+        # In front of the cycle; where a plan says nothing of it, it is 1.
+        for format, byte in [(1, "01"), (2, "02"), (0, "00"), (255, "FF")]:
+            self.assertEqual(tables.value_of(Plan(3, (7,), (), format)), bytes.fromhex(f"{byte} 03000000 01 0700000000000000 00") + bytes(288))
+            self.assertEqual(tables.plan_of(tables.value_of(Plan(3, (7,), (), format))).format, format)
+        self.assertEqual(tables.plan_of(VALUE).format, 1)
 
     def test_what_is_above_its_field(self) -> None:
         row = Row(1, 1, 2, 0, 0)
         for plan, head in [
-            (Plan(4_294_967_296, (0,), ()), "FFFFFFFF 01 0000000000000000 00"),
-            (Plan(3, tuple(range(9)), ()), "03000000 09 0001020304050607 00"),
-            (Plan(3, 256 * (1,), ()), "03000000 FF 0101010101010101 00"),
+            (Plan(4_294_967_296, (0,), ()), "01 FFFFFFFF 01 0000000000000000 00"),
+            (Plan(3, tuple(range(9)), ()), "01 03000000 09 0001020304050607 00"),
+            (Plan(3, 256 * (1,), ()), "01 03000000 FF 0101010101010101 00"),
+            (Plan(3, (0,), (), 256), "FF 03000000 01 0000000000000000 00"),
         ]:
             self.assertEqual(tables.value_of(plan), bytes.fromhex(head) + bytes(288))
         for count, byte in [(33, 33), (255, 255), (256, 255), (10_000, 255)]:
             value = tables.value_of(Plan(2, (0,), count * (row,)))
-            self.assertEqual(value, bytes.fromhex("02000000 01 0000000000000000") + bytes([byte]) + 32 * bytes.fromhex("0100 0100 0200 0000 00"))
+            self.assertEqual(value, bytes.fromhex("01 02000000 01 0000000000000000") + bytes([byte]) + 32 * bytes.fromhex("0100 0100 0200 0000 00"))
 
     def test_writing(self) -> None:
         fake = Fake(write_answer(0, TABLE) + write_answer(22))
-        self.assertEqual(fake.write_tables([VALUE, bytes(302)]), [Written(0, TABLE), Written(22, b"")])
-        self.assertEqual(fake.requests, [b"P" + VALUE + b"\x2f\x01\0\0" + bytes(303) + b"P" + bytes(302) + b"\x2f\x01\0\0" + bytes(303)])
+        self.assertEqual(fake.write_tables([VALUE, bytes(303)]), [Written(0, TABLE), Written(22, b"")])
+        self.assertEqual(fake.requests, [b"P" + VALUE + b"\x2f\x01\0\0" + bytes(303) + b"P" + bytes(303) + b"\x2f\x01\0\0" + bytes(303)])
 
     def test_all_in_one_run(self) -> None:
         fake = taking(TABLE, 5)
         self.assertEqual(tables.written(typed(THREE_TEXT), fake), TABLE)
         rows = ["0A00 0200 0300 0000 00", "0B00 0200 0300 0000 00", "1400 0200 0300 0000 00"]
         values = [
-            "03000000 02 0001000000000000 03" + "".join(rows),
-            "03000000 01 0000000000000000 00",
-            "03000000 02 0001000000000000 00",
-            "03000000 02 0001000000000000 01" + "".join(rows[:1]),
-            "03000000 02 0001000000000000 02" + "".join(rows[:2]),
-            "03000000 02 0001000000000000 03" + "".join(rows),
+            "01 03000000 02 0001000000000000 03" + "".join(rows),
+            "01 03000000 01 0000000000000000 00",
+            "01 03000000 02 0001000000000000 00",
+            "01 03000000 02 0001000000000000 01" + "".join(rows[:1]),
+            "01 03000000 02 0001000000000000 02" + "".join(rows[:2]),
+            "01 03000000 02 0001000000000000 03" + "".join(rows),
         ]
-        asked = b"".join(b"P" + bytes.fromhex(value).ljust(302, b"\0") + b"\x2f\x01\0\0" + bytes(303) for value in values)
+        asked = b"".join(b"P" + bytes.fromhex(value).ljust(303, b"\0") + b"\x2f\x01\0\0" + bytes(303) for value in values)
         self.assertEqual(fake.requests, [asked])
 
     def test_a_wild_probe(self) -> None:
         for number in [10, 11, 14, 15, 16, 21, 23, 37, 255]:  # 14 and 16 of the whole, and of no part of it
             with self.assertRaisesRegex(Trouble, f"^the probe is of another version, or contradicts itself: .* {number}$"):
                 tables.written(typed(THREE_TEXT), refusing(number, 0, 0, 0, 0, 0))
-        for head in ["03000000 09 0001000000000000 03", "03000000 02 0001000000000000 21"]:
+        for head in ["01 03000000 09 0001000000000000 03", "01 03000000 02 0001000000000000 21"]:
             with self.assertRaisesRegex(Trouble, "^the probe takes a table of "):
-                tables.plan_of(tables.taken(b"", Fake(b"\0" + bytes.fromhex(head).ljust(302, b"\0"))).value)
+                tables.plan_of(tables.taken(b"", Fake(b"\0" + bytes.fromhex(head).ljust(303, b"\0"))).value)
 
 
 class Places(unittest.TestCase):
@@ -355,6 +395,10 @@ class Places(unittest.TestCase):
         with self.assertRaises(Fault) as raised:
             tables.written(typed(text), refusing(*answers))
         self.assertEqual((str(raised.exception), raised.exception.number), (words, answers[0]))
+
+    def test_format(self) -> None:
+        for number, shown in [("0", "0"), ("3", "3"), ("255", "255"), ("256", "more than 255"), (9000 * "2", "more than 255")]:
+            self.assert_refused(f"#\nformat,{number}\nboards,0\n", [11, 11], f"line 2, format: 11, format is neither 1 nor 2 (format {shown})")
 
     def test_cycle(self) -> None:
         words = "12, L outside 1 to 1,000,000"
@@ -403,14 +447,14 @@ class Places(unittest.TestCase):
 
     def test_a_table_that_is_read(self) -> None:
         # Row 1 ends with byte 26: up to there the cuts are answered with 10.
-        cuts = [bytes([number]) + bytes(302) for number in 26 * [10] + 10 * [18]]
+        cuts = [refused(number) for number in 26 * [10] + 10 * [18]]
         with self.assertRaises(Fault) as raised:
-            tables.taken(TABLE, Fake(bytes([18]) + bytes(302), b"".join(cuts)))
+            tables.taken(TABLE, Fake(refused(18), b"".join(cuts)))
         self.assertEqual((str(raised.exception), raised.exception.number), ("18, e above p (row 1, tank 11, bytes 18 to 26: cost 2, period 3)", 18))
 
     def test_a_number_that_no_part_has(self) -> None:
         with self.assertRaisesRegex(Trouble, "contradicts itself"):
-            tables.taken(TABLE, Fake(bytes([99]) + bytes(302), 36 * (bytes([10]) + bytes(302))))
+            tables.taken(TABLE, Fake(refused(99), 36 * refused(10)))
 
 
 class InFolder(unittest.TestCase):
@@ -442,6 +486,15 @@ class Files(InFolder):
             self.assertEqual(ran(["write", self.file, "-o", str(self.folder / name)], fake), (0, "", THREE_SAID))
             self.assertEqual(((self.folder / name).read_bytes(), fake.requests), (data, [b"T\x24\0\0\0" + TABLE]))
 
+    def test_format_2(self) -> None:
+        # The value that is written and the one that is read have it in front; the other parts are as in format 1.
+        Path(self.text).write_text(THREE_2_TEXT)
+        fake = taking(TABLE_2, 5, b"\2" + VALUE[1:])
+        self.assertEqual(ran(["write", self.text, "-o", self.file], fake), (0, "", THREE_2_SAID))
+        self.assertEqual(Path(self.file).read_bytes(), TABLE_2)
+        self.assertEqual([fake.requests[0][start : start + 5] for start in range(0, len(fake.requests[0]), 1 + 303 + 4 + 303)], 6 * [b"P\2\3\0\0"])
+        self.assertEqual(ran(["show", self.file], Fake(b"\0\2" + VALUE[1:])), (0, THREE_2_TEXT, ""))
+
     def test_the_table_of_an_input(self) -> None:
         # 11: the input itself is no table, since it begins with a length.
         Path(self.file).write_bytes(THREE_SLOTS)
@@ -455,11 +508,11 @@ class Files(InFolder):
         # How many tanks there are, since one behind # is none; and which columns were not read.
         Path(self.text).write_text("cycle,2\nboards,0\nname,tank,cost,period,\x1b\n#1,1,1,2\n2,2,1,2\n")
         row = bytes.fromhex("01 02000000 01 00 01  0200 0100 0200 0000 00")
-        value = bytes.fromhex("02000000 01 0000000000000000 01  0200 0100 0200 0000 00")
+        value = bytes.fromhex("01 02000000 01 0000000000000000 01  0200 0100 0200 0000 00")
         words = "17 bytes, 1 tank; load 1 of 2 quanta in a cycle of 2 slots on 1 core: 1 is left\ncolumns that are not read: 'name', '\\x1b'\n"
         self.assertEqual(ran(["write", self.text, "-o", self.file], taking(row, 2, value)), (0, "", words))
         Path(self.text).write_text("boards,0\ntank,cost,period" + 10 * ",a" + "\n")
-        empty, value = bytes.fromhex("01 01000000 01 00 00"), bytes.fromhex("01000000 01")
+        empty, value = bytes.fromhex("01 01000000 01 00 00"), bytes.fromhex("01 01000000 01")
         words = "8 bytes, 0 tanks; load 0 of 1 quantum in a cycle of 1 slot on 1 core: 1 is left\ncolumns that are not read: " + ", ".join(8 * ["'a'"]) + " and 2 more\n"
         self.assertEqual(ran(["write", self.text, "-o", self.file], taking(empty, 1, value)), (0, "", words))
 
@@ -538,7 +591,7 @@ class Files(InFolder):
         # Of a table, 65,537 bytes are enough to tell that it is too long; of its place, the 303 that the longest table has.
         for arguments in [["show", long], ["write", long, "-o", self.file]]:
             fake = Fake(refused(11), 303 * refused(11))
-            self.assertEqual(ran(arguments, fake), (1, "", f"{long}: 11, format is not 1 (byte 0: it is 0)\n"))
+            self.assertEqual(ran(arguments, fake), (1, "", f"{long}: 11, format is neither 1 nor 2 (byte 0: it is 0)\n"))
             self.assertEqual(fake.requests[0], b"T\x01\0\x01\0" + bytes(65_537))
         for name, status, words in [
             ("long.csv", 1, "{}: the text is longer than 1048576 bytes, and no table needs so many\n"),
@@ -667,6 +720,19 @@ class AgainstProbe(unittest.TestCase):
         table = files.unhexed(example.encode(), "f")
         self.assertEqual(tables.hex_text(table, read_plan(table)), example.split("\n", 1)[1])
 
+    def test_format(self) -> None:
+        for text in [THREE_2_TEXT, f"format,2\n{Path(FARM).read_text()}"]:
+            table = tables.written(typed(text), Probe())
+            self.assertEqual(table, b"\2" + (TABLE if text == THREE_2_TEXT else FARM_BYTES)[1:])
+            self.assertEqual(read_plan(table), plan_of(text))
+            self.assert_written(table_text.text(read_plan(table)), table)
+        self.assert_written(f"format,1\n{THREE_TEXT}", TABLE)
+        # 11 comes ahead of 12, and of all that follows.
+        for number, said in [("0", "0"), ("3", "3"), ("255", "255"), ("256", "more than 255"), ("257", "more than 255"), ("258", "more than 255")]:
+            words = f"11, format is neither 1 nor 2 (format {said})"
+            self.assert_refused(f"format,{number}\n{THREE_TEXT}", f"line 1, format: {words}")
+            self.assert_refused(f"cycle,0\nformat,{number}\nboards,4,4\n", f"line 2, format: {words}")
+
     def test_cycle(self) -> None:
         words = "12, L outside 1 to 1,000,000"
         for cycle, said in [("0", "0"), ("1000001", "1000001"), ("4294967295", "4294967295"), ("4294967296", "more than 4294967295")]:
@@ -734,6 +800,24 @@ class ProgramAgainstProbe(InFolder):
         self.assertEqual((Path(self.file).read_bytes(), Path(f"{self.file}.hex").read_text()), (TABLE, THREE_HEX))
         self.assertEqual(self.names(), ["farm.csv", "table", "table.hex"])
 
+    def test_files_of_format_2(self) -> None:
+        # To bytes, to hex and back to text: always the same table.
+        Path(self.text).write_text(THREE_2_TEXT)
+        for name in [self.file, f"{self.file}.hex"]:
+            self.assertEqual(as_process("write", self.text, "-o", name), (0, b"", THREE_2_SAID))
+            self.assertEqual(as_process("show", name), (0, THREE_2_TEXT.encode(), ""))
+        self.assertEqual(Path(self.file).read_bytes(), TABLE_2)
+        status, out, error = as_process("check", self.text)
+        self.assertEqual((status, out.decode().splitlines()[:2], error), (0, ["0 done", THREE_2_SAID.removeprefix("36 bytes, ").rstrip()], ""))
+
+    def test_a_format_that_is_neither(self) -> None:
+        Path(self.text).write_text(THREE_2_TEXT.replace("2", "3", 1))
+        words = "line 1, format: 11, format is neither 1 nor 2 (format 3)"
+        self.assertEqual(as_process("write", self.text, "-o", self.file), (1, b"", f"{self.text}: {words}\n"))
+        status, out, _ = as_process("check", self.text)
+        self.assertEqual((status, out), (1, b"11 format is neither 1 nor 2\nline 1, format: format 3\n"))
+        self.assertEqual(self.names(), ["farm.csv"])
+
     def test_standard_input_and_output(self) -> None:
         self.assertEqual(as_process("write", "-", "-o", "-", given=THREE_TEXT.encode()), (0, TABLE, THREE_SAID))
         self.assertEqual(as_process("show", "-", given=TABLE), (0, THREE_TEXT.encode(), ""))
@@ -743,7 +827,7 @@ class ProgramAgainstProbe(InFolder):
         self.assertEqual(as_process("show", "-", given=TABLE[:-1]), (1, b"", words))
 
     def test_bytes_that_do_not_end(self) -> None:
-        words = "11, format is not 1 (byte 0: it is 0)\n"
+        words = "11, format is neither 1 nor 2 (byte 0: it is 0)\n"
         self.assertEqual(as_process("write", "/dev/zero", "-o", self.file), (1, b"", f"/dev/zero: {words}"))
         self.assertEqual(as_process("write", "-", "-o", "-", given=bytes(2_000_000)), (1, b"", f"standard input: {words}"))
         self.assertEqual(self.names(), ["farm.csv"])

@@ -27,6 +27,11 @@ ROOT = Path(__file__).resolve().parent.parent.parent
 TABLE = bytes.fromhex("01 03000000 02 0001 03  0A00 0200 0300 0000 00  0B00 0200 0300 0000 00  1400 0200 0300 0000 00")
 TRACE = bytes.fromhex("03000000 02020001 02020002 02020102")
 NO_ROWS = bytes.fromhex("01 01000000 02 0001 00")
+HALVES = bytes.fromhex("02000000 02 0001 04" + "".join(f"{tank:02X}00 0100 0200 0000 00" for tank in range(10, 14)))  # behind a format: four of 1/2, two cores
+HALVES_TRACES = {  # in formats 1 and 2; test_why.py works them out
+    1: bytes.fromhex("08000000" + 4 * "02020001 02020203"),
+    2: bytes.fromhex("08000000" + 2 * "02020001 02020203 02020203 02020001"),
+}
 EARLY = bytes.fromhex("01 06000000 01 00 01  0500 0200 0600 0000 01")  # one core, early release 2/6, tank 5
 
 BUILT = all((ROOT / "target" / name).exists() for name in ("bin/probe", "desk/run"))
@@ -145,12 +150,12 @@ class Shown(OverTrace):
 
 class Courses(OverTrace):
     def test_the_archive_runs_slots_as_the_probe_does(self) -> None:
-        # Tables of any kind, and any number of free cores, slot by slot: record, cores, number and row.
+        # Tables of any kind, in either format, and any number of free cores, slot by slot: record, cores, number and row.
         draw = random.Random(24)
-        for _ in range(6):
+        for format in 5 * (1, 2):
             cores = draw.randint(1, 4)
             rows = [(10 * tank, draw.randint(1, 5), draw.choice([6, 12]), draw.randint(0, 4), draw.randint(0, 1)) for tank in range(draw.randint(1, 5))]
-            table = struct.pack("<BIB", 1, 12, cores) + bytes(range(cores)) + bytes([len(rows)]) + b"".join(struct.pack("<HHHHB", *row) for row in rows)
+            table = struct.pack("<BIB", format, 12, cores) + bytes(range(cores)) + bytes([len(rows)]) + b"".join(struct.pack("<HHHHB", *row) for row in rows)
             taken = self.probe.read_table(table)
             if taken.number != 0:
                 continue
@@ -162,6 +167,17 @@ class Courses(OverTrace):
                 if ran.number <= LATE:
                     self.assertEqual(ran.record, asked.record)
                 state = asked.state
+
+    def test_both_formats(self) -> None:
+        # The slots are those of the traces, and the traces are ours: their cores are known. Of the other format's trace they are not, from slot 2 on.
+        for format, trace in HALVES_TRACES.items():
+            table = bytes([format]) + HALVES
+            ran = course.ours(table, self.taken(table), 8 * b"\2", self.archive)
+            self.assertEqual(b"".join(ran.records), trace[4:])
+            self.assertEqual(self.course(trace, table).cores, ran.cores)
+            other = self.course(HALVES_TRACES[3 - format], table)
+            self.assertEqual((other.cores, other.fine), (None, True))
+            self.assertEqual(other.notes, ("Cores and moves are unknown: the record of slot 2 is not the one that this dispatcher writes.",))
 
     def test_ours(self) -> None:
         ran = course.ours(TABLE, self.taken(TABLE), b"\2\2\2", self.archive)
@@ -211,9 +227,23 @@ class Numbers(OverTrace):
         self.assertEqual([tank.jobs for tank in found], [[(1, 0, 2)], [(1, 0, 3)], [(1, 0, 3)]])
         self.assertEqual([job.response for tank in found for job in tank.jobs], [2, 3, 3])
         lines = list(stats.lines(found, self.course(TRACE)))
-        self.assertEqual(lines[0], "3 slots; 6 of 6 free core slots used")
+        self.assertEqual(lines[0], "3 slots; 6 of 6 free core slots used; 4 starts")
         self.assertEqual(lines[2].split(), ["10", "2/3", "2", "0", "0", "1", "1", "2", "2.0", "2", "0"])
         self.assertEqual(list(stats.job_lines(found))[1], "tank 11 job 1: released 0, done 3, response 3")
+
+    def test_starts_of_both_formats(self) -> None:
+        # In format 1 each tank runs in every second slot: four starts each. In format 2 tanks 10 and 11 run in slots 0, 3, 4 and 7, and start in 0, 3 and 7;
+        # tanks 12 and 13 run in 1, 2, 5 and 6, and start in 1 and 5. Nobody moves. Who runs in the second slot of a window has waited in the first.
+        for format, slots, starts, waited in [
+            (1, [[0, 2, 4, 6], [0, 2, 4, 6], [1, 3, 5, 7], [1, 3, 5, 7]], [4, 4, 4, 4], [0, 0, 4, 4]),
+            (2, [[0, 3, 4, 7], [0, 3, 4, 7], [1, 2, 5, 6], [1, 2, 5, 6]], [3, 3, 2, 2], [2, 2, 2, 2]),
+        ]:
+            table = bytes([format]) + HALVES
+            ran = self.course(HALVES_TRACES[format], table)
+            found = stats.counted(self.taken(table), ran, self.probe)
+            self.assertEqual([tank.slots for tank in found], slots)
+            self.assertEqual(([tank.starts for tank in found], [tank.waited for tank in found], [tank.moves for tank in found]), (starts, waited, 4 * [0]))
+            self.assertEqual(next(stats.lines(found, ran)), f"8 slots; 16 of 16 free core slots used; {16 if format == 1 else 10} starts")
 
     def test_early_release(self) -> None:
         # 01's bench: slots 0, 1, 6 of the first seven. In slots 2 to 5 it is not ready, so it does not wait.
@@ -253,6 +283,28 @@ class Pictures(OverTrace):
         self.assertEqual([(quantum.window.subtask, quantum.slot, quantum.core) for quantum in first.quanta], [(1, 0, 0), (2, 1, 0)])
         self.assertEqual([line.waits.keys() for line in picture.lines], [{}.keys(), {1: ""}.keys(), {0: ""}.keys()])
         self.assertIn("no core", str(schedule.drawn("t", self.taken(TABLE), self.course(bytes.fromhex("01000000 0000")), 0, 1, self.probe).lines[0].waits[0]))
+
+    def test_waits_of_both_formats(self) -> None:
+        # Of the slots from 2 on: who waits in slots 2 and 4, whom they wait for, and by which rule. The state before slot 2 remembers slot 1.
+        place, ran = "its earlier place in the table", "having run in the slot before"
+        for format, expected in [
+            (1, [{}, {}, {2: (11, place), 4: (11, place)}, {2: (11, place), 4: (11, place)}]),
+            (2, [{2: (13, ran)}, {2: (13, ran)}, {4: (11, ran)}, {4: (11, ran)}]),
+        ]:
+            table = bytes([format]) + HALVES
+            for shown in [self.course(HALVES_TRACES[format], table), course.ours(table, self.taken(table), 8 * b"\2", self.archive)]:
+                lines = schedule.drawn("t", self.taken(table), shown, 2, 6, self.probe).lines
+                self.assertEqual([line.waits.keys() for line in lines], [waits.keys() for waits in expected])
+                for line, waits in zip(lines, expected):
+                    for slot, (tank, rule) in waits.items():
+                        self.assertIn(f"the last in line to be picked was tank {tank}, which goes ahead by {rule} (", line.waits[slot])
+
+    def test_waits_over_the_trace_of_the_other_format(self) -> None:
+        # Tanks 10 and 11 ran in slots 0 and 2, and by format 2 tanks 12 and 13 would have run in slot 2: they ran in slot 1.
+        table = b"\2" + HALVES
+        lines = schedule.drawn("t", self.taken(table), self.course(HALVES_TRACES[1], table), 2, 3, self.probe).lines
+        said = {2: "was ready in slot 2, and by the dispatcher's rules it would have run"}
+        self.assertEqual([line.waits for line in lines], [{}, {}, said, said])
 
     def test_some_slots(self) -> None:
         picture = schedule.drawn("t", self.taken(TABLE), self.course(TRACE), 2, 3, self.probe)

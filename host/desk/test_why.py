@@ -48,16 +48,23 @@ NOT_OURS = "This trace is not the dispatcher's for this table: "
 BIT = "its bit (the deadlines are the same, but only tank {} has a window that overlaps its own next one)."
 GROUP = "its later group deadline (the deadlines are the same, and both have the bit)."
 PLACE = "its earlier place in the table (nothing else decides between the two)."
+RAN = "having run in the slot before (nothing else but the place in the table decides between the two, and the table is of format 2)."
 
-def table(cycle: int, cores: int, *rows: tuple[int, int, int, int, int]) -> bytes:
+
+def table(cycle: int, cores: int, *rows: tuple[int, int, int, int, int], format: int = 1) -> bytes:
     """The bytes of a table. A row is its tank, cost, period, phase and kind."""
-    head = struct.pack("<BIB", 1, cycle, cores) + bytes(range(cores)) + bytes([len(rows)])
+    head = struct.pack("<BIB", format, cycle, cores) + bytes(range(cores)) + bytes([len(rows)])
     return head + b"".join(struct.pack("<HHHHB", *row) for row in rows)
 
 
 def trace(*records: str) -> bytes:
     """The bytes of a trace, of records in hex: cores free, rows picked, and these rows."""
     return struct.pack("<I", len(records)) + bytes.fromhex("".join(records))
+
+
+def four_halves(format: int) -> bytes:
+    """The table of examples/four-halves-1.hex and four-halves-2.hex: tanks 10 to 13, each of 1/2, on two cores."""
+    return table(2, 2, *((tank, 1, 2, 0, 0) for tank in range(10, 14)), format=format)
 
 
 def slot_answer(number: int, record: bytes) -> bytes:
@@ -88,7 +95,7 @@ class Requests(unittest.TestCase):
     def test_why(self) -> None:
         fake = Fake(TAKEN, bytes.fromhex("00 04 0102030405060708 02 03"))
         quanta = [3, 0, 258] + 29 * [0]
-        answer = fake.why(fake.read_table(TABLE).at(513, quanta), 2, 1)
+        answer = fake.why(fake.read_table(TABLE).at(513, quanta, ()), 2, 1)
         state = VALUE + bytes.fromhex("0102000000000000 00  0300000000000000 0000000000000000 0201000000000000") + bytes(29 * 8) + bytes(17)
         self.assertEqual(fake.requests[1], b"Y" + state + b"\x02\x01")
         self.assertEqual(answer, Why(0, 4, 0x0807060504030201, 2, 3))
@@ -96,6 +103,19 @@ class Requests(unittest.TestCase):
     def test_a_fresh_state_is_one_of_time_0(self) -> None:
         fresh = Fake(TAKEN).read_table(TABLE).fresh()
         self.assertEqual(fresh, State(VALUE + bytes(8 + 1 + 32 * 8 + 17)))
+
+    def test_who_ran_in_the_slot_before(self) -> None:
+        # A count, eight places for rows and eight for their cores, which are 0, 1, ..
+        table = Fake(TAKEN).read_table(TABLE)
+        for last, memory in [
+            ((), "00" + 16 * "00"),
+            ((0, 2), "02  0002000000000000  0001000000000000"),
+            (range(8), "08  0001020304050607  0001020304050607"),
+            ((2, 0, 0), "03  0200000000000000  0001020000000000"),  # as they stand, for the probe to judge
+            (range(9), "09  0001020304050607  0001020304050607"),
+            (255 * (7,), "FF  0707070707070707  0001020304050607"),
+        ]:
+            self.assertEqual(table.at(513, 32 * [0], last).raw[568:], bytes.fromhex(memory))
 
     def test_check(self) -> None:
         fake = Fake(bytes.fromhex("2D 02 0102000000000000"))
@@ -111,7 +131,7 @@ class Requests(unittest.TestCase):
 
     def test_record_of_a_slot(self) -> None:
         for record in [b"\0\0", b"\2\2\0\1", bytes([8, 8, *range(8)])]:
-            self.assertEqual(Fake(slot_answer(0, record)).run_slot(State(bytes(584)), 0).record, record)
+            self.assertEqual(Fake(slot_answer(0, record)).run_slot(State(bytes(585)), 0).record, record)
 
     def test_tanks(self) -> None:
         self.assertEqual(Fake(TAKEN).read_table(TABLE).tanks, (10, 11, 20))
@@ -138,9 +158,9 @@ class Reading(unittest.TestCase):
     def test_counts_and_records(self) -> None:
         # Before slot 2, records 0 and 1 name row 0 twice, row 1 and row 2 once.
         past = traces.read(io.BytesIO(TRACE), 2, 3)
-        self.assertEqual(past, traces.Past(3, 8, (2, 1, 1) + 29 * (0,), TRACE[12:]))
+        self.assertEqual(past, traces.Past(3, 8, (2, 1, 1) + 29 * (0,), b"\0\2", TRACE[12:]))
         past = traces.read(io.BytesIO(TRACE), 0, 3)
-        self.assertEqual(past, traces.Past(3, 0, 32 * (0,), TRACE[4:8]))
+        self.assertEqual(past, traces.Past(3, 0, 32 * (0,), b"", TRACE[4:8]))
 
     def test_no_further_than_the_slot(self) -> None:
         file = io.BytesIO(TRACE)
@@ -154,12 +174,12 @@ class Reading(unittest.TestCase):
     def test_records_are_not_judged(self) -> None:
         # More cores than there are, more rows than cores, rows that fall: all are read as they stand.
         past = traces.read(io.BytesIO(trace("FF00", "00020100", "0103020100")), 2, 3)
-        self.assertEqual((past.quanta[:3], past.record), ((1, 1, 0), bytes.fromhex("0103020100")))
+        self.assertEqual((past.quanta[:3], past.last, past.record), ((1, 1, 0), b"\1\0", bytes.fromhex("0103020100")))
 
     def test_a_long_past_is_not_kept(self) -> None:
         # 255 times row 0 in each of 8,200 records of 257 bytes: 2,107,400 bytes, of which only the length is kept.
         past = traces.read(io.BytesIO(struct.pack("<I", 8_201) + 8_200 * (b"\xff\xff" + bytes(255)) + b"\0\0"), 8_200, 1)
-        self.assertEqual(past, traces.Past(8_201, 2_107_400, (8_200, *31 * (0,)), b"\0\0"))
+        self.assertEqual(past, traces.Past(8_201, 2_107_400, (8_200, *31 * (0,)), bytes(255), b"\0\0"))
 
     def test_the_start_of_a_trace_as_a_trace(self) -> None:
         # Its own count, and the records of so many bytes; read in any parts, from wherever the file stands.
@@ -192,7 +212,7 @@ class Reading(unittest.TestCase):
             records[slot] = record
             text = f"{NOT_OURS}the record of slot {slot} names row 3, counted from 0, and the table has 3 rows."
             self.assertEqual(said(TABLE, trace(*records), 10, 1, Fake(TAKEN)), [text, 1])
-        alone = VALUE[:13] + b"\1" + VALUE[14:23] + bytes(31 * 9)
+        alone = VALUE[:14] + b"\1" + VALUE[15:24] + bytes(31 * 9)
         text = f"{NOT_OURS}the record of slot 0 names row 255, counted from 0, and the table has 1 row."
         self.assertEqual(said(b"", trace("0101FF"), 10, 0, Fake(b"\0" + alone)), [text, 1])
 
@@ -201,7 +221,7 @@ class WithoutAnswer(unittest.TestCase):
     def test_a_tank_that_is_not_there(self) -> None:
         for tank in [0, 12, 70_000]:
             self.assertEqual(said(TABLE, TRACE, tank, 0, Fake(TAKEN)), [f"Tank {tank} is not in the table, which has tanks 10, 11 and 20.", 1])
-        empty = VALUE[:13] + bytes(1 + 32 * 9)
+        empty = VALUE[:14] + bytes(1 + 32 * 9)
         self.assertEqual(said(b"", TRACE, 0, 0, Fake(b"\0" + empty)), ["Tank 0 is not in the table, which has no tank.", 1])
 
     def test_refused_states(self) -> None:
@@ -226,7 +246,7 @@ class WithoutAnswer(unittest.TestCase):
             [why_answer(0, 0), slot_answer(0, b"\2\2\0\2")],
             [why_answer(0, 5), slot_answer(0, b"\2\2\0\2")],
             [why_answer(0, 4, row=1, rule=0), slot_answer(0, b"\2\2\0\2")],
-            [why_answer(0, 4, row=1, rule=5), slot_answer(0, b"\2\2\0\2")],
+            [why_answer(0, 4, row=1, rule=6), slot_answer(0, b"\2\2\0\2")],
             [why_answer(0, 4, row=32, rule=1), slot_answer(0, b"\2\2\0\2")],
             [why_answer(0, 1), slot_answer(30, b"\0\0")],
         ]:
@@ -236,10 +256,11 @@ class WithoutAnswer(unittest.TestCase):
 
 class Asking(unittest.TestCase):
     def test_requests(self) -> None:
-        # Slot 2 of 01's trace, row 1: the records before it give row 0 two quanta and rows 1 and 2 one each. Two cores are free: bits 0 and 1.
+        # Slot 2 of 01's trace, row 1: the records before it give row 0 two quanta and rows 1 and 2 one each, and the last of them names rows 0 and 2. Two
+        # cores are free: bits 0 and 1.
         fake = Fake(TAKEN, check_answer(), why_answer(0, 1), slot_answer(0, b"\2\2\1\2"))
         self.assertEqual(said(TABLE, TRACE, 11, 2, fake), ["Tank 11 was picked in slot 2.", 0])
-        state = VALUE + struct.pack("<QB32Q", 2, 0, 2, 1, 1, *29 * [0]) + bytes(17)
+        state = VALUE + struct.pack("<QB32Q", 2, 0, 2, 1, 1, *29 * [0]) + placement((0, 0), (2, 1))
         self.assertEqual(
             fake.requests,
             [
@@ -249,6 +270,18 @@ class Asking(unittest.TestCase):
                 b"K" + state + b"\3\0\0\0" + bytes(8) + b"\x0a\0\0\0" + bytes(10),
             ],
         )
+
+    def test_who_ran_before_slot_0(self) -> None:
+        fake = Fake(TAKEN, check_answer(), why_answer(0, 1), slot_answer(0, b"\2\2\0\1"))
+        said(TABLE, TRACE, 10, 0, fake)
+        fresh = VALUE + bytes(8 + 1 + 32 * 8 + 17)
+        self.assertEqual([request[1:586] for request in fake.requests[2:]], [fresh, fresh])
+
+    def test_rules(self) -> None:
+        passed = "Tank 20 was ready in slot 0, but passed over: with 2 cores free the last in line to be picked was tank 11, which goes ahead by"
+        for rule, text in [(1, "its earlier deadline."), (2, BIT.format(11)), (3, GROUP), (4, PLACE), (5, RAN)]:
+            fake = Fake(TAKEN, check_answer(), why_answer(0, 4, row=1, rule=rule), slot_answer(0, b"\2\2\0\1"))
+            self.assertEqual(said(TABLE, TRACE, 20, 0, fake), [f"{passed} {text}", 0])
 
     def test_a_slot_after_which_a_row_is_late_is_a_slot(self) -> None:
         fake = Fake(TAKEN, check_answer(), why_answer(0, 3), slot_answer(1, b"\0\0"))
@@ -387,7 +420,7 @@ class Endings(EndingCase):
         asked = [*EXAMPLE, "14", "0"]
         self.assert_no_answer(asked, Probe([str(HERE / "none")]), "does not start")
         self.assert_no_answer(asked, Probe(["/bin/sh", "-c", "echo it is not built >&2; exit 2"]), "it is not built")
-        self.assert_no_answer(asked, Probe(["/bin/sh", "-c", "printf '\\377'"]), "of another version.* 1 bytes answer T, not 303")
+        self.assert_no_answer(asked, Probe(["/bin/sh", "-c", "printf '\\377'"]), "of another version.* 1 bytes answer T, not 304")
 
     def test_interrupted(self) -> None:
         self.assertEqual(ran(["why", *EXAMPLE, "14", "0"], Interrupted()), (130, "", ""))
@@ -535,18 +568,75 @@ class AgainstProbe(unittest.TestCase):
         self.assert_said(table(2, 1, (14, 1, 2, 0, 0)), trace("FF0100"), 14, 0, text, 1)
 
     def test_records_that_are_not_well_formed(self) -> None:
-        # Whatever is wrong with slot 0, it names rows 0 and 1, and slot 1 is as above. In the last, row 0 is named twice and has one quantum: next
-        # d in slot 1 is 3, 2, 2, so rows 1 and 2 are picked, row 2 as the last.
+        # Whatever is wrong with slot 0, it names rows 0 and 1, and slot 1 is as above.
         picked = "Tank 10 was picked in slot 1."
         for record, text in [
             ("03020001", "a record before slot 1 says that more cores were free than the table has"),
             ("01020001", "a record before slot 1 names more tanks than cores were free"),
-            ("02020100", "a record before slot 1 names a tank twice, or tanks out of order"),
         ]:
             self.assert_said(TABLE, trace(record, "02020002"), 10, 1, f"{NOT_OURS}{text}.", picked, 1)
-        passed = "but passed over: with 2 cores free the last in line to be picked was tank 20, which goes ahead by its earlier deadline."
-        twice = trace("02020000", "02020102")
-        self.assert_said(TABLE, twice, 10, 1, f"{NOT_OURS}{text}.", f"Tank 10 was ready in slot 1, {passed}", 1)
+
+    def test_a_record_that_no_state_can_remember(self) -> None:
+        # 02, Eight: a state is broken by remembered rows that do not rise, and by more of them than there are cores, here 2; in either format.
+        unordered = f"{NOT_OURS}a record before slot {{}} names a tank twice, or tanks out of order."
+        for box in [TABLE, b"\2" + TABLE[1:]]:
+            for record, text in [
+                ("02020100", unordered.format(1)),
+                ("02020000", unordered.format(1)),
+                ("03030001 02", f"{NOT_OURS}a record before slot 1 says that more cores were free than the table has."),
+                ("02030001 02", f"{NOT_OURS}a record before slot 1 names more tanks than cores were free."),
+                ("FFFF" + 255 * "00", f"{NOT_OURS}a record before slot 1 says that more cores were free than the table has."),
+            ]:
+                self.assert_said(box, trace(record, "02020002"), 10, 1, text, "So there is no answer for slot 1.", 1)
+            # A slot later it is forgotten. Rows 0 and 1 had a quantum in slot 0, rows 0 and 2 in slot 1: slot 2 is that of 01's trace.
+            text, given = unordered.format(2), trace("02020100", "02020002", "02020102")
+            self.assert_said(box, given, 11, 2, text, "Tank 11 was picked in slot 2.", 1)
+
+    # The windows of 1/2 are 0-2, 2-4, 4-6, .. with b 0, for all four alike: nothing decides in slots 0, 2, 4, .. but who ran before and the place; in
+    # slots 1, 3, 5, .. the two that have not run in their window are the only ones that are ready.
+    #   0: nobody ran before: rows 0 and 1.
+    #   1: rows 2 and 3. 2: they ran in slot 1 and go first. 3: rows 0 and 1. 4: they ran in slot 3. 5: rows 2 and 3. 6: they ran in slot 5. 7: rows 0 and 1.
+    def test_format_2(self) -> None:
+        box, given = (files.read(str(ROOT / "examples" / f"four-halves-2{name}.hex"), REQUEST_LIMIT).data for name in ("", "-trace"))
+        self.assertEqual(box[2:-4], four_halves(2))
+        passed = "but passed over: with 2 cores free the last in line to be picked was tank"
+        for tank, slot, text in [
+            (10, 0, "Tank 10 was picked in slot 0."),
+            (12, 0, f"Tank 12 was ready in slot 0, {passed} 11, which goes ahead by {PLACE}"),
+            (11, 1, "Tank 11 was not ready in slot 1: the first slot in which it is ready is 2."),
+            (13, 1, "Tank 13 was picked in slot 1."),
+            (10, 2, f"Tank 10 was ready in slot 2, {passed} 13, which goes ahead by {RAN}"),
+            (12, 2, "Tank 12 was picked in slot 2."),
+            (12, 3, "Tank 12 was not ready in slot 3: the first slot in which it is ready is 4."),
+            (13, 4, f"Tank 13 was ready in slot 4, {passed} 11, which goes ahead by {RAN}"),
+            (11, 4, "Tank 11 was picked in slot 4."),
+            (12, 5, "Tank 12 was picked in slot 5."),
+            (11, 6, f"Tank 11 was ready in slot 6, {passed} 13, which goes ahead by {RAN}"),
+            (10, 7, "Tank 10 was picked in slot 7."),
+        ]:
+            self.assert_said(four_halves(2), given, tank, slot, text, 0)
+
+    def test_two_that_ran_before(self) -> None:
+        # In slot 2 one core is left, and rows 2 and 3 both ran in slot 1: between these the place decides.
+        given = trace("02020001", "02020203", "010102")
+        one = "but passed over: with 1 core free the one picked was tank 12, which goes ahead by"
+        self.assert_said(four_halves(2), given, 13, 2, f"Tank 13 was ready in slot 2, {one} {PLACE}", 0)
+        self.assert_said(four_halves(2), given, 10, 2, f"Tank 10 was ready in slot 2, {one} {RAN}", 0)
+
+    def test_who_ran_before_is_not_who_ran_earlier(self) -> None:
+        # Only the slot before counts. Nobody ran in slot 2: in slot 3 the place decides, though rows 2 and 3 ran in slot 1.
+        given = trace("02020001", "02020203", "0000", "010100")
+        one = "but passed over: with 1 core free the one picked was tank 10, which goes ahead by"
+        self.assert_said(four_halves(2), given, 12, 3, f"Tank 12 was ready in slot 3, {one} {PLACE}", 0)
+
+    def test_a_trace_of_the_other_format(self) -> None:
+        # Both pass the trace check, which leaves open who of the ready is picked.
+        of_1, of_2 = (trace(*(2 * records)) for records in (["02020001", "02020203", "02020001", "02020203"], ["02020001", "02020203", "02020203", "02020001"]))
+        foreign = f"{NOT_OURS}the record of slot 2 names tanks {{}}, and the dispatcher picks tanks {{}}."
+        by_rules = "By the dispatcher's rules tank 12 was"
+        passed = "but passed over: with 2 cores free the last in line to be picked was tank 11, which goes ahead by"
+        self.assert_said(four_halves(1), of_2, 12, 2, foreign.format("12 and 13", "10 and 11"), f"{by_rules} ready in slot 2, {passed} {PLACE}", 1)
+        self.assert_said(four_halves(2), of_1, 12, 2, foreign.format("10 and 11", "12 and 13"), f"{by_rules} picked in slot 2.", 1)
 
     def test_a_count_that_no_trace_has(self) -> None:
         text = "By its count this is no trace: it has 1000000001 slots, and 1000000000 is the most, of a longer run too."
@@ -655,7 +745,7 @@ class ThePage(unittest.TestCase):
 
     def test_examples(self) -> None:
         examples = [block for block in PAGE.read_text().split("\n\n") if block.startswith("    $ ")]
-        reasons = [" was picked in ", " was not ready in ", ", but no core was free.", ", but passed over: "]
+        reasons = [" was picked in ", " was not ready in ", ", but no core was free.", ", but passed over: ", RAN]
         for reason in reasons:
             self.assertTrue(any(reason in block for block in examples), reason)
         for block in examples:

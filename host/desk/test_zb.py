@@ -91,6 +91,7 @@ class Words(unittest.TestCase):
     def test_meaning(self) -> None:
         status, out, error = ran("meaning", "22")
         self.assertEqual((status, out.splitlines()[0], error), (0, "22 sum above M*L", ""))
+        self.assertEqual(ran("meaning", "11")[1].splitlines()[0], "11 format is neither 1 nor 2")
         self.assertEqual(ran("meaning", "35")[1].splitlines()[0], "35 a set naming a core not below M, or a printer's k above M")
         for word in ("input", "late", "refused", "end", "022"):
             self.assertEqual(ran("meaning", word)[0], 0)
@@ -170,7 +171,8 @@ class Tables(WithFiles):
             (TABLE[:8], "10 table ends inside a field or row", "it ends after 8 bytes, before its row count"),
             (TABLE[:18], "10 table ends inside a field or row", "it ends after 18 bytes, before row 1"),
             (b"", "10 table ends inside a field or row", "it ends after 0 bytes, before its format"),
-            (b"\x02" + TABLE[1:], "11 format is not 1", "byte 0: it is 2"),
+            (b"\x00" + TABLE[1:], "11 format is neither 1 nor 2", "byte 0: it is 0"),
+            (b"\x03" + TABLE[1:], "11 format is neither 1 nor 2", "byte 0: it is 3"),
             (b"\x01\0\0\0\0" + TABLE[5:], "12 L outside 1 to 1,000,000", "byte 4: it is 0"),
             (TABLE[:5] + b"\x09" + TABLE[6:], "13 M outside 1 to 8", "byte 5: it is 9"),
             (TABLE[:6] + b"\1\1" + TABLE[8:], "14 board numbers not rising", "byte 7: board 1 after board 1"),
@@ -216,6 +218,23 @@ class Tables(WithFiles):
         self.assertEqual(Path(source).read_bytes(), TABLE)
         self.assertEqual(ran("table", "show", source)[1], "cycle,3\nboards,0,1\ntank,cost,period,phase,kind\n10,2,3,0,plain\n11,2,3,0,plain\n20,2,3,0,plain\n")
 
+    def test_both_formats(self) -> None:
+        # The same tanks, load and cores; of format 2 it is said.
+        load = "load 4 of 4 quanta in a cycle of 2 slots on 2 cores: nothing is left"
+        text = "cycle,2\nboards,0,1\ntank,cost,period,phase,kind\n" + "".join(f"{tank},1,2,0,plain\n" for tank in range(10, 14))
+        for format, tanks, shown in [(1, "4 tanks", text), (2, "4 tanks, in format 2", f"format,2\n{text}")]:
+            name = str(EXAMPLES / f"four-halves-{format}.hex")
+            status, out, _ = ran("table", "check", name)
+            self.assertEqual((status, out.splitlines()[:2]), (0, ["0 done", f"{tanks}; {load}"]))
+            self.assertRegex(out.splitlines()[2], r"\Anever late from a fresh start if all 2 cores are free in every slot \(proved\); it needs 2: ")
+            self.assertEqual(ran("table", "show", name)[:2], (0, shown))
+
+    def test_how_many_cores_a_table_of_format_2_would_need(self) -> None:
+        words = "load 6 of 3 quanta in a cycle of 3 slots on 1 core: 3 too many; it would need 2 cores"
+        self.assertEqual(ran("table", "check", self.file("t", b"\2" + TABLE[1:5] + b"\1\0" + TABLE[8:]))[:2], (1, f"22 sum above M*L\n{words}\n"))
+        three = "format,2\nboards,0\ntank,cost,period\n10,2,3\n11,2,3\n20,2,3\n"
+        self.assertEqual(ran("table", "check", self.file("t.csv", three))[:2], (1, f"22 sum above M*L\n{words}\n"))
+
     def test_an_input_of_the_printer(self) -> None:
         status, out, error = ran("table", "check", str(EXAMPLES / "three-tanks-slots.hex"))
         self.assertEqual((status, out.splitlines()[0]), (0, "0 done"))
@@ -234,6 +253,15 @@ class Slots(WithFiles):
     def test_a_table_and_an_input(self) -> None:
         for name in [self.file("t", TABLE), self.file("t.csv", "boards,0,1\ntank,cost,period\n10,2,3\n11,2,3\n20,2,3\n"), str(EXAMPLES / "three-tanks-slots.hex"), str(EXAMPLES / "three-tanks.hex")]:
             self.assertEqual(ran("slots", name), (0, LISTING, ""))
+
+    def test_both_formats(self) -> None:
+        # Slot by slot the two pairs take turns; in format 2 a pair that ran in the slot before goes first.
+        first, second = "10 11", "12 13"
+        for format, picks in [(1, 4 * [first, second]), (2, 2 * [first, second, second, first])]:
+            listed = "slot free tanks\n" + "".join(f"{slot} 2 {tanks}\n" for slot, tanks in enumerate(picks)) + "end 8\n"
+            self.assertEqual(ran("slots", str(EXAMPLES / f"four-halves-{format}.hex")), (0, listed, ""))
+            text = f"format,{format}\nboards,0,1\ntank,cost,period\n" + "".join(f"{tank},1,2\n" for tank in range(10, 14))
+            self.assertEqual(ran("slots", self.file("t.csv", text), "--slots", "8"), (0, listed, ""))
 
     def test_slots_and_free(self) -> None:
         name = self.file("t", TABLE)
@@ -260,7 +288,7 @@ class Slots(WithFiles):
         example = files.read(str(EXAMPLES / "three-tanks-slots.hex"), 1_000).data
         status, out, error = ran("slots", self.file("t", example[:-1]))
         self.assertEqual((status, out, error), (1, "input\n", "zb: input: the table's length says 36, so the input must have 42 bytes with 0 k values, and has 41\n"))
-        for data in (b"\2" + TABLE[1:], TRACE):
+        for data in (b"\3" + TABLE[1:], TRACE):
             self.assertEqual(ran("slots", self.file("t", data))[:2], (1, "refused 11\n"))
 
     def test_cores_are_listed_for_the_same_slots(self) -> None:
@@ -313,9 +341,20 @@ class Traces(WithFiles):
 
     def test_stats(self) -> None:
         status, out, _ = ran("stats", self.table, self.trace)
-        self.assertEqual((status, out.splitlines()[0]), (0, "3 slots; 6 of 6 free core slots used"))
+        self.assertEqual((status, out.splitlines()[0]), (0, "3 slots; 6 of 6 free core slots used; 4 starts"))
         self.assertEqual(ran("stats", self.table, self.trace, "--jobs")[1].splitlines()[0], "tank 10 job 1: released 0, done 2, response 2")
         self.assertEqual(ran("stats", self.table, self.file("late", bytes.fromhex("02000000 0000 0000")))[0], 1)
+
+    def test_starts_of_both_formats(self) -> None:
+        # Each tank's starts, and all of them: 4 · 4, and 3 + 3 + 2 + 2. No tank moves in either.
+        for format, starts in [(1, [4, 4, 4, 4]), (2, [3, 3, 2, 2])]:
+            table, trace = (str(EXAMPLES / f"four-halves-{format}{name}.hex") for name in ("", "-trace"))
+            self.assertEqual(ran("trace", "check", table, trace)[0], 0)
+            status, out, _ = ran("stats", table, trace)
+            head, names, *tanks = out.splitlines()[:6]
+            self.assertEqual((status, head), (0, f"8 slots; 16 of 16 free core slots used; {sum(starts)} starts"))
+            columns = names.split().index("starts"), names.split().index("moves")
+            self.assertEqual([[int(line.split()[column]) for line in tanks] for column in columns], [starts, 4 * [0]])
 
     def test_standard_input(self) -> None:
         self.assertEqual(process("trace", "check", self.table, "-", given=TRACE)[0], 0)
@@ -336,6 +375,21 @@ class Drawings(WithFiles):
             "                    ├█1────┤",
         ]
         self.assertEqual(ran("draw", str(EXAMPLES / "camera.csv"))[1].splitlines(), drawn)
+
+    def test_both_formats(self) -> None:
+        # Windows 0 to 2, 2 to 4, .. of all four alike. In format 1 tanks 10 and 11 run at the start of each, 12 and 13 at the end; in format 2 the pair
+        # that ran at the end of a window runs at the start of the next.
+        at_start, at_end = "├█{0}────┤", "├────█{0}┤"
+        odd, even = "{}        {}", 8 * " " + "{}        {}"  # the windows that stand on a tank's first line, and on its second
+        for format, pairs in [(1, {10: (at_start, at_start), 12: (at_end, at_end)}), (2, {10: (at_start, at_end), 12: (at_end, at_start)})]:
+            drawn = ["slot            " + "   ".join("01234567"), "free            " + "   ".join(8 * "2")]
+            for tank in range(10, 14):
+                first, second = (window.format(tank % 2) for window in pairs[tank - tank % 2])
+                drawn += [f"tank {tank}    1/2  {odd.format(first, first)}", 16 * " " + even.format(second, second)]
+            name = str(EXAMPLES / f"four-halves-{format}.hex")
+            self.assertEqual(ran("draw", name), (0, "\n".join(drawn) + "\n", ""))
+            status, out, _ = ran("draw", name, str(EXAMPLES / f"four-halves-{format}-trace.hex"))
+            self.assertEqual((status, out.splitlines()[: len(drawn)]), (0, drawn))
 
     def test_forms(self) -> None:
         table = self.file("t", TABLE)
@@ -500,14 +554,25 @@ class Progress(unittest.TestCase):
             script.write_text("#!/bin/sh\ntrap 'echo ended >\"$0.said\"; exit 2' TERM\n: >\"$0.begun\"\nwhile :; do sleep 0.05; done\n")
             script.chmod(0o755)
 
+            waited_for = threading.Event()
+
+            class Watched(subprocess.Popen[bytes]):
+                """Says when it is waited for: before that, while it is being started, nobody could end it."""
+
+                def wait(self, timeout: float | None = None) -> int:
+                    waited_for.set()
+                    return super().wait(timeout)
+
             def interrupt() -> None:
+                waited_for.wait()
                 while not script.with_name("build.begun").exists():
                     time.sleep(0.01)
                 os.kill(os.getpid(), signal.SIGINT)
 
             heeded = signal.signal(signal.SIGINT, signal.default_int_handler)
             self.addCleanup(signal.signal, signal.SIGINT, heeded)
-            with mock.patch.object(building, "BUILD", str(script)), self.assertRaises(KeyboardInterrupt):
+            patched = mock.patch.object(building, "BUILD", str(script)), mock.patch.object(subprocess, "Popen", Watched)
+            with patched[0], patched[1], self.assertRaises(KeyboardInterrupt):
                 threading.Thread(target=interrupt).start()
                 building.need.__wrapped__("probe")
             self.assertEqual(script.with_name("build.said").read_text(), "ended\n")

@@ -20,7 +20,7 @@ COMMAND = str(ROOT / "zb")
 # 01's example: its table, the same as a table value, the whole input, and its trace: slot 0 picks rows 0 and 1, slot 1 rows 0 and 2, slot 2 rows 1 and 2.
 TABLE = bytes.fromhex("01 03000000 02 0001 03  0A00 0200 0300 0000 00  0B00 0200 0300 0000 00  1400 0200 0300 0000 00")
 VALUE = bytes.fromhex(
-    "03000000 02 0001000000000000 03  0A00 0200 0300 0000 00  0B00 0200 0300 0000 00  1400 0200 0300 0000 00" + 29 * "000000000000000000"
+    "01 03000000 02 0001000000000000 03  0A00 0200 0300 0000 00  0B00 0200 0300 0000 00  1400 0200 0300 0000 00" + 29 * "000000000000000000"
 )
 THREE_SLOTS = b"\x24\0" + TABLE + b"\3\0" + b"\0\0"
 TRACE = bytes.fromhex("03000000 02020001 02020002 02020102")
@@ -34,7 +34,7 @@ needs_archive = unittest.skipUnless((ROOT / "target" / "desk" / "run").exists(),
 
 def refused(number: int) -> bytes:
     """The answer to T for a table that is refused."""
-    return bytes([number]) + bytes(302)
+    return bytes([number]) + bytes(303)
 
 
 class Fake(Probe):

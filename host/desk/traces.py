@@ -21,12 +21,13 @@ class NoAnswer(Exception):
 @dataclass(frozen=True)
 class Past:
     """What a trace says up to a slot: how many slots it has by its own count, how many bytes the records before the slot have, how many of them name each
-    row, and the slot's own record.
+    row, the rows that the last of them names, and the slot's own record.
     """
 
     slots: int
     length: int
     quanta: tuple[int, ...]
+    last: bytes
     record: bytes
 
 
@@ -37,12 +38,13 @@ def read(file: IO[bytes], slot: int, rows: int) -> Past:
         raise NoAnswer(f"Slot {slot} is not in the trace, which has {slots_named(slots)}.")
     if slot >= TRACE_LIMIT:
         raise NoAnswer(f"Slot {slot} is in no trace: the last one that a trace can have is {TRACE_LIMIT - 1}.")
-    length, quanta = 0, ROWS * [0]
+    length, quanta, last = 0, ROWS * [0], b""
     for earlier in endings.watched(range(slot), "reading the trace", slot):
         record = read_record(file, earlier, rows)
         count(record, quanta)
         length += len(record)
-    return Past(slots, length, tuple(quanta), read_record(file, slot, rows))
+        last = record[2:]
+    return Past(slots, length, tuple(quanta), last, read_record(file, slot, rows))
 
 
 def count(record: bytes, quanta: list[int]) -> None:

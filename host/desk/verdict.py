@@ -123,26 +123,29 @@ def record_words(number: int, record: bytes, taken: Table) -> str:
     return f"names the rows {', '.join(map(str, rows))}: they must rise, and the table has {words.counted(len(taken.tanks), 'row')}, counted from 0"
 
 
-def quanta_at(time: int, trace: IO[bytes]) -> list[int]:
-    """How many quanta each row has had by a time, by a trace whose records up to there are well formed."""
+def quanta_at(time: int, trace: IO[bytes]) -> tuple[list[int], bytes]:
+    """How many quanta each row has had by a time, and the rows of the slot before it, by a trace whose records up to there are well formed."""
     traces.read_count(trace)
-    quanta = ROWS * [0]
+    quanta, last = ROWS * [0], b""
     for slot in endings.watched(range(time), "counting quanta", time):
-        traces.count(traces.read_record(trace, slot, ROWS), quanta)
-    return quanta
+        record = traces.read_record(trace, slot, ROWS)
+        traces.count(record, quanta)
+        last = record[2:]
+    return quanta, last
 
 
 def early(checked: Check, taken: Table, trace: IO[bytes], probe: Probe) -> str:
     """44: 'quantum before its row was ready (row, slot)'."""
-    quanta = quanta_at(checked.time, trace)
-    why = probe.why(taken.at(checked.time, quanta), 0, checked.row)
+    quanta, last = quanta_at(checked.time, trace)
+    why = probe.why(taken.at(checked.time, quanta, last), 0, checked.row)
     ready = f", and it was not ready before slot {why.first_slot}" if why.number == 0 and why.reason == 2 else ""
     return f"tank {taken.tank(checked.row)} (row {checked.row}) had its quantum {quanta[checked.row] + 1} in slot {checked.time}{ready}"
 
 
 def late(checked: Check, taken: Table, trace: IO[bytes], probe: Probe) -> str:
     """45: 'row late (row, time)'."""
-    subtask = quanta_at(checked.time, trace)[checked.row] + 1
+    quanta, _ = quanta_at(checked.time, trace)
+    subtask = quanta[checked.row] + 1
     row = tables.plan_of(taken.value).rows[checked.row]
     [window] = probe.windows([(row.cost, row.period, row.phase, subtask)])
     window_words = f": its window is slots {window.start} to {window.deadline - 1}" if window.number == 0 else ""

@@ -1,8 +1,8 @@
 """Why a tank waited in a slot, or that it was picked, in one sentence (02, 'Why did tank 14 wait?'). docs/WHY.md is the page for support staff.
 
-The state before the slot is the table, with the slot as its time and the quanta that the trace's records before the slot give to each row; the
-slot's own record says how many cores were free. The reason is the probe's answer: no rule of the order stands here. What speaks against the trace
-is said first, a sentence a line, each beginning with the same words.
+The state before the slot is the table, with the slot as its time, the quanta that the trace's records before the slot give to each row, and the rows of
+the last of them; the slot's own record says how many cores were free. The reason is the probe's answer: no rule of the order stands here. What speaks
+against the trace is said first, a sentence a line, each beginning with the same words.
 """
 from __future__ import annotations
 
@@ -23,6 +23,7 @@ RULES = {
     2: "its bit (the deadlines are the same, but only tank {tank} has a window that overlaps its own next one)",
     3: "its later group deadline (the deadlines are the same, and both have the bit)",
     4: "its earlier place in the table (nothing else decides between the two)",
+    5: "having run in the slot before (nothing else but the place in the table decides between the two, and the table is of format 2)",
 }
 
 
@@ -44,7 +45,7 @@ class Case:
     @property
     def state(self) -> State:
         """The state before the slot."""
-        return self.table.at(self.slot, self.past.quanta)
+        return self.table.at(self.slot, self.past.quanta, self.past.last)
 
 
 @dataclass(frozen=True)
@@ -107,7 +108,9 @@ def check_faults(checked: Check, case: Case) -> list[str]:
 
 
 def refused(number: int, against: list[str], case: Case) -> str:
-    """Why there is no answer for the state before the slot and its k. A broken state has been told of, if what broke it has."""
+    """Why there is no answer for the state before the slot and its k. A broken state has been told of, if what broke it has: where the record before the
+    slot names rows that no state can remember, the trace check has found that record, or one before it.
+    """
     has = words.counted(case.table.cores, "core")
     causes = {
         30: f"before slot {case.slot} a tank had been picked more often, or less often, than its share allows",
@@ -121,7 +124,7 @@ def refused(number: int, against: list[str], case: Case) -> str:
 
 
 def dispatched(case: Case, probe: Probe) -> bytes:
-    """The record that the dispatcher writes for the slot. Which cores were free, and who ran where before, no trace says; no pick hangs on it."""
+    """The record that the dispatcher writes for the slot. Which cores were free, and on which somebody ran before, no trace says; no pick hangs on it."""
     slot = probe.run_slot(case.state, first_cores(case.k))
     if slot.number > LATE:
         raise Trouble(f"the probe contradicts itself: it answers for slot {case.slot}, and refuses to run it with number {slot.number}")

@@ -1,4 +1,5 @@
-"""The desk's command, zb: one word for what is looked at, one for what is done with it. This file is its command line; commands.py is what it does.
+"""The desk's command, zb: one word for what is looked at, one for what is done with it. This file is its command line; what it does stands in
+table_commands.py, slot_commands.py, trace_commands.py, draw_commands.py and number_commands.py, and what these share in desk.py.
 
 Exit status: 0 fine; 1 the answer is a refusal or lateness; 2 wrong use, or no answer could be had. Answers go to standard output, words about them to
 standard error.
@@ -10,15 +11,19 @@ import re
 import sys
 from typing import TYPE_CHECKING, Callable, NoReturn, Sequence
 
-import commands
+import draw_commands
 import endings
 import files
 import listing
-from commands import DRAWN_SLOTS, Desk, Words
+import number_commands
+import slot_commands
+import table_commands
+import trace_commands
+from desk import Desk, Words, version
+from draw_commands import DRAWN_SLOTS
 from endings import ANSWERED_NO, tell
 from table_text import Fault
 from trouble import Trouble
-
 
 
 def span(text: str) -> tuple[int, int | None]:
@@ -57,7 +62,7 @@ def parser() -> Parser:
         description="Tables and traces of the dispatcher, for people. Everything that decides is proved code; what is missing of it is proved and built first.",
         epilog="Exit status: 0 fine; 1 the answer is a refusal or lateness; 2 wrong use. Answers go to standard output, words about them to standard error.",
     )
-    top.add_argument("--version", action="version", version=f"zb {commands.version()}")
+    top.add_argument("--version", action="version", version=f"zb {version()}")
     to = top.add_subparsers(metavar="COMMAND", required=True)
     add_tables(to)
     add_traces(to)
@@ -84,26 +89,26 @@ def group(to: Commands, name: str, help: str) -> Commands:
 
 def add_tables(to: Commands) -> None:
     table = group(to, "table", "check, show or write a table")
-    check = add(table, "check", commands.table_check, "the number of a table with its words and place; its load, and whether it can ever be late")
+    check = add(table, "check", table_commands.table_check, "the number of a table with its words and place; its load, and whether it can ever be late")
     check.add_argument("file", metavar="FILE", help=FILE_HELP)
-    show_it = add(table, "show", commands.table_show, "a table as a text")
+    show_it = add(table, "show", table_commands.table_show, "a table as a text")
     show_it.add_argument("file", metavar="FILE", help=FILE_HELP)
-    write = add(table, "write", commands.table_write, "a table as bytes, or in another form")
+    write = add(table, "write", table_commands.table_write, "a table as bytes, or in another form")
     write.add_argument("file", metavar="FILE", help=FILE_HELP)
     write.add_argument("-o", dest="output", metavar="FILE", required=True, help="where to: bytes, or hex text (.hex), or a text (.csv); - is standard output")
 
 
 def add_traces(to: Commands) -> None:
     trace = group(to, "trace", "check or show a trace")
-    two_files(add(trace, "check", commands.trace_check, "the verdict on a trace, with slot, row, tank and time"))
-    shown = add(trace, "show", commands.trace_show, "a trace, one line a slot")
+    two_files(add(trace, "check", trace_commands.trace_check, "the verdict on a trace, with slot, row, tank and time"))
+    shown = add(trace, "show", trace_commands.trace_show, "a trace, one line a slot")
     two_files(shown)
     shown.add_argument("--slots", type=span, metavar="A-B", help="only these slots")
-    waited = add(to, "why", commands.why_waited, "why a tank waited in a slot, or that it ran")
+    waited = add(to, "why", trace_commands.why_waited, "why a tank waited in a slot, or that it ran")
     two_files(waited)
     waited.add_argument("tank", type=natural, metavar="TANK")
     waited.add_argument("slot", type=natural, metavar="SLOT")
-    numbers = add(to, "stats", commands.show_stats, "quanta, waits, starts, responses and moves by tank")
+    numbers = add(to, "stats", trace_commands.show_stats, "quanta, waits, starts, responses and moves by tank")
     two_files(numbers)
     numbers.add_argument("--jobs", action="store_true", help="the response of each job in place of the table")
 
@@ -114,7 +119,7 @@ def two_files(command: Parser) -> None:
 
 
 def add_slots(to: Commands) -> None:
-    printed = add(to, "slots", commands.slots, "the slot printer's listing of a table, or of an input")
+    printed = add(to, "slots", slot_commands.slots, "the slot printer's listing of a table, or of an input")
     printed.add_argument("file", metavar="FILE", help=FILE_HELP)
     printed.add_argument("--slots", type=natural, metavar="N", help=f"how many (default: a cycle, {listing.DEFAULT_SLOTS} at most; of an input its own)")
     printed.add_argument("--free", metavar="LIST", help=FREE_HELP)
@@ -122,7 +127,7 @@ def add_slots(to: Commands) -> None:
 
 
 def add_drawing(to: Commands) -> None:
-    drawing = add(to, "draw", commands.draw, "windows, and the quanta where they ran, as text, SVG or a page for a browser")
+    drawing = add(to, "draw", draw_commands.draw, "windows, and the quanta where they ran, as text, SVG or a page for a browser")
     drawing.add_argument("table", metavar="TABLE", help=FILE_HELP)
     drawing.add_argument("trace", metavar="TRACE", nargs="?", help=f"{TRACE_HELP}; without one the slots are the dispatcher's own")
     drawing.add_argument("--slots", type=span, metavar="A-B", help=f"these slots (default: from 0 on, {DRAWN_SLOTS} at most)")
@@ -131,9 +136,9 @@ def add_drawing(to: Commands) -> None:
 
 
 def add_numbers(to: Commands) -> None:
-    windows = add(to, "window", commands.show_window, "r, d, b and D of subtasks, as the maker's bench lines have them")
+    windows = add(to, "window", number_commands.show_window, "r, d, b and D of subtasks, as the maker's bench lines have them")
     windows.add_argument("numbers", metavar="E P [F] I..", nargs="+", help="cost, period, phase (left out where there is one number more alone: 0), subtasks or ranges, 1-6")
-    meaning = add(to, "meaning", commands.show_meaning, "the maker's words for a number, and what they mean at a desk")
+    meaning = add(to, "meaning", number_commands.show_meaning, "the maker's words for a number, and what they mean at a desk")
     meaning.add_argument("number", metavar="N", help="a number, or a word of the slot printer such as input")
 
 
