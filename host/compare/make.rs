@@ -2,6 +2,7 @@
 
 pub mod cores_seen;
 pub mod damage;
+pub mod format;
 pub mod hex;
 pub mod lent;
 pub mod marks;

@@ -15,7 +15,7 @@ const RANDOM_BOXES: usize = 30;
 /// Cycles with many divisors, short and long.
 const CYCLES: [usize; 6] = [12, 60, 420, 2_520, 5_040, 27_720];
 
-/// The boxes that are measured, and random ones, full or not.
+/// The boxes that are measured, and random ones, full or not; each in both formats.
 fn all_boxes() -> Vec<Vec<u8>> {
     let mut random = Random::seeded(0x5107);
     let mut tables = vec![
@@ -38,7 +38,8 @@ fn all_boxes() -> Vec<Vec<u8>> {
         };
         tables.push(table.bytes());
     }
-    tables
+    let in_both = |table: Vec<u8>| [1, 2].map(|format| boxes::in_format(format, table.clone()));
+    tables.into_iter().flat_map(in_both).collect()
 }
 
 /// With all cores free, and with one less; and without ours, which is told only their number, with other cores free in each slot.

@@ -92,6 +92,7 @@ fn of_second(state: &second::slot::State) -> State {
     let (table, last) = (&state.table, &state.last);
     State {
         table: Table {
+            format: table.format,
             cycle: table.cycle,
             cores: table.cores,
             boards: table.boards,

@@ -1,4 +1,4 @@
-//! The boxes that are measured, and the trace of a million slots.
+//! The boxes that are measured, and the trace of a million slots. All are of format 1, unless it is said that they are not.
 
 use crate::make::hex::bytes_of;
 use crate::make::schedule::record;
@@ -26,6 +26,12 @@ pub fn full_to(n: u8) -> Vec<u8> {
     let mut table = full();
     table[14] = n;
     table.truncate(15 + 9 * usize::from(n));
+    table
+}
+
+/// The same box in this format (02, Eight), which stands first.
+pub fn in_format(format: u8, mut table: Vec<u8>) -> Vec<u8> {
+    table[0] = format;
     table
 }
 
@@ -67,7 +73,7 @@ fn rows(cycle: u32, weights: impl Iterator<Item = (u16, u16)>, early: bool) -> V
             ..row(tank, e, p)
         })
         .collect();
-    draft(cycle, &BOARDS, &rows).bytes()
+    draft(1, cycle, &BOARDS, &rows).bytes()
 }
 
 /// 8 rows that each take a core but for one slot in 65,535, and 8 that fill the cores: a full box. Each of the 8 would be walked for over 65,534
@@ -111,7 +117,7 @@ pub fn short() -> Vec<u8> {
             ..row(tank, e, p)
         })
         .collect();
-    draft(CYCLE as u32, &BOARDS, &rows).bytes()
+    draft(1, CYCLE as u32, &BOARDS, &rows).bytes()
 }
 
 /// The dispatcher's records of one cycle of the short box, again and again. In a full box every row has its whole share at the

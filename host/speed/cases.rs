@@ -44,9 +44,9 @@ pub fn program(name: &str) -> Result<Program, String> {
 /// A case: does its work for a program and a number, and answers whether every answer was right.
 pub type Case = Box<dyn Fn(&Program, u64) -> bool>;
 
-/// `trace`, `table`, or what is done with a box, and which box: `slots_BOX`, `first_BOX`, `fresh_BOX`. The number is that of checks, of tables read, of
-/// slots, of fresh states with their first slot, or of fresh states without, to be taken off. `through_worst` and `before_worst` are fresh states with
-/// their slots through the worst one, and without it.
+/// `trace`, `table`, or what is done with a box, and which box: `slots_BOX`, `first_BOX`, `fresh_BOX`; `kind` is the full box in format 2. The number is
+/// that of checks, of tables read, of slots, of fresh states with their first slot, or of fresh states without, to be taken off. `through_worst` and
+/// `before_worst` are fresh states with their slots through the worst one, and without it.
 pub fn case(name: &str) -> Result<Case, String> {
     match name {
         "trace" => {
@@ -71,6 +71,7 @@ fn of_a_box(name: &str) -> Option<Case> {
     let (what, which) = name.split_once('_')?;
     let (table, k) = match which {
         "walks" => (boxes::longest_walks(), 7),
+        "kind" => (boxes::in_format(2, boxes::full()), 8),
         rows => (some_rows(rows)?, 8),
     };
     match what {

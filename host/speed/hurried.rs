@@ -1,7 +1,7 @@
 //! The fastest plain Rust that the same numbers could be had with: it keeps each row's next window between slots, finds rows by their time
-//! instead of asking each, and tests nothing that these inputs do not need. It places nobody: no row gets a core, and none is remembered. Not
-//! fit for a board: a wild table or state is not noticed. And it is for short runs: its times have 32 bits, and a deadline is doubled, so that it
-//! cannot follow the others to their time limit; a run that is too long for it is refused.
+//! instead of asking each, and tests nothing that these inputs do not need. It places nobody: no row gets a core, and all that is remembered of
+//! the last slot is which rows ran, in format 2. Not fit for a board: a wild table or state is not noticed. And it is for short runs: its times
+//! have 32 bits, and a deadline is doubled, so that it cannot follow the others to their time limit; a run that is too long for it is refused.
 
 #[path = "hurried/check.rs"]
 mod check;

@@ -34,6 +34,10 @@ same-first f g x y i (suc n) fits gives =
     rw (fits i (omega arith) (omega arith), gives i (omega arith) (omega arith))
     (ap (cond (g i) (y i)) (same-first f g x y (i + 1) n (λ j l m. fits j (omega arith) (omega arith)) (λ j l m. gives j (omega arith) (omega arith))))
 
+-- The same rows ran if the memories have the same.
+pub same-rows-ran : (a b : Placement) → a .count ≡ b .count → ((i : ℕ) → i < placesOf a → rowIn a i ≡ rowIn b i) → (row : ℕ) → ranBefore a row ≡ ranBefore b row
+same-rows-ran a b count rows row = same-some _ _ (placesOf a) (placesOf b) (ap (λ n. min n coreLimit) count) (λ i l. ap (λ r. eqb r row) (rows i l))
+
 module _ {a b : Placement} (alike : AlikeIn a b) where
   as-long : placesOf a ≡ placesOf b
   as-long = ap (λ n. min n coreLimit) (alike .count)
@@ -57,7 +61,7 @@ module _ {a b : Placement} (alike : AlikeIn a b) where
 
   -- the same rows ran,
   pub ran-alike : (row : ℕ) → ranBefore a row ≡ ranBefore b row
-  ran-alike row = same-some _ _ (placesOf a) (placesOf b) as-long (λ i l. ap (λ r. eqb r row) (alike .rows i l))
+  ran-alike = same-rows-ran a b (alike .count) (alike .rows)
 
   lets-alike : (free : List ℕ) (row i : ℕ) → i < placesOf a → letsStay a free row i ≡ letsStay b free row i
   lets-alike free row i l = ap₂ (λ r c. eqb r row && names free c) (alike .rows i l) (alike .cores i l)

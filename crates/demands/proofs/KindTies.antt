@@ -2,12 +2,11 @@
 use Prim.Native.Nat.{ℕ, _<_}
 use mathlib.Core.Path.{_≡_, refl, sym, ap, _∙_}
 use mathlib.Core.List.{List, [], _∷_, flatMap}
-use mathlib.Core.Bool.{Bool, true, false, not, _&&_, _||_, Bool·beq, true≢false}
+use mathlib.Core.Bool.{Bool, true, false, not, _&&_, _||_, Bool·beq, true≢false, and-false}
 use mathlib.Core.Logic.{_↔_}
-use native.Mathlib.Nat.{mod-eq-of-lt}
 use native.Mathlib.Omega.{arith}
-use borrow.Author.Tests.{lt-ltb}
-use lib.Dec.{ltb}
+use borrow.Author.Tests.{lt-ltb, ltb-true}
+use lib.Dec.{ltb, eqb}
 use lib.ListN.{length, getD, replicate}
 use Rattle.facts.specs.Rounding.{ceilDiv}
 use Rattle.facts.specs.First.{atFirst}
@@ -16,6 +15,7 @@ use Rattle.facts.specs.Findings.{firstFound}
 use Rattle.facts.specs.Rising.{rising}
 use Rattle.facts.specs.Places.{places, padded}
 use Rattle.facts.specs.Below.{allBelow}
+use Rattle.facts.proofs.Tests.{both}
 use Rattle.fields.specs.Fields.{bytesOf}
 use Rattle.windows.specs.Windows.{start, deadline, bit, windowLength, jobStart}
 use Rattle.windows.specs.Group.{heavy, stops, stopTime, groupDeadline}
@@ -24,7 +24,9 @@ use Rattle.table.specs.Causes.{load}
 use Rattle.table.specs.Value.{faultOf}
 use Rattle.table.specs.Bytes.{tableNumber, reading}
 use Rattle.table.specs.Fits.{rowsFit}
+use Rattle.table.specs.Formats.{inFormat}
 use Rattle.table.specs.Writing.{bytesOfRow, bytesOfTable, writeNumber, writing, bufferAfter}
+use Rattle.table.proofs.Formats.{keeps-the-bytes}
 use Rattle.pd2.specs.Ready.{ready, late}
 use Rattle.pd2.specs.Share.{lower, upper}
 use Rattle.pd2.specs.Order.{Before, before}
@@ -49,30 +51,24 @@ use Rattle.dispatcher.specs.Broken.{broken}
 use Rattle.dispatcher.specs.Slot.{favouredIn, picksIn, refusal, slotOf}
 use Rattle.dispatcher.specs.Run.{run}
 use Rattle.dispatcher.proofs.Favoured.{same-favours}
-use Rattle.dispatcher.proofs.Placed.{no-moves-if-all-free, ran-is-named-in-record, format-one-forgets, rows-decide}
+use Rattle.dispatcher.proofs.Placed.{no-moves-if-all-free, ran-is-named-in-record, done-as-with-its-size, format-one-forgets, rows-decide}
 use Rattle.why.specs.declared.Rule.the-variants.{RanBefore}
 use Rattle.why.specs.declared.Answer.the-variants.{PassedOver}
 use Rattle.why.specs.Rules.{ruleFor}
 use Rattle.why.specs.Lowest.{lowestPicked}
 use Rattle.why.specs.Reasons.{isReady, rankIn, goesBefore}
 use Rattle.why.specs.Why.{readyFrom, reasonOf, whyOf}
-use Rattle.demands.specs.Bench.{inFormat}
 use Rattle.demands.specs.KindLaws.{halvesAfter}
 use Rattle.demands.specs.Inputs.{Bytes, Possible, CanAsk, CanWrite}
 use Rattle.demands.specs.ShutOut.{Dispatcher, IsDispatcher, numberOf, rowsWritten}
-use Rattle.demands.specs.KindTies.{KeepsTheBytes, FormatOneIsIn01, KindTie, startsAfter, StartsLess, KindShutOut, KindTies}
-
--- The first byte is the format, and nothing else hangs on whether it is 1 or 2.
-keeps-the-bytes : (t : Table) → KeepsTheBytes t
-unfolding bytesOfTable bytesOf faultOf firstFound
-keeps-the-bytes t = record { first = λ format l. mod-eq-of-lt l; rest = refl; fault = refl }
+use Rattle.demands.specs.KindTies.{FormatOneIsIn01, KindTie, KindAfterSlot, FreshFavoursNobody, startsAfter, StartsLess, asInFormat, exchanged, KindShutOut, KindTies}
 
 -- In format 1 nobody is favoured.
 in-format-1 : FormatOneIsIn01
 in-format-1 s one = record { order = order; picks = λ k. same-favours (rowsIn s) (quantaIn s) (λ row _. nobody row) (timeOf s) k }
   where
     nobody : (row : ℕ) → favouredIn s row ≡ false
-    nobody row = rw one refl
+    nobody = format-one-forgets s one
 
     order : (j i : ℕ) → (goesBefore s j i ≡ true) ↔ BeforeIn01 (rankIn s j) (rankIn s i)
     order j i =
@@ -98,21 +94,37 @@ kind-tie s j i two tie = record { goes-first = goes-first; lower = lower-row; pi
     lower-row same =
         only-last-decide (rankIn s j) (rankIn s i) tie ∙ rw (favours j ∙ (same ∙ sym (favours i))) (by-row (favouredIn s i))
 
-    picked-too : ranBefore (s .last) j ≡ true → ranBefore (s .last) i ≡ false → j < length (rowsIn s) → i < length (rowsIn s) → isReady s j (timeOf s) ≡ true → (k : ℕ) →
+    picked-too : ranBefore (s .last) j ≡ true → ranBefore (s .last) i ≡ false → j < length (rowsIn s) → isReady s j (timeOf s) ≡ true → (k : ℕ) →
         names (picksIn s k) i ≡ true → names (picksIn s k) j ≡ true
-    picked-too ran other lj li is-ready k named = go (isPicked j) refl
+    picked-too ran other lj is-ready k named = go (isPicked j) refl
       where
         isPicked : ℕ → Bool
         isPicked = picked (readyIn (rowsIn s) (quantaIn s) (timeOf s)) (goesBefore s) (length (rowsIn s)) k
 
-        named-if : (row : ℕ) → row < length (rowsIn s) → names (picksIn s k) row ≡ isPicked row
-        named-if row l = listed-are-named isPicked (length (rowsIn s)) row ∙ ap (λ b. b && isPicked row) (lt-ltb row (length (rowsIn s)) l)
+        named-if : (row : ℕ) → names (picksIn s k) row ≡ ltb row (length (rowsIn s)) && isPicked row
+        named-if = listed-are-named isPicked (length (rowsIn s))
+
+        -- i is a row, and picked
+        other-picked : (ltb i (length (rowsIn s)) ≡ true) × (isPicked i ≡ true)
+        other-picked = both (ltb i (length (rowsIn s))) (isPicked i) (sym (named-if i) ∙ named)
 
         go : (t : Bool) → isPicked j ≡ t → names (picksIn s k) j ≡ true
-        go true e = named-if j lj ∙ e
+        go true e = named-if j ∙ rw (lt-ltb j (length (rowsIn s)) lj) e
         go false e =
             let best = picks-are-best (readyIn (rowsIn s) (quantaIn s) (timeOf s)) (goesBefore s) (length (rowsIn s)) k (pd2-is-strict (rowsIn s) (quantaIn s) (favouredIn s) (timeOf s) (length (rowsIn s))) in
-            absurd (true≢false (sym (goes-first ran other) ∙ best .best j i lj li is-ready e (sym (named-if i li) ∙ named)))
+            absurd (true≢false (sym (goes-first ran other) ∙ best .best j i lj (ltb-true i (length (rowsIn s)) (other-picked .0)) is-ready e (other-picked .1)))
+
+-- The rows that its record names ran in the slot before.
+kind-after-slot : KindAfterSlot
+kind-after-slot s free buffer place two done j i tie named other =
+    let ran = ran-is-named-in-record s free buffer place done in
+    let table = done-as-with-its-size s free buffer place done .table in
+    kind-tie (slotOf s free buffer place .state) j i (ap (λ t. t .format) table ∙ two) tie .goes-first (ran j ∙ named) (ran i ∙ other)
+
+-- Fresh, nobody ran.
+fresh-favours-nobody : FreshFavoursNobody
+unfolding howMany
+fresh-favours-nobody t row = and-false (eqb (t .format) 2)
 
 -- Four rows of 1/2, computed.
 starts-less : StartsLess
@@ -155,8 +167,10 @@ record Computed : Type 0 where
   said-2 : slotOf (afterTwo 2) (firstCores 2) blank 0 .said ≡ bare 0
   rows-2 : rowsAt (slotOf (afterTwo 2) (firstCores 2) blank 0 .bytes) 0 ≡ 2 ∷ 3 ∷ []
   forgotten-2 : pd2Picks (rowsIn (afterTwo 2)) (quantaIn (afterTwo 2)) favoursNobody 2 2 ≡ 0 ∷ 1 ∷ []
+  whole-1 : broken (asInFormat 1 (afterTwo 3)) ≡ false
   can-3 : Possible (afterTwo 3) (firstCores 2) blank 0
   said-3 : slotOf (afterTwo 3) (firstCores 2) blank 0 .said ≡ bare 30
+  whole-risen : broken (exchanged fallen) ≡ false
   can-fall : Possible fallen (firstCores 2) blank 0
   said-fallen : slotOf fallen (firstCores 2) blank 0 .said ≡ bare 30
   can-ask : CanAsk (afterTwo 2) 2 0
@@ -185,8 +199,10 @@ computed =
       said-2 = refl;
       rows-2 = refl;
       forgotten-2 = refl;
+      whole-1 = refl;
       can-3 = record { table = record { numbers = refl; boards = refl; rows = refl }; quanta = refl; counts = refl; last-rows = refl; last-cores = refl; remembered = refl; marks = refl; bytes = refl };
       said-3 = refl;
+      whole-risen = refl;
       can-fall = record { table = record { numbers = refl; boards = refl; rows = refl }; quanta = refl; counts = refl; last-rows = refl; last-cores = refl; remembered = refl; marks = refl; bytes = refl };
       said-fallen = refl;
       can-ask = record { state = record { table = record { numbers = refl; boards = refl; rows = refl }; quanta = refl; counts = refl; last-rows = refl; last-cores = refl; remembered = refl; marks = refl; bytes = refl }; numbers = refl };
@@ -224,8 +240,8 @@ kind-shut-out =
       always-kind = λ slot is kind.
           let done = says slot is (afterTwo 1) (c .can-1) (c .said-1) in
           other-rows (sym (writes slot is (afterTwo 1) (c .can-1) (c .rows-1)) ∙ (kind (afterTwo 1) 2 blank 0 (c .can-1) (omega (arith, done)) ∙ c .always-1));
-      runs-any-format = λ slot is runs. runs (afterTwo 3) (firstCores 2) blank 0 (c .can-3) (λ e. omega arith) (λ e. omega arith) (says slot is (afterTwo 3) (c .can-3) (c .said-3));
-      runs-falling-rows = λ slot is runs. runs fallen (firstCores 2) blank 0 (c .can-fall) refl (omega arith) (says slot is fallen (c .can-fall) (c .said-fallen));
+      runs-any-format = λ slot is runs. runs (afterTwo 3) (firstCores 2) blank 0 (c .can-3) (c .whole-1) (says slot is (afterTwo 3) (c .can-3) (c .said-3));
+      runs-falling-rows = λ slot is runs. runs fallen (firstCores 2) blank 0 (c .can-fall) refl (c .whole-risen) (says slot is fallen (c .can-fall) (c .said-fallen));
       never-says-ran = λ explain is never. never (afterTwo 2) 2 0 3 (c .can-ask) (is (afterTwo 2) 2 0 (c .can-ask) ∙ c .ran);
     }
 
@@ -233,10 +249,13 @@ pub kind-ties : KindTies
 kind-ties =
     record {
       bytes = keeps-the-bytes;
+      laws = pd2-is-strict;
       order = alike-is-in-01;
       format-1 = in-format-1;
       tie = kind-tie;
       ran = ran-is-named-in-record;
+      after-slot = kind-after-slot;
+      fresh = fresh-favours-nobody;
       forgets = format-one-forgets;
       rows-decide = rows-decide;
       example = starts-less;

@@ -39,10 +39,6 @@ box cycle cores rows =
       rows = rows ++ replicate (rowLimit - length rows) zeroRow;
     }
 
--- the same table in another format (02, Eight)
-abbrev pub inFormat : ℕ → Table → Table
-inFormat format t = record { format = format; cycle = t .cycle; cores = t .cores; boards = t .boards; n = t .n; rows = t .rows }
-
 -- a slot with the first k cores free
 abbrev pub slotWith : ℕ → Step
 slotWith k = Step.slot (firstCores k)

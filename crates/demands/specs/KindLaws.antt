@@ -3,10 +3,12 @@ use Prim.Native.Nat.{ℕ}
 use mathlib.Core.List.{List, [], _∷_}
 use mathlib.Core.Bool.{true, false}
 use Rattle.table.specs.declared.Table.{Table}
+use Rattle.table.specs.Formats.{inFormat}
 use Rattle.trace.specs.Said.{bare, named}
 use Rattle.cores.specs.Placement.{placement}
 use Rattle.dispatcher.specs.declared.State.{State}
-use Rattle.demands.specs.Bench.{plainRow, earlyRelease, box, inFormat, threeCores}
+use Rattle.dispatcher.specs.State.{freshOf}
+use Rattle.demands.specs.Bench.{plainRow, earlyRelease, box, threeCores}
 use Rattle.demands.specs.Law.{Law, places, refuses, explains}
 use Rattle.demands.specs.LawInputs.{stateOf, remembering, setOf, halfAndThird}
 use Rattle.demands.specs.WhyLaws.{halfAndTwoThirds, fullCore}
@@ -33,7 +35,8 @@ kindLaws =
     -- of two that ran the lower, whether its core is free or not
     ∷ places (halvesAfter 2 (2 ∷ 3 ∷ []) (1 ∷ 0 ∷ [])) (setOf (1 ∷ [])) 10 (bare 0) (2 ∷ []) (1 ∷ [])
     ∷ places (halvesAfter 2 (2 ∷ 3 ∷ []) (1 ∷ 0 ∷ [])) (setOf (0 ∷ [])) 10 (bare 0) (2 ∷ []) (0 ∷ [])
-    -- "fresh, there are none", and after a slot that picked nobody
+    -- after a slot that picked nobody, and "fresh, there are none"
+    ∷ places (freshOf (inFormat 2 fourHalves)) (setOf (0 ∷ 1 ∷ [])) 10 (bare 0) (0 ∷ 1 ∷ []) (0 ∷ 1 ∷ [])
     ∷ places (halvesAfter 2 [] []) (setOf (0 ∷ 1 ∷ [])) 10 (bare 0) (0 ∷ 1 ∷ []) (0 ∷ 1 ∷ [])
     -- no full tie: the smaller d, b = 1 before b = 0, the larger D go first, whoever ran; of two that tie behind them the one that ran
     ∷ places (kindAfter halfAndThird 0 [] (1 ∷ [])) (setOf (0 ∷ [])) 10 (bare 0) (0 ∷ []) (0 ∷ [])

@@ -7,38 +7,32 @@ use mathlib.Core.List.{List, [], _∷_, map}
 use mathlib.Core.Bool.{Bool, true, false, not}
 use mathlib.Core.Logic.{_↔_}
 use lib.Dec.{ltb}
-use lib.ListN.{length, getD, drop, replicate}
+use lib.ListN.{length, getD, replicate}
 use Rattle.facts.specs.Counting.{howMany}
 use Rattle.facts.specs.Places.{places}
 use Rattle.table.specs.declared.Table.{Table}
 use Rattle.table.specs.declared.Reading.{Reading}
-use Rattle.table.specs.Value.{faultOf}
 use Rattle.table.specs.Bytes.{formatIn}
-use Rattle.table.specs.Writing.{bytesOfTable}
+use Rattle.table.specs.Formats.{inFormat, KeepsTheBytes}
 use Rattle.pd2.specs.Order.{FullTie}
 use Rattle.pd2.specs.InFormat1.{BeforeIn01, AlikeIsIn01}
-use Rattle.pd2.specs.Choice.{favoursNobody, pd2Picks}
+use Rattle.pd2.specs.Choice.{favoursNobody, pd2Picks, Pd2IsStrict}
 use Rattle.trace.specs.Records.{rowsAt, placeOf, names}
 use Rattle.cores.specs.Sets.{firstCores}
-use Rattle.cores.specs.Placement.{ranBefore}
+use Rattle.cores.specs.Placement.{rowIn, coreIn, placement, ranBefore}
 use Rattle.dispatcher.specs.declared.State.{State}
-use Rattle.dispatcher.specs.State.{rowsIn, quantaIn, timeOf}
-use Rattle.dispatcher.specs.Slot.{picksIn}
+use Rattle.dispatcher.specs.State.{rowsIn, quantaIn, timeOf, freshOf}
+use Rattle.dispatcher.specs.Broken.{broken}
+use Rattle.dispatcher.specs.Slot.{favouredIn, picksIn, slotOf}
 use Rattle.dispatcher.specs.Run.{Step, run}
 use Rattle.dispatcher.specs.Placed.{NoMovesIfAllFree, RanIsNamed, FormatOneForgets, RowsDecide}
 use Rattle.why.specs.declared.Rule.the-variants.{RanBefore}
 use Rattle.why.specs.declared.Answer.the-variants.{PassedOver}
 use Rattle.why.specs.Reasons.{isReady, rankIn, goesBefore}
-use Rattle.demands.specs.Bench.{inFormat}
+use Rattle.demands.specs.LawInputs.{remembering}
 use Rattle.demands.specs.KindLaws.{fourHalves}
 use Rattle.demands.specs.Inputs.{Bytes, Possible, CanAsk, CanWrite}
 use Rattle.demands.specs.ShutOut.{Dispatcher, IsDispatcher, numberOf, rowsWritten, Explainer, IsExplainer, IsReader, IsTableCheck, Writer, IsWriter}
-
--- "Tables of format 2 keep the bytes of format 1": the bytes of a table in both formats differ in the first alone, which is the format; and it has the same faults.
-pub record KeepsTheBytes (t : Table) : Type 0 where
-  pub first : (format : ℕ) → format < 256 → getD (bytesOfTable (inFormat format t)) 0 0 ≡ format
-  pub rest : drop 1 (bytesOfTable (inFormat 2 t)) ≡ drop 1 (bytesOfTable (inFormat 1 t))
-  pub fault : faultOf (inFormat 2 t) ≡ faultOf (inFormat 1 t)
 
 -- In format 1 the order is 01's, to the letter, and nobody's having run has a part in the picks.
 pub record IsIn01 (s : State) : Type 0 where
@@ -55,11 +49,23 @@ pub record KindBetween (s : State) (j i : ℕ) : Type 0 where
   -- both did, or neither:
   pub lower : ranBefore (s .last) j ≡ ranBefore (s .last) i → goesBefore s j i ≡ ltb j i
   -- So if i is picked and j did run and is ready, j is picked too.
-  pub picked-too : ranBefore (s .last) j ≡ true → ranBefore (s .last) i ≡ false → j < length (rowsIn s) → i < length (rowsIn s) → isReady s j (timeOf s) ≡ true → (k : ℕ) →
+  pub picked-too : ranBefore (s .last) j ≡ true → ranBefore (s .last) i ≡ false → j < length (rowsIn s) → isReady s j (timeOf s) ≡ true → (k : ℕ) →
       names (picksIn s k) i ≡ true → names (picksIn s k) j ≡ true
 
 abbrev pub KindTie : Type 0
 KindTie = (s : State) (j i : ℕ) → s .table .format ≡ 2 → FullTie (rankIn s j) (rankIn s i) → KindBetween s j i
+
+-- So it is from slot to slot: of two rows that tie fully after a slot was done, one that its record names goes before one that it does not name.
+abbrev pub KindAfterSlot : Type 0
+KindAfterSlot =
+    (s : State) (free : List Bool) (buffer : List ℕ) (place : ℕ) → s .table .format ≡ 2 → slotOf s free buffer place .said .number < 2 → (j i : ℕ) →
+    FullTie (rankIn (slotOf s free buffer place .state) j) (rankIn (slotOf s free buffer place .state) i) →
+    names (rowsAt (slotOf s free buffer place .bytes) place) j ≡ true → names (rowsAt (slotOf s free buffer place .bytes) place) i ≡ false →
+    goesBefore (slotOf s free buffer place .state) j i ≡ true
+
+-- "fresh, there are none": a fresh state favours nobody.
+abbrev pub FreshFavoursNobody : Type 0
+FreshFavoursNobody = (t : Table) (row : ℕ) → favouredIn (freshOf t) row ≡ false
 
 -- What it is for: four rows of 1/2 on two cores, all free, for eight slots. These are the rows that are picked, slot after slot,
 abbrev pub eightSlots : ℕ → List ℕ
@@ -95,7 +101,8 @@ WritesFormat1 write = (t : Table) (buffer : List ℕ) → CanWrite t buffer → 
 abbrev pub WritesAnyFormat : Writer → Type 0
 WritesAnyFormat write = (t : Table) (buffer : List ℕ) → CanWrite t buffer → write t buffer .0 .number ≡ 11 → ⊥
 
--- a dispatcher that favours nobody, one that favours whoever ran in format 1 too, one that runs on with any format, and one with any memory in which each row and each core is in one place;
+-- a dispatcher that favours nobody, one that favours whoever ran in format 1 too, one that does not look whether the format is 1 or 2, and one that does not look whether the
+-- rows remembered rise: neither refuses a state in which nothing else is wrong;
 abbrev pub KindnessForgotten : Dispatcher → Type 0
 KindnessForgotten slot =
     (s : State) (k : ℕ) (buffer : List ℕ) (place : ℕ) → Possible s (firstCores k) buffer place → numberOf (slot s (firstCores k) buffer place) < 2 →
@@ -106,14 +113,20 @@ AlwaysKind slot =
     (s : State) (k : ℕ) (buffer : List ℕ) (place : ℕ) → Possible s (firstCores k) buffer place → numberOf (slot s (firstCores k) buffer place) < 2 →
     rowsWritten (slot s (firstCores k) buffer place) place ≡ pd2Picks (rowsIn s) (quantaIn s) (ranBefore (s .last)) (timeOf s) k
 
+abbrev pub asInFormat : ℕ → State → State
+asInFormat format s = record { table = inFormat format (s .table); time = s .time; stopped = s .stopped; quanta = s .quanta; last = s .last }
+
 abbrev pub RunsAnyFormat : Dispatcher → Type 0
 RunsAnyFormat slot =
-    (s : State) (free : List Bool) (buffer : List ℕ) (place : ℕ) → Possible s free buffer place → (s .table .format ≡ 1 → ⊥) → (s .table .format ≡ 2 → ⊥) →
+    (s : State) (free : List Bool) (buffer : List ℕ) (place : ℕ) → Possible s free buffer place → broken (asInFormat 1 s) ≡ false →
     numberOf (slot s free buffer place) ≡ 30 → ⊥
+
+abbrev pub exchanged : State → State
+exchanged s = remembering s (placement (rowIn (s .last) 1 ∷ rowIn (s .last) 0 ∷ []) (coreIn (s .last) 1 ∷ coreIn (s .last) 0 ∷ []))
 
 abbrev pub RunsFallingRows : Dispatcher → Type 0
 RunsFallingRows slot =
-    (s : State) (free : List Bool) (buffer : List ℕ) (place : ℕ) → Possible s free buffer place → s .last .count ≡ 2 → getD (s .last .rows) 1 0 < getD (s .last .rows) 0 0 →
+    (s : State) (free : List Bool) (buffer : List ℕ) (place : ℕ) → Possible s free buffer place → s .last .count ≡ 2 → broken (exchanged s) ≡ false →
     numberOf (slot s free buffer place) ≡ 30 → ⊥
 
 -- and one who says why a row waits and never says that another ran in the slot before.
@@ -134,12 +147,16 @@ pub record KindShutOut : Type 0 where
   pub never-says-ran : (explain : Explainer) → IsExplainer explain → NeverSaysRan explain → ⊥
 
 pub record KindTies : Type 0 where
-  pub bytes : (t : Table) → KeepsTheBytes t
-  -- "The order's laws .. proved once over both": O1 to O4 are over whoever is favoured; with both favoured or neither they are 01's rules.
+  -- "Tables of format 2 keep the bytes of format 1"
+  pub bytes : KeepsTheBytes
+  -- "The order's laws .. proved once over both": over whoever is favoured; between two that are favoured alike the rules are 01's.
+  pub laws : Pd2IsStrict
   pub order : AlikeIsIn01
   pub format-1 : FormatOneIsIn01
   pub tie : KindTie
   pub ran : RanIsNamed
+  pub after-slot : KindAfterSlot
+  pub fresh : FreshFavoursNobody
   -- What is remembered favours nobody in format 1, and in format 2 the rows that it names, on whichever cores.
   pub forgets : FormatOneForgets
   pub rows-decide : RowsDecide

@@ -3,7 +3,8 @@ use mathlib.Core.List.{List, [], _∷_, _++_}
 use lib.ListN.{take, replicate}
 use Rattle.fields.specs.Fields.{bytesOf}
 use Rattle.table.specs.Causes.{zeroRow}
-use Rattle.demands.specs.Bench.{plainRow, box, inFormat}
+use Rattle.table.specs.Formats.{inFormat}
+use Rattle.demands.specs.Bench.{plainRow, box}
 use Rattle.demands.specs.Law.{Law, reads, faulty}
 use Rattle.demands.specs.LawInputs.{front, rowBytes, alikeRows, halfAndThird}
 

@@ -4,7 +4,8 @@ use lib.ListN.{drop, replicate}
 use Rattle.facts.specs.Places.{places}
 use Rattle.table.specs.declared.Table.{Table}
 use Rattle.table.specs.Causes.{zeroRow}
-use Rattle.demands.specs.Bench.{plainRow, box, inFormat}
+use Rattle.table.specs.Formats.{inFormat}
+use Rattle.demands.specs.Bench.{plainRow, box}
 use Rattle.demands.specs.Law.{Law, writes, noSuchRow}
 use Rattle.demands.specs.LawInputs.{front, rowBytes, alikeRows, halfAndThird, halfAndThirdBytes}
 

@@ -2,9 +2,10 @@
 use Prim.Native.Nat.{ℕ, zero, suc, _+_}
 use mathlib.Core.Path.{_≡_, refl, sym, ap, ap₂, _∙_}
 use mathlib.Core.List.{List}
-use mathlib.Core.Bool.{Bool, false}
+use mathlib.Core.Bool.{Bool, false, _&&_}
 use mathlib.Core.Logic.{_⊎_, inl, inr}
 use native.Mathlib.Omega.{arith}
+use lib.Dec.{eqb}
 use lib.ListN.{length}
 use Rattle.counts.proofs.Numbers.{as-counted}
 use Rattle.pd2.specs.Choice.{given}
@@ -14,9 +15,11 @@ use Rattle.trace.proofs.Names.{marked-are-named}
 use Rattle.trace.proofs.Agree.{rows-written}
 use Rattle.cores.specs.declared.Placement.{Placement}
 use Rattle.cores.specs.Sets.{size, namesPast}
-use Rattle.cores.specs.Placement.{coreIn}
+use Rattle.cores.specs.Placement.{coreIn, rowsPlaced, coresPlaced}
+use Rattle.cores.specs.Best.{moves}
 use Rattle.cores.proofs.Fault.{misremembers-or-remembers}
 use Rattle.cores.proofs.Memory.{ran-is-named}
+use Rattle.cores.proofs.Alike.{same-rows-ran}
 use Rattle.dispatcher.specs.declared.State.{State}
 use Rattle.dispatcher.specs.State.{rowsIn, isRow, quantaIn, timeOf}
 use Rattle.dispatcher.specs.Broken.{broken}
@@ -26,20 +29,13 @@ use Rattle.dispatcher.specs.Placed.{DoneGetsBestCores, NoMovesIfAllFree,
 use Rattle.dispatcher.proofs.Favoured.{same-favours}
 use Rattle.dispatcher.proofs.Whole.{is-whole}
 use Rattle.dispatcher.proofs.Placing.{gets-best-cores, no-moves-if-free, placed-has-no-fault}
-use Rattle.dispatcher.proofs.Kept.{IsRefusal, done-number, refusal-numbers, goes, done-is-not-refused, done-makes-the-step}
+use Rattle.dispatcher.proofs.Kept.{IsRefusal, done-number, refusal-numbers, refused-number, goes, slot-done, done-is-not-refused, done-makes-the-step}
 
 -- With 0 and 1 the picked rows have the best cores.
 pub done-gets-best-cores : DoneGetsBestCores
 done-gets-best-cores s free buffer place h =
     let can = goes s free buffer place (done-is-not-refused s free buffer place h) in
     rw (done-makes-the-step s free buffer place h) (gets-best-cores s free (is-whole s (can .whole)) (can .there))
-
--- With all cores free none of them moves.
-pub no-moves-if-all-free : NoMovesIfAllFree
-no-moves-if-all-free s free whole there all =
-    let w = is-whole s whole in
-    no-moves-if-free s free w there
-    (λ i l. marked-are-named free (coreIn (s .last) i) ∙ all (coreIn (s .last) i) (misremembers-or-remembers (s .last) (isRow s) (s .table .cores) .0 (w .memory) .core i l))
 
 -- The rows that ran in a slot are those that its record names.
 pub ran-is-named-in-record : RanIsNamed
@@ -60,6 +56,25 @@ slot-is-remembered s free buffer place = go (refusal s free buffer place) (refus
     go zero known = record { done = λ h. refl; refused = λ h. absurd (omega (arith, done-number (lateIn (afterSlot s free)) (timeOf s + 1))) }
     go (suc r) (inl none) = absurd (omega arith)
     go (suc r) (inr known) = record { done = λ h. absurd (omega (arith, known .0)); refused = λ h. (refl, refl) }
+
+-- With all cores free none of them moves; where nobody is placed, nobody does.
+pub no-moves-if-all-free : NoMovesIfAllFree
+unfolding moves
+no-moves-if-all-free s free buffer place all = go (refusal-numbers s free buffer place)
+  where
+    moved-with : Placement → ℕ
+    moved-with placed = moves (s .last) (rowsPlaced placed) (coresPlaced placed)
+
+    go : (refusal s free buffer place ≡ 0) ⊎ IsRefusal (refusal s free buffer place) → moved-with (slotOf s free buffer place .placed) ≡ 0
+    go (inl none) =
+        let can = goes s free buffer place none in
+        let whole = is-whole s (can .whole) in
+        ap (λ reply. moved-with (reply .placed)) (slot-done s free buffer place none)
+        ∙ no-moves-if-free s free whole (can .there)
+        (λ i l. marked-are-named free (coreIn (s .last) i) ∙ all (coreIn (s .last) i) (misremembers-or-remembers (s .last) (isRow s) (s .table .cores) .0 (whole .memory) .core i l))
+    go (inr known) =
+        let number = refused-number s free buffer place (refusal s free buffer place) (omega (arith, known .0)) .1 refl in
+        ap moved-with (slot-is-remembered s free buffer place .refused (omega (arith, known .0, number)) .1)
 
 -- The rest is as 01 says of a k that is the size of the set.
 pub done-as-with-its-size : DoneAsWithItsSize
@@ -112,11 +127,11 @@ module _ (s : State) (last : Placement) (favour : FavourAlike s (remembering s l
 
 -- In format 1 nobody is favoured,
 pub format-one-forgets : FormatOneForgets
-format-one-forgets s s′ one also row = rw (one, also) refl
+format-one-forgets s one row = rw one refl
 
 -- and in format 2 the rows that are remembered are.
 pub rows-decide : RowsDecide
-rows-decide s s′ table count rows row = rw (table, count, rows) refl
+rows-decide s s′ format count rows row = ap₂ (λ format ran. eqb format 2 && ran) format (same-rows-ran (s .last) (s′ .last) count rows row)
 
 -- Which cores they are, and on which cores rows ran, has no part in the rest.
 pub cores-have-no-part : CoresHaveNoPart

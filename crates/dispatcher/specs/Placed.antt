@@ -10,13 +10,13 @@ use Rattle.trace.specs.Record.{marked, recordOf, withRecord}
 use Rattle.trace.specs.Records.{names, rowsAt}
 use Rattle.cores.specs.declared.Placement.{Placement}
 use Rattle.cores.specs.Sets.{size, namesPast}
-use Rattle.cores.specs.Placement.{rowsPlaced, coresPlaced, ranBefore, nobody}
+use Rattle.cores.specs.Placement.{rowIn, placesOf, rowsPlaced, coresPlaced, ranBefore, nobody}
 use Rattle.cores.specs.Best.{moves, IsBest}
 use Rattle.dispatcher.specs.declared.State.{State}
 use Rattle.dispatcher.specs.State.{rowsIn, quantaIn, timeOf}
 use Rattle.dispatcher.specs.Broken.{broken}
 use Rattle.dispatcher.specs.Answer.{doneSaid}
-use Rattle.dispatcher.specs.Slot.{favouredIn, picksIn, lateIn, placedIn, SlotReply, slotOf}
+use Rattle.dispatcher.specs.Slot.{favouredIn, picksIn, lateIn, SlotReply, slotOf}
 
 -- With 0 and 1 the rows that are placed are those picked. A list of cores is theirs exactly if it is the best: "The number of moves .. is the fewest any
 -- placement can have. Among such placements the answer is the one whose cores, read by rising row number, are smaller at the first difference."
@@ -34,8 +34,8 @@ DoneGetsBestCores =
 -- With all cores free no row moves, whoever is picked: each that ran in the slot before can stay.
 abbrev pub NoMovesIfAllFree : Type 0
 NoMovesIfAllFree =
-    (s : State) (free : List Bool) → broken s ≡ false → namesPast (s .table .cores) free ≡ false → ((core : ℕ) → core < s .table .cores → getD free core false ≡ true) →
-    moves (s .last) (rowsPlaced (placedIn s free)) (coresPlaced (placedIn s free)) ≡ 0
+    (s : State) (free : List Bool) (buffer : List ℕ) (place : ℕ) → ((core : ℕ) → core < s .table .cores → getD free core false ≡ true) →
+    moves (s .last) (rowsPlaced (slotOf s free buffer place .placed)) (coresPlaced (slotOf s free buffer place .placed)) ≡ 0
 
 -- "The state remembers which row ran on which core in the last slot": with 0 and 1 this slot's, whole; with a refusal what it came with, and the answer
 -- has nobody.
@@ -83,12 +83,15 @@ pub record AlikeButCores (a b : SlotReply) : Type 0 where
 abbrev pub FavourAlike : State → State → Type 0
 FavourAlike s s′ = (row : ℕ) → favouredIn s row ≡ favouredIn s′ row
 
--- So do two of format 1, whatever they remember (02, Eight: "Tables of format 2 .. end PD2's order differently"), and two that remember the same rows.
+-- In format 1 nobody is favoured, whatever is remembered (02, Eight: "Tables of format 2 .. end PD2's order differently"),
 abbrev pub FormatOneForgets : Type 0
-FormatOneForgets = (s s′ : State) → s .table .format ≡ 1 → s′ .table .format ≡ 1 → FavourAlike s s′
+FormatOneForgets = (s : State) → s .table .format ≡ 1 → (row : ℕ) → favouredIn s row ≡ false
 
+-- and two states of one format that remember the same rows favour the same.
 abbrev pub RowsDecide : Type 0
-RowsDecide = (s s′ : State) → s .table ≡ s′ .table → s .last .count ≡ s′ .last .count → s .last .rows ≡ s′ .last .rows → FavourAlike s s′
+RowsDecide =
+    (s s′ : State) → s .table .format ≡ s′ .table .format → s .last .count ≡ s′ .last .count →
+    ((i : ℕ) → i < placesOf (s .last) → rowIn (s .last) i ≡ rowIn (s′ .last) i) → FavourAlike s s′
 
 abbrev pub CoresHaveNoPart : Type 0
 CoresHaveNoPart =

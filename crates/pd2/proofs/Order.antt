@@ -8,7 +8,7 @@ use native.Mathlib.Omega.{arith}
 use borrow.Author.Tests.{lt-ltb, le-ltb, eq-eqb, ne-eqb, ltb-true, eqb-true, eqb-false, not-true}
 use lib.Dec.{ltb, eqb}
 use Rattle.facts.proofs.Tests.{both, one-of-two}
-use Rattle.pd2.specs.Order.{Rank, FullTie, Before, bitDecides, groupDecides, fullTie, favourDecides, rowDecides, before}
+use Rattle.pd2.specs.Order.{Rank, FullTie, Before, bitDecides, groupDecides, tiedBehind, favourDecides, rowDecides, before}
 
 -- Full ties join,
 joined : {x y z : Rank} → FullTie x y → FullTie y z → FullTie x z
@@ -122,7 +122,7 @@ rule-if-before : (x y : Rank) → before x y ≡ true → Before x y
 unfolding before
 rule-if-before x y h = first (one-of-two (ltb (x .d) (y .d)) _ h)
   where
-    tie : x .d ≡ y .d → fullTie x y ≡ true → FullTie x y
+    tie : x .d ≡ y .d → tiedBehind x y ≡ true → FullTie x y
     tie d t =
         let bits = both (eqb (x .b) (y .b)) (not (eqb (x .b) 1) || eqb (x .D) (y .D)) t in
         record { deadline = d; bit = eqb-true _ _ (bits .0); group = λ one. same one (one-of-two (not (eqb (x .b) 1)) (eqb (x .D) (y .D)) (bits .1)) }
@@ -139,14 +139,14 @@ rule-if-before x y h = first (one-of-two (ltb (x .d) (y .d)) _ h)
 
     by-number : x .d ≡ y .d → rowDecides x y ≡ true → Before x y
     by-number d t =
-        let number = both (fullTie x y && Bool·beq (x .favoured) (y .favoured)) (ltb (x .row) (y .row)) t in
-        let ties = both (fullTie x y) (Bool·beq (x .favoured) (y .favoured)) (number .0) in
+        let number = both (tiedBehind x y && Bool·beq (x .favoured) (y .favoured)) (ltb (x .row) (y .row)) t in
+        let ties = both (tiedBehind x y) (Bool·beq (x .favoured) (y .favoured)) (number .0) in
         Before.by-row (tie d (ties .0)) (alike _ _ (ties .1)) (ltb-true _ _ (number .1))
 
     by-favour : x .d ≡ y .d → favourDecides x y ≡ true → Before x y
     by-favour d t =
-        let none = both (fullTie x y && x .favoured) (not (y .favoured)) t in
-        let ties = both (fullTie x y) (x .favoured) (none .0) in
+        let none = both (tiedBehind x y && x .favoured) (not (y .favoured)) t in
+        let ties = both (tiedBehind x y) (x .favoured) (none .0) in
         Before.by-favour (tie d (ties .0)) (ties .1) (not-true _ (none .1))
 
     by-D : x .d ≡ y .d → groupDecides x y ≡ true → Before x y

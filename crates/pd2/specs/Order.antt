@@ -53,14 +53,15 @@ bitDecides x y = eqb (x .b) 1 && eqb (y .b) 0
 abbrev pub groupDecides : Rank → Rank → Bool
 groupDecides x y = eqb (x .b) 1 && eqb (y .b) 1 && ltb (y .D) (x .D)
 
-abbrev pub fullTie : Rank → Rank → Bool
-fullTie x y = eqb (x .b) (y .b) && (not (eqb (x .b) 1) || eqb (x .D) (y .D))
+-- what a full tie asks beside the same d
+abbrev pub tiedBehind : Rank → Rank → Bool
+tiedBehind x y = eqb (x .b) (y .b) && (not (eqb (x .b) 1) || eqb (x .D) (y .D))
 
 abbrev pub favourDecides : Rank → Rank → Bool
-favourDecides x y = fullTie x y && x .favoured && not (y .favoured)
+favourDecides x y = tiedBehind x y && x .favoured && not (y .favoured)
 
 abbrev pub rowDecides : Rank → Rank → Bool
-rowDecides x y = fullTie x y && Bool·beq (x .favoured) (y .favoured) && ltb (x .row) (y .row)
+rowDecides x y = tiedBehind x y && Bool·beq (x .favoured) (y .favoured) && ltb (x .row) (y .row)
 
 unfoldable pub before : Rank → Rank → Bool
 before x y = ltb (x .d) (y .d) || (eqb (x .d) (y .d) && (bitDecides x y || groupDecides x y || favourDecides x y || rowDecides x y))

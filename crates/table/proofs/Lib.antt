@@ -10,3 +10,4 @@ pub mod Spelled
 pub mod Parts
 pub mod Written
 pub mod RoundTrip
+pub mod Formats

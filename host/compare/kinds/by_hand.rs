@@ -8,7 +8,7 @@ use crate::make::lent::{given, Given, Maker};
 use crate::number::Number;
 use second::cores::Placement;
 use second::slot::{fresh, Answer, State};
-use second::table::read;
+use second::table::{read, Table};
 use std::collections::BTreeMap;
 
 #[derive(Clone)]
@@ -147,7 +147,7 @@ pub fn questions() -> Vec<why::Case> {
 
 /// Time (8), stopped (1), the quanta of each row (8 each), and what is remembered.
 fn state_of(table: &[u8], bytes: &[u8]) -> State {
-    let mut state = fresh(read(table).expect("a table that is taken"));
+    let mut state = fresh(value_of(table));
     let (time, rest) = bytes.split_at(u64::WIDTH);
     let (quanta, last) = rest[1..].split_at(u64::WIDTH * usize::from(state.table.count));
     state.time = u64::read(time);
@@ -157,6 +157,13 @@ fn state_of(table: &[u8], bytes: &[u8]) -> State {
     }
     state.last = placement_of(last);
     state
+}
+
+/// Of any format; but for that it is a table that is taken.
+fn value_of(table: &[u8]) -> Table {
+    let in_format_1 = [&[1], &table[1..]].concat();
+    let value = read(&in_format_1).expect("a table that is taken");
+    Table { format: table[0], ..value }
 }
 
 /// A row and its core (1 each), again and again. Those for which there is no place are counted all the same.

@@ -22,6 +22,7 @@ impl Maker for Checks {
         "table refused (1 in 2000): 10..22",
         "table of length (1 in 300): 0",
         "whole schedule ends (1 in 140): late | on time | cut short",
+        "passes, of a table of format (1 in 20): 1 | 2",
         "passes, has 12 slots or more and both kinds of row (1 in 140): 0",
         "late row (1 in 200): above 0 | 31",
         "of a table with a row of e = p (1 in 100): passes | 44 | 45 for such a row | 45 for another",
@@ -48,6 +49,9 @@ impl Maker for Checks {
             "" => (),
             "many rows" => tally.saw_if(number == 42, "more than 32 rows in a record", 42),
             whole => tally.saw("whole schedule ends", whole),
+        }
+        if number == 0 {
+            tally.saw("passes, of a table of format", given.table[0]);
         }
         let long = given.made == "on time" && is_long(given);
         tally.saw_each("passes, has 12 slots or more and both kinds of row", [long]);

@@ -14,6 +14,9 @@ pub struct Case {
     k: u8,
 }
 
+/// The questions are asked of no table: their order is that of format 1, in which nobody goes first for having run.
+const FORMAT: u8 = 1;
+
 impl Kind for Case {
     const GROUPS: &'static [Group] = &[
         "picked (1 in 100): 0..8",
@@ -88,6 +91,7 @@ impl Case {
             deadline: u128::from(window.deadline),
             bit: window.bit,
             group: u128::from(window.group_deadline),
+            ran: false,
         })
     }
 }
@@ -96,7 +100,7 @@ impl Case {
 fn decided_by(ready: &[Next], marks: &[u8]) -> Option<Rule> {
     let is_picked = |next: &&Next| marks[usize::from(next.row)] == 1;
     let (picked, left): (Vec<&Next>, Vec<&Next>) = ready.iter().partition(is_picked);
-    let last_picked = picked.into_iter().max_by(|one, other| order(one, other))?;
-    let first_left = left.into_iter().min_by(|one, other| order(one, other))?;
-    Some(rule_between(last_picked, first_left))
+    let last_picked = picked.into_iter().max_by(|one, other| order(FORMAT, one, other))?;
+    let first_left = left.into_iter().min_by(|one, other| order(FORMAT, one, other))?;
+    Some(rule_between(FORMAT, last_picked, first_left))
 }

@@ -25,6 +25,7 @@ impl Kind for Case {
         "after the header, last (1 in 75): end | late | refused 35",
         "alone (1 in 75): refused | input",
         "with a row of e = p (1 in 75): end | late",
+        "run in format 2 (1 in 100): as in format 1 | unlike format 1",
         "input (1 in 150): right, with a table of length 0 | right, of 65,536 bytes | \
          of 65,537 bytes, each in its place | right in its first 65,536 bytes, and one more | \
          of 4,097 slots, else right",
@@ -82,11 +83,22 @@ impl Kind for Case {
         let ran = text.lines().count() > 1 && word != "refused";
         let such = ran && whole_core::stands_in(&self.table);
         tally.saw_if(such, "with a row of e = p", word);
+        if ran && self.table[0] == 2 {
+            let unlike = self.in_format_1() != answer;
+            tally.saw_each("run in format 2", [!unlike, unlike]);
+        }
         tally.saw_each("input", self.met());
     }
 }
 
 impl Case {
+    /// What is printed if the table has format 1.
+    fn in_format_1(&self) -> Vec<u8> {
+        let mut other = self.clone();
+        other.table[0] = 1;
+        print(&request(&other).bytes)
+    }
+
     /// For each of the inputs that are counted, whether it is this one.
     fn met(&self) -> [bool; 5] {
         let bytes = request(self).bytes;

@@ -8,7 +8,8 @@ use crate::make::schedule::{last_late, record};
 use crate::make::{memory, slot_seen, states, values};
 use crate::number::Number;
 use second::cores::Placement;
-use second::slot::{first_cores, slot_on, Answer, State, LAST_TIME};
+use second::slot::{broken, first_cores, ready_rows, rule_between, slot_on};
+use second::slot::{Answer, Rule, State, LAST_TIME};
 use std::iter::repeat_with;
 
 #[derive(Clone)]
@@ -75,7 +76,11 @@ impl<F: Free> Kind for Case<F> {
             return with_room(random, late.before, k);
         }
         let state = wild_state(random);
-        let k = free_cores(random, state.table.cores);
+        let k = match random.below(3) {
+            0 => where_one_alone_ran(random, &state),
+            _ => None,
+        };
+        let k = k.unwrap_or_else(|| free_cores(random, state.table.cores));
         with_room(random, state, k)
     }
 
@@ -147,7 +152,7 @@ impl Outcome {
 /// With a place in a lent buffer: with room for the record of the slot, with a little less, or with none.
 fn with_room<F: Free>(random: &mut Random, state: State, k: u8) -> Case<F> {
     let last = Placement::nobody();
-    // whatever is remembered, since it has no part in who is picked
+    // whatever is remembered, since it has no part in how many are picked
     let length = 2 + record(&mut State { last, ..state }, k).0.rows.len();
     let before = random.pick(&[0, 0, 1, 4, 9]);
     let exact = before + length;
@@ -197,6 +202,26 @@ pub fn free_cores(random: &mut Random, cores: u8) -> u8 {
         2 => cores,
         _ => random.between(1, usize::from(cores).max(1)) as u8,
     }
+}
+
+/// k with which the last row that is picked and the first that is not are due together, and one of them alone ran in the slot before; if there is
+/// one, and if the slot is not refused whatever k is. By the group deadline, if it can be: that is the rarest.
+pub fn where_one_alone_ran(random: &mut Random, state: &State) -> Option<u8> {
+    if broken(state) || state.stopped || state.time == LAST_TIME {
+        return None;
+    }
+    let ready = ready_rows(state);
+    let (mut by_group, mut by_others) = (vec![], vec![]);
+    for (k, pair) in (1..=state.table.cores).zip(ready.windows(2)) {
+        if pair[0].deadline == pair[1].deadline && pair[0].ran != pair[1].ran {
+            match rule_between(state.table.format, &pair[0], &pair[1]) {
+                Rule::GroupDeadline => by_group.push(k),
+                _ => by_others.push(k),
+            }
+        }
+    }
+    let found = [by_group, by_others].into_iter().find(|found| !found.is_empty())?;
+    Some(random.pick(&found))
 }
 
 /// One thing of a state gets another value: often one that breaks it, sometimes one that is only rare.

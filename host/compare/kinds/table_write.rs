@@ -2,7 +2,7 @@
 
 use super::value;
 use crate::kind::*;
-use crate::make::{room, values, whole_core};
+use crate::make::{format, room, values, whole_core};
 use second::table::{fault, Table};
 use second::writing::write_table;
 
@@ -14,7 +14,9 @@ pub struct Case {
 
 impl Kind for Case {
     const GROUPS: &'static [Group] = &[
-        "number (1 in 200): 0 | 12..20 | 22 | 37",
+        "number (1 in 200): 0 | 11..20 | 22 | 37",
+        format::BEFORE,
+        "written, format (1 in 20): 1 | 2",
         "of a value with a fault, room (1 in 50): none | too little | one byte less | exact | more | much more",
         "of a value without a fault, room (1 in 50): none | too little | one byte less | exact | more | much more",
         "written, M (1 in 500): 1..8",
@@ -54,12 +56,14 @@ impl Kind for Case {
         tally.saw(title, room::name(self.buffer.len(), needed(&self.table)));
         match answer[0] {
             0 => {
+                tally.saw("written, format", self.table.format);
                 tally.saw("written, M", self.table.cores);
                 tally.saw("written, n", self.table.count);
                 tally.saw("written, rows with e = p", whole_core::name(&self.table));
                 value::count_past_boards(&self.table, "written, past M", tally);
                 value::count_past_rows(&self.table, "written, past n", tally);
             }
+            11 => format::count_before(&self.table, tally),
             37 => {
                 tally.saw("too short, M", self.table.cores);
                 tally.saw("too short, n", self.table.count);

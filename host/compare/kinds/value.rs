@@ -3,7 +3,7 @@
 
 use crate::kind::*;
 use crate::make::states::fill;
-use crate::make::{damage, values, whole_core};
+use crate::make::{damage, format, values, whole_core};
 use crate::number::Number;
 use second::slot::fresh;
 use second::table::{fault, Row, Table};
@@ -15,11 +15,15 @@ pub struct Case<const FRESH: bool>(Table);
 impl<const FRESH: bool> Kind for Case<FRESH> {
     const GROUPS: &'static [Group] = match FRESH {
         false => &[
-            "fault (1 in 150): 0 | 12..20 | 22",
+            "fault (1 in 150): 0 | 11..20 | 22",
+            format::REFUSED,
+            format::BEFORE,
+            "without a fault, format (1 in 20): 1 | 2",
             "without a fault, rows with e = p (1 in 100): none | some | all",
         ],
         true => &[
-            "fault of the value (1 in 300): 0 | 12..20 | 22",
+            "fault of the value (1 in 300): 0 | 11..20 | 22",
+            "without a fault, format (1 in 20): 1 | 2",
             "without a fault, rows with e = p (1 in 100): none | some | all",
             "past n, all places (1 in 10): 0 | not 0",
         ],
@@ -45,11 +49,20 @@ impl<const FRESH: bool> Kind for Case<FRESH> {
         let fault = fault(&self.0);
         let name = whole_core::name(&self.0);
         tally.saw_if(fault == 0, "without a fault, rows with e = p", name);
+        tally.saw_if(fault == 0, "without a fault, format", self.0.format);
         if !FRESH {
-            return tally.saw("fault", fault);
+            return count_fault(&self.0, fault, tally);
         }
         tally.saw("fault of the value", fault);
         count_past_rows(&self.0, "past n, all places", tally);
+    }
+}
+
+fn count_fault(table: &Table, fault: u8, tally: &mut Tally) {
+    tally.saw("fault", fault);
+    if fault == 11 {
+        format::count_refused(table.format, tally);
+        format::count_before(table, tally);
     }
 }
 
@@ -87,6 +100,7 @@ pub fn any(random: &mut Random) -> Table {
 fn unfit(random: &mut Random) -> Table {
     let mut table = Table::zero();
     fill(random, &mut table);
+    table.format = random.pick(&[1, 2, 3]);
     table.cycle = u32::read(&random.bytes(4));
     table.cores = random.byte();
     table.count = random.byte();

@@ -1,7 +1,7 @@
 //! Why a row is picked in the slot about to run, or waits: of the states and the free cores that slots are asked with.
 
 use super::by_hand;
-use super::slot::{free_cores, wild_state};
+use super::slot::{free_cores, where_one_alone_ran, wild_state};
 use crate::kind::*;
 use crate::make::{values, why_seen};
 use second::slot::{broken, ready_rows, rule_between, Next, Rule, State};
@@ -22,8 +22,9 @@ impl Kind for Case {
 
     fn wild(random: &mut Random) -> Case {
         let state = wild_state(random);
-        let telling = match random.below(2) {
-            0 if !broken(&state) => where_groups_differ(random, &state),
+        let telling = match random.below(6) {
+            0 | 1 if !broken(&state) => where_groups_differ(random, &state),
+            2 => first_left_where_one_ran(random, &state),
             _ => None,
         };
         let (k, row) = telling.unwrap_or_else(|| any_question(random, &state));
@@ -92,6 +93,12 @@ fn where_groups_differ(random: &mut Random, state: &State) -> Option<(u8, u8)> {
     Some(random.pick(found))
 }
 
+/// k and the first row that is then not picked, where it or the last one that is picked alone ran in the slot before, if there is such a k.
+fn first_left_where_one_ran(random: &mut Random, state: &State) -> Option<(u8, u8)> {
+    let k = where_one_alone_ran(random, state)?;
+    Some((k, ready_rows(state)[usize::from(k)].row))
+}
+
 /// All such by this rule; by the bit, only those whose own D is the larger.
 fn passed_over_by(rule: Rule, state: &State) -> Vec<(u8, u8)> {
     let ready = ready_rows(state);
@@ -102,7 +109,7 @@ fn passed_over_by(rule: Rule, state: &State) -> Vec<(u8, u8)> {
             _ => asked.group != named.group,
         };
         let left = ready.iter().skip(usize::from(k)).filter(differs);
-        let by_rule = left.filter(|asked| rule_between(named, asked) == rule);
+        let by_rule = left.filter(|asked| rule_between(state.table.format, named, asked) == rule);
         found.extend(by_rule.map(|asked| (k, asked.row)));
     }
     found

@@ -6,7 +6,7 @@ use second::cores::{moves, Placement};
 use second::slot::{first_cores, State};
 
 /// The causes for which a memory breaks a state, by their names.
-pub fn causes(state: &State) -> [(&'static str, bool); 8] {
+pub fn causes(state: &State) -> [(&'static str, bool); 10] {
     let (rows, cores) = (state.last.named_rows(), state.last.named_cores());
     let (m, n) = (state.table.cores, state.table.count);
     let twice = |row: bool, core: bool| {
@@ -15,6 +15,8 @@ pub fn causes(state: &State) -> [(&'static str, bool); 8] {
         };
         (0..rows.len()).any(|one| (0..one).any(|other| alike(one, other)))
     };
+    let fall = rows.windows(2).any(|pair| pair[1] < pair[0]);
+    let format_1 = state.table.format == 1;
     [
         ("core M", cores.contains(&m)),
         ("a core above M", cores.iter().any(|&core| core > m)),
@@ -23,7 +25,11 @@ pub fn causes(state: &State) -> [(&'static str, bool); 8] {
         ("a row above n", rows.iter().any(|&row| row > n)),
         ("a row on two cores", twice(true, false)),
         ("a row and its core twice", twice(true, true)),
-        ("a count above 8", state.last.count > 8),
+        ("falling rows in format 1", fall && format_1),
+        // in any other, which is a cause itself
+        ("falling rows in format 2", fall && !format_1),
+        // unless M is 8, one of them has no core below M of its own
+        ("a count above M", state.last.count > m),
     ]
 }
 

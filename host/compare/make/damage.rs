@@ -25,6 +25,7 @@ pub fn draft(random: &mut Random) -> Draft {
         0 => sound::full(random, 0),
         1 => sound::full(random, 1),
         2 => sound::full(random, -1),
+        3 => sound::all_rows(random),
         _ => sound::any(random),
     };
     if random.one_in(6) {
@@ -40,7 +41,7 @@ pub fn draft(random: &mut Random) -> Draft {
 /// One part of the table gets another value: often one that is wrong, sometimes one that is only rare.
 fn damage(random: &mut Random, draft: &mut Draft) {
     match random.below(9) {
-        0 => draft.format = random.pick(&[0, 2, 3, 129, 255]),
+        0 => draft.format = other_format(random),
         1 => draft.cycle = other_cycle(random, draft.cycle),
         2 => {
             draft.cores = other_count(random, draft.cores, 8);
@@ -67,13 +68,20 @@ fn damage(random: &mut Random, draft: &mut Draft) {
 /// The same with a table value.
 pub fn damage_value(random: &mut Random, table: &mut Table) {
     let n = table.named_rows().len();
-    match random.below(10) {
-        0 => table.cycle = other_cycle(random, table.cycle),
-        1 => table.cores = other_count(random, table.cores, 8),
-        2 => damage_rising(random, &mut table.boards, &BOARDS),
-        3..=5 => table.count = other_count(random, table.count, 32),
+    match random.below(11) {
+        0 => table.format = other_format(random),
+        1 => table.cycle = other_cycle(random, table.cycle),
+        2 => table.cores = other_count(random, table.cores, 8),
+        3 => damage_rising(random, &mut table.boards, &BOARDS),
+        4..=6 => table.count = other_count(random, table.count, 32),
         _ => damage_rows(random, &mut table.rows[..n]),
     }
+}
+
+/// Mostly neither 1 nor 2.
+fn other_format(random: &mut Random) -> u8 {
+    let any = random.byte();
+    random.pick(&[0, 0, 1, 2, 3, 3, 129, 255, any])
 }
 
 fn other_cycle(random: &mut Random, cycle: u32) -> u32 {

@@ -1,31 +1,35 @@
 //! What is met in single slots.
 
 use crate::kinds::slot::{Case, Free};
-use crate::make::cores_seen;
 use crate::make::states::LIMIT_OF_01;
 use crate::make::whole_core::is_whole;
+use crate::make::{cores_seen, format};
 use crate::tally::{Group, Tally};
 use second::share::inside;
 use second::slot::{broken, deciding_rule, ready_rows, Next, Rule, State, LAST_TIME};
-use second::table::{fault, Row};
+use second::table::{fault, Row, Table};
 
 pub const CAUSES_OF_30: Group = "the only cause of 30 (1 in 2000): \
-    table fault 12 | table fault 13 | table fault 14 | table fault 15 | table fault 16 | \
+    the format | table fault 12 | table fault 13 | table fault 14 | table fault 15 | table fault 16 | \
     table fault 17 | table fault 18 | table fault 19 | table fault 20 | table fault 22 | \
     time above the limit | quanta above time | outside the share | \
     core M | a core above M | a core of two rows | row n | a row above n | a row on two cores | \
-    a row and its core twice | a count above 8";
+    a row and its core twice | falling rows in format 1 | falling rows in format 2 | a count above M";
 
 /// Rows inside their shares, and a memory without a fault; with 30 the time is the only cause.
 pub const LIMIT: Group = "answered at the time limit (1 in 150): \
     0 or 1 in the last slot | 32 | 30 one past it";
 
 /// With what is counted of the way in which the free cores are told.
-pub const fn groups(free: Group) -> [Group; 21] {
+pub const fn groups(free: Group) -> [Group; 24] {
     [
         "answer (1 in 100): 0 | 1 | 30..32 | 34..35",
         CAUSES_OF_30,
-        "decided by (1 in 150): deadline | bit | group deadline | row number",
+        "decided by (1 in 150): deadline | bit | group deadline | ran in the slot before | row number",
+        "done in format (1 in 10): 1 | 2",
+        format::OTHERS,
+        "in format 2 one that did not run goes before one that did, by (1 in 600): \
+         deadline | bit | group deadline",
         "picked (1 in 50): plain | early release | phase above 0",
         "a row with e = p (1 in 150): picked | late | ready, and one with b = 1 is picked",
         "done at a time (1 in 60): below 1,000 | above 900,000,000,000",
@@ -89,11 +93,13 @@ pub fn count_limit(state: &State, number: u8, tally: &mut Tally) {
 
 /// The name of the cause for which a state is broken, if there is one alone: a slot answers 30 for each, so a cause shows only without another.
 fn only_cause(state: &State) -> Option<String> {
-    let number = fault(&state.table);
+    // a fault behind an unknown format would be another cause
+    let number = fault(&Table { format: 1, ..state.table });
     let rows = || state.table.named_rows().iter().zip(&state.quanta);
     let outside = |(row, &quanta)| !inside(row, state.time, quanta);
     let table = format!("table fault {}", number);
     let causes = [
+        ("the format", ![1, 2].contains(&state.table.format)),
         (&table[..], number != 0),
         ("time above the limit", state.time > LAST_TIME),
         ("quanta above time", rows().any(|(_, &q)| q > state.time)),
@@ -109,7 +115,10 @@ fn count_done<F: Free>(case: &Case<F>, tally: &mut Tally) {
     let (state, k) = (&case.state, case.free.set().count_ones() as u8);
     if let Some(rule) = deciding_rule(state, k) {
         tally.saw("decided by", rule_name(rule));
+        count_against_ran(state, k, rule, tally);
     }
+    tally.saw("done in format", state.table.format);
+    format::count_others(state, k, tally);
     let picked = picked(state, k);
     let has = |kind: fn(&Row) -> bool| picked.iter().any(kind);
     let met = [
@@ -131,6 +140,16 @@ fn count_done<F: Free>(case: &Case<F>, tally: &mut Tally) {
         state.table.named_rows().iter().any(begins_later),
     ];
     tally.saw_each("done with", met);
+}
+
+/// Where the last row that is picked goes before the first that is not by an earlier rule, though that one alone ran in the slot before.
+fn count_against_ran(state: &State, k: u8, rule: Rule, tally: &mut Tally) {
+    let ready = ready_rows(state);
+    let [picked, left] = [k - 1, k].map(|place| ready[usize::from(place)]);
+    let against = state.table.format == 2 && left.ran && !picked.ran;
+    let rules = [Rule::Deadline, Rule::Bit, Rule::GroupDeadline];
+    let met = rules.map(|other| against && rule == other);
+    tally.saw_each("in format 2 one that did not run goes before one that did, by", met);
 }
 
 /// Rows with e = p in a slot that is done: they have windows of one slot, and yet a row that is due with them goes first if its b is 1.
@@ -172,6 +191,7 @@ pub fn rule_name(rule: Rule) -> &'static str {
         Rule::Deadline => "deadline",
         Rule::Bit => "bit",
         Rule::GroupDeadline => "group deadline",
+        Rule::RanBefore => "ran in the slot before",
         Rule::RowNumber => "row number",
     }
 }

@@ -54,6 +54,11 @@ fn above_1(periods: &[usize]) -> &[usize] {
     }
 }
 
+/// 1 or 2 (02, Eight).
+fn format(random: &mut Random) -> u8 {
+    random.pick(&[1, 2])
+}
+
 fn boards(random: &mut Random) -> Vec<u8> {
     let cores = random.between(1, 8);
     let boards = random.rising(cores, 255).into_iter();
@@ -140,7 +145,7 @@ fn of_weights(
         room -= e * (cycle / p);
         weights.push((e, p));
     }
-    draft(cycle as u32, &boards, &rows(random, &weights))
+    draft(format(random), cycle as u32, &boards, &rows(random, &weights))
 }
 
 /// Of 32 rows, the most that a table may have.
@@ -162,7 +167,7 @@ pub fn last_row_first(random: &mut Random) -> Draft {
     for row in &mut rows {
         row.phase = random.pick(&[0, 0, 1, 7]);
     }
-    draft(120, &boards, &rows)
+    draft(format(random), 120, &boards, &rows)
 }
 
 /// A table whose sum of e·(L/p) is exactly M·L, or one less or one more as asked for (`by` is 0, -1 or 1).
@@ -187,7 +192,7 @@ pub fn full_of(random: &mut Random, cycle: usize, by: isize) -> Option<Draft> {
     if by != 0 && !moved(&mut weights, cycle, by) {
         return None;
     }
-    Some(draft(cycle as u32, &boards, &rows(random, &weights)))
+    Some(draft(format(random), cycle as u32, &boards, &rows(random, &weights)))
 }
 
 /// Up to four weights that make 1, at times one alone, written with different periods of the cycle.

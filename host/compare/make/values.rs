@@ -5,12 +5,13 @@ use second::cores::Placement;
 use second::slot::{fresh, State};
 use second::table::{Row, Table};
 
-/// L (4), M (1), 8 board numbers (1 each), n (1), 32 rows of 9 bytes as in 01.
+/// The format (1), L (4), M (1), 8 board numbers (1 each), n (1), 32 rows of 9 bytes as in 01.
 pub fn table_value<'a>(to: &'a mut Message, table: &mut Table) -> &'a mut Message {
     if let Some(row) = to.turn(table.named_rows().len()) {
         drop_row(table, row);
     }
-    to.part("L", &mut table.cycle)
+    to.part("format", &mut table.format)
+        .part("L", &mut table.cycle)
         .part("M", &mut table.cores)
         .each("board of core", &mut table.boards)
         .part("n", &mut table.count);

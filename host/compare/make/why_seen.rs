@@ -8,7 +8,7 @@ use second::slot::{broken, ready, ready_rows, rule_between, Next, Rule, LAST_TIM
 use second::table::Row;
 use second::why::{why, Reason};
 
-pub const GROUPS: [Group; 19] = [
+pub const GROUPS: [Group; 20] = [
     "answer (1 in 80): 0 | 30..33 | 36",
     CAUSES_OF_30,
     LIMIT,
@@ -19,20 +19,22 @@ pub const GROUPS: [Group; 19] = [
     "36 by row (1 in 400): n | n + 1 | 31 | 32 | 255",
     "36 with (1 in 500): n of 0 | n of 32 | something at the row's place",
     "reason (1 in 50): picked | not ready | no core free | passed over",
-    "asked about a row with e = p (1 in 200): picked | not ready | no core free | passed over",
+    "asked about a row with e = p (1 in 250): picked | not ready | no core free | passed over",
     "answered with (1 in 250): row 31 | k of M | k of 8 | time above 900,000,000,000",
     "k of 0, and the row is (1 in 150): ready | not ready",
     "not ready (1 in 80): plain | early release | before its phase | after a phase above 0",
     "first slot (1 in 1000): the next | a later one | the time limit | past the time limit",
     "before its start, by early release (1 in 1500): picked | no core free | passed over",
-    "passed over by (1 in 250): deadline | bit | group deadline | row number",
+    "passed over by (1 in 250): deadline | bit | group deadline | ran in the slot before | row number",
+    "passed over by row number, and the row asked about alone has run (1 in 250): in format 1",
     "passed over, and (1 in 80): the named row is not the lowest of the picked | \
      it is not the highest | it is not the first in the order | \
      another of the picked goes before by another rule | \
      the named row goes before the first left out by another rule",
     "passed over against a later rule (1 in 500): deadline against bit | \
-     deadline against group deadline | deadline against row number | bit against row number | \
-     group deadline against row number",
+     deadline against group deadline | deadline against ran | deadline against row number | \
+     bit against ran | bit against row number | group deadline against ran | \
+     group deadline against row number | ran against row number",
     "passed over by the bit (1 in 2500): against a larger group deadline",
     "passed over by row number, both bits 0, the larger group deadline (1 in 500): \
      of the row asked about | of the named row",
@@ -130,6 +132,7 @@ fn count_not_ready(time: u64, row: &Row, first_slot: u64, tally: &mut Tally) {
 /// A row that has to wait for another, which goes before it by a rule.
 fn count_passed_over(case: &Case, named: u8, rule: Rule, tally: &mut Tally) {
     tally.saw("passed over by", rule_name(rule));
+    let format = case.state.table.format;
     let ready = ready_rows(&case.state);
     let (picked, left) = ready.split_at(usize::from(case.k));
     let of = |number| {
@@ -142,27 +145,35 @@ fn count_passed_over(case: &Case, named: u8, rule: Rule, tally: &mut Tally) {
         rows().min() != Some(named.row),
         rows().max() != Some(named.row),
         picked[0] != *named,
-        picked.iter().any(|one| rule_between(one, asked) != rule),
-        rule_between(named, &left[0]) != rule,
+        picked.iter().any(|one| rule_between(format, one, asked) != rule),
+        rule_between(format, named, &left[0]) != rule,
     ];
     tally.saw_each("passed over, and", met);
-    count_against(asked, named, rule, tally);
+    count_against(format, asked, named, rule, tally);
 }
 
 /// The rules that are not asked any more, where they would speak for the row asked about; and D, where it is not asked at all.
-fn count_against(asked: &Next, named: &Next, rule: Rule, tally: &mut Tally) {
+fn count_against(format: u8, asked: &Next, named: &Next, rule: Rule, tally: &mut Tally) {
     let (bit, number) = (asked.bit > named.bit, asked.row < named.row);
+    let alone_ran = asked.ran && !named.ran;
+    let ran = format == 2 && alone_ran;
     let (larger, smaller) = (asked.group > named.group, asked.group < named.group);
     let by = |other| rule == other;
     let met = [
         by(Rule::Deadline) && bit,
         by(Rule::Deadline) && larger,
+        by(Rule::Deadline) && ran,
         by(Rule::Deadline) && number,
+        by(Rule::Bit) && ran,
         by(Rule::Bit) && number,
+        by(Rule::GroupDeadline) && ran,
         by(Rule::GroupDeadline) && number,
+        by(Rule::RanBefore) && number,
     ];
     tally.saw_each("passed over against a later rule", met);
     tally.saw_each("passed over by the bit", [by(Rule::Bit) && larger]);
+    let title = "passed over by row number, and the row asked about alone has run";
+    tally.saw_each(title, [by(Rule::RowNumber) && alone_ran && format == 1]);
     let met = [larger, smaller].map(|met| by(Rule::RowNumber) && met);
     let title = "passed over by row number, both bits 0, the larger group deadline";
     tally.saw_each(title, met);

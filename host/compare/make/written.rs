@@ -13,10 +13,10 @@ pub struct Draft {
     pub after: Vec<u8>,
 }
 
-/// A table whose format and counts are right.
-pub fn draft(cycle: u32, boards: &[u8], rows: &[Row]) -> Draft {
+/// A table of this format, whose counts are right.
+pub fn draft(format: u8, cycle: u32, boards: &[u8], rows: &[Row]) -> Draft {
     Draft {
-        format: 1,
+        format,
         cycle,
         cores: boards.len() as u8,
         boards: boards.to_vec(),
@@ -30,6 +30,7 @@ impl Draft {
     /// As it would be handed to a dispatcher, with as many boards and rows as there are places.
     pub fn value(&self) -> Table {
         let mut table = Table {
+            format: self.format,
             cycle: self.cycle,
             cores: self.cores,
             count: self.count,

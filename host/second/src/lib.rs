@@ -21,9 +21,9 @@
 //! in the previous slot goes first, then the lower row number". Who that was is what One has the
 //! state remember, and of what is remembered the rows must rise now, in both formats.
 //!
-//! One module for each part of 01, one for each of One, Two and Five, and one for the probe's
-//! values; the papers' words stand in the comments beside the code that follows them, and their
-//! numbers stand in the code as they are written there.
+//! One module for each part of 01, and one for each of One, Two and Five; the papers' words stand
+//! in the comments beside the code that follows them, and their numbers stand in the code as they
+//! are written there.
 //!
 //! * `table`: the table, in bytes, and the faults of a table value.
 //! * `writing`: a table value written into a lent buffer (02, Five).
@@ -40,7 +40,6 @@
 //!   format 2, run with all cores free.
 //! * `questions`: single rules of the above, asked of numbers that no table or state may have; D of
 //!   a next window by the walk, and picks in the order of format 1.
-//! * `values`: a table value and a state in bytes, as the probe's protocol has them.
 //!
 //! # Planted slips
 //!
@@ -122,7 +121,6 @@ pub mod share;
 pub mod slot;
 pub mod table;
 pub mod trace;
-pub mod values;
 pub mod why;
 pub mod windows;
 pub mod writing;

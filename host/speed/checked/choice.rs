@@ -1,5 +1,6 @@
 //! Who is picked of the ready rows.
 
+use super::cores::favoured;
 use super::look::Ready;
 use super::owed::{group_behind, has_bit, is_heavy};
 use super::set::{lowest, Each};
@@ -38,13 +39,27 @@ impl Picks {
         } else if has_bit(class) {
             by_group_deadline(state, rows, self.left)
         } else {
-            lowest(rows, self.left)
+            first(rows, self.left, favoured(state))
         };
         Picks {
             rows: self.rows | last,
             left: 0,
         }
     }
+}
+
+/// So many of the rows, which are full ties: those that are favoured, then the lowest.
+#[inline(always)]
+fn first(rows: u32, count: u32, favoured: u32) -> u32 {
+    let favoured = rows & favoured;
+    if favoured == 0 {
+        return lowest(rows, count);
+    }
+    let size = favoured.count_ones();
+    if count <= size {
+        return lowest(favoured, count);
+    }
+    favoured | lowest(rows & !favoured, count - size)
 }
 
 /// So many of the rows, the larger group deadline first. That of a light row is 0, so heavy rows go before light ones.
@@ -54,14 +69,17 @@ fn by_group_deadline(state: &State, rows: u32, left: u32) -> u32 {
     for row in Each(rows.into()) {
         heavy |= u32::from(is_heavy(&state.table.rows[row])) << row;
     }
-    let count = heavy.count_ones();
+    let (count, favoured) = (heavy.count_ones(), favoured(state));
     if count <= left {
-        return heavy | lowest(rows & !heavy, left - count);
+        return heavy | first(rows & !heavy, left - count, favoured);
     }
     let mut keys = [0; 32];
-    for (key, row) in keys.iter_mut().zip(Each(heavy.into())) {
-        let behind = group_behind(&state.table.rows[row], state.quanta[row], state.time);
-        *key = (65_535 - behind) << 5 | row as u32;
+    let mut places = keys.iter_mut();
+    for (rows, others) in [(heavy & favoured, 0), (heavy & !favoured, 32)] {
+        for (row, key) in Each(rows.into()).zip(&mut places) {
+            let behind = group_behind(&state.table.rows[row], state.quanta[row], state.time);
+            *key = (65_535 - behind) << 6 | others | row as u32;
+        }
     }
     let keys = &mut keys[..count as usize];
     keys.sort_unstable();

@@ -2,37 +2,65 @@
 
 use super::set::Each;
 use crate::plain::cores::Placement;
+use crate::plain::slot::State;
 
-/// Whether it has a row or a core that the table has not, or one of them twice. The table has no fault.
+/// Whether it has a row or a core that the table has not, a core twice, or rows that do not rise. The table has no fault. Cores below M of which none
+/// is there twice are not more than M.
 #[inline(always)]
 pub fn is_faulty(last: &Placement, cores: u8, count: u8) -> bool {
     if last.count > 8 {
         return true;
     }
-    let (mut rows, mut on) = (0u64, 0u64);
-    for (row, core) in pairs(last) {
-        rows |= 1 << (row % 64);
+    let mut on = 0u64;
+    for (_, core) in pairs(last) {
         on |= 1 << (core % 64);
     }
-    // each is below 64, below n or M, and there once: then there are as many marks as places
+    // each core is below 64, below M, and there once: then there are as many marks as places
     has_64_or_more(last)
-        || rows >> count != 0
+        || do_not_rise(last)
+        || pairs(last).last().map_or(false, |(row, _)| row >= count)
         || on >> cores != 0
-        || (on << 32 | rows).count_ones() != 2 * u32::from(last.count)
+        || on.count_ones() != u32::from(last.count)
 }
 
 /// All places at once: those below the count have no mark for 64 or 128.
 #[inline(always)]
 fn has_64_or_more(last: &Placement) -> bool {
-    let past = u64::MAX.checked_shl(8 * u32::from(last.count));
     let numbers = u64::from_le_bytes(last.rows) | u64::from_le_bytes(last.cores);
-    numbers & !past.unwrap_or(0) & 0xC0C0_C0C0_C0C0_C0C0 != 0
+    numbers & below(last.count) & 0xC0C0_C0C0_C0C0_C0C0 != 0
+}
+
+/// All places at once: the row of each but the last, with one more, is taken from the row behind it. All are below 64, so that the mark for 128,
+/// which is put there before, stays if and only if the row behind is above it.
+#[inline(always)]
+fn do_not_rise(last: &Placement) -> bool {
+    const MARKS: u64 = 0x8080_8080_8080_8080;
+    const ONES: u64 = 0x0101_0101_0101_0101;
+    let pairs = below(last.count) >> 8;
+    let rows = u64::from_le_bytes(last.rows);
+    let (one, behind) = (rows & pairs, rows >> 8 & pairs);
+    ((behind | MARKS) - one - ONES) & pairs & MARKS != pairs & MARKS
+}
+
+/// The bytes of so many places.
+#[inline(always)]
+fn below(count: u8) -> u64 {
+    !u64::MAX.checked_shl(8 * u32::from(count)).unwrap_or(0)
 }
 
 #[inline(always)]
 fn pairs(last: &Placement) -> impl Iterator<Item = (u8, u8)> + '_ {
     let pairs = last.rows.iter().copied().zip(last.cores);
     pairs.take(last.count.into())
+}
+
+/// The rows that go first among full ties: in format 2 those that ran in the last slot.
+#[inline(always)]
+pub fn favoured(state: &State) -> u32 {
+    if state.table.format == 1 {
+        return 0;
+    }
+    pairs(&state.last).fold(0, |rows, (row, _)| rows | 1 << (row % 32))
 }
 
 /// The cores on which picked rows stay, and those that are left for the others.

@@ -70,10 +70,13 @@ pub fn look(state: &State, ready: &mut Ready) -> bool {
     true
 }
 
-/// Faults 12 to 15 of a table value.
+/// Faults 11 to 15 of a table value.
 #[inline(always)]
 fn has_bad_head(table: &Table) -> bool {
     let cores = usize::from(table.cores);
+    if table.format.wrapping_sub(1) >= 2 {
+        return true;
+    }
     if table.cycle.wrapping_sub(1) >= 1_000_000 || cores.wrapping_sub(1) >= 8 || table.count > 32 {
         return true;
     }

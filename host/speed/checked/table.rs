@@ -48,14 +48,14 @@ pub fn read(bytes: &[u8]) -> Result<Parts<'_>, u8> {
 fn cycle(bytes: &[u8]) -> Result<(u32, &[u8]), u8> {
     match *bytes {
         [] => Err(10),
-        [1, a, b, c, d, ref rest @ ..] => {
+        [1 | 2, a, b, c, d, ref rest @ ..] => {
             let cycle = u32::from_le_bytes([a, b, c, d]);
             if cycle.wrapping_sub(1) >= 1_000_000 {
                 return Err(12);
             }
             Ok((cycle, rest))
         }
-        [1, ..] => Err(10),
+        [1 | 2, ..] => Err(10),
         _ => Err(11),
     }
 }

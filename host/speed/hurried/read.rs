@@ -18,7 +18,8 @@ fn is_sound(bytes: &[u8]) -> Option<bool> {
     let boards = bytes.get(6..6 + cores)?;
     let count = usize::from(*bytes.get(6 + cores)?);
     let rows = bytes.get(7 + cores..)?;
-    if head[0] != 1 || cycle > 1_000_000 || cores > 8 || count > 32 || rows.len() != 9 * count {
+    let unknown = head[0].wrapping_sub(1) >= 2;
+    if unknown || cycle > 1_000_000 || cores > 8 || count > 32 || rows.len() != 9 * count {
         return None;
     }
     let mut sound = cycle != 0 && cores != 0;

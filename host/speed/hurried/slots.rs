@@ -13,6 +13,9 @@ pub struct State {
     due: [[u32; 2]; 64],
     times: u64,
     far: u32,
+    /// format 2: the rows that ran in the last slot, which go first among full ties
+    is_kind: bool,
+    favoured: u32,
 }
 
 impl State {
@@ -25,6 +28,8 @@ impl State {
             due: [[0; 2]; 64],
             times: 0,
             far: 0,
+            is_kind: table[0] == 2,
+            favoured: 0,
         };
         for row in 0..usize::from(table[6 + usize::from(table[5])]) {
             state.waiting.put(row, state.rows[row].ready, 0);
@@ -40,6 +45,9 @@ impl State {
         }
         self.wake();
         let picks = self.picks(k.into());
+        if self.is_kind {
+            self.favoured = picks;
+        }
         self.time += 1;
         let mut count = 0;
         for row in Each(picks) {
@@ -100,7 +108,7 @@ impl State {
         picks
     }
 
-    /// The first of a class, at most so many: by group deadline if b = 1, then by row.
+    /// The first of a class, at most so many: by group deadline if b = 1, then those that are favoured, then by row.
     #[inline(always)]
     fn first_of(&self, class: u32, left: u32, by_group: bool) -> u32 {
         if class.count_ones() <= left {
@@ -128,12 +136,14 @@ impl State {
     fn first_by(&self, rows: u32, left: u32, key: impl Fn(usize) -> (u32, u64)) -> u32 {
         let mut order = [((0, 0), 0); 32];
         let mut count = 0;
-        for row in Each(rows) {
-            order[count] = (key(row), row);
-            count += 1;
+        for (rows, others) in [(rows & self.favoured, 0), (rows & !self.favoured, 32)] {
+            for row in Each(rows) {
+                order[count] = (key(row), others | row);
+                count += 1;
+            }
         }
         order[..count].sort_unstable();
         let first = order[..count].iter().take(left as usize);
-        first.fold(0, |set, it| set | 1 << it.1)
+        first.fold(0, |set, it| set | 1 << (it.1 % 32))
     }
 }

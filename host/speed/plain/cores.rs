@@ -17,20 +17,26 @@ impl Placement {
         pairs.take(self.count.into())
     }
 
-    /// Whether it has a row or a core that the table has not, or one of them twice. The table has no fault.
+    /// Whether it has a row or a core that the table has not, a core twice, rows that do not rise, or more of them than there are cores. The
+    /// table has no fault.
     pub fn is_faulty(&self, table: &Table) -> bool {
-        let (mut rows, mut cores) = (0u32, 0u32);
+        let (mut least, mut cores) = (0, 0u32);
         for (row, core) in self.pairs() {
             if row >= table.count || core >= table.cores {
                 return true;
             }
-            if rows >> row & 1 == 1 || cores >> core & 1 == 1 {
+            if row < least || cores >> core & 1 == 1 {
                 return true;
             }
-            rows |= 1 << row;
+            least = row + 1;
             cores |= 1 << core;
         }
-        self.count > 8
+        self.count > table.cores
+    }
+
+    /// The rows, as a set.
+    pub fn rows(&self) -> u32 {
+        self.pairs().fold(0, |rows, (row, _)| rows | 1 << row)
     }
 }
 

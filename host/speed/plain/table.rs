@@ -11,6 +11,7 @@ pub struct Row {
 
 #[derive(Clone, Copy, Default, PartialEq, Eq, Debug)]
 pub struct Table {
+    pub format: u8,
     pub cycle: u32,
     pub cores: u8,
     pub boards: [u8; 8],
@@ -59,7 +60,8 @@ impl<'a> Rest<'a> {
 pub fn read(bytes: &[u8]) -> Result<Table, u8> {
     let mut rest = Rest(bytes);
     let mut table = Table::default();
-    refuse(rest.byte()? != 1, 11)?;
+    table.format = rest.byte()?;
+    test_format(table.format)?;
     let cycle = rest.take(4)?;
     table.cycle = u32::from_le_bytes([cycle[0], cycle[1], cycle[2], cycle[3]]);
     test_cycle(table.cycle)?;
@@ -84,8 +86,9 @@ pub fn read(bytes: &[u8]) -> Result<Table, u8> {
     Ok(table)
 }
 
-/// The first fault 12 to 20 or 22 of a table value.
+/// The first fault 11 to 20 or 22 of a table value.
 pub fn fault(table: &Table) -> Result<(), u8> {
+    test_format(table.format)?;
     test_cycle(table.cycle)?;
     test_cores(table.cores)?;
     let boards = &table.boards[..usize::from(table.cores)];
@@ -104,6 +107,10 @@ fn refuse(fault: bool, number: u8) -> Result<(), u8> {
         return Err(number);
     }
     Ok(())
+}
+
+fn test_format(format: u8) -> Result<(), u8> {
+    refuse(!(1..=2).contains(&format), 11)
 }
 
 fn test_cycle(cycle: u32) -> Result<(), u8> {

@@ -1,4 +1,4 @@
-//! A box of 32 rows on 8 cores that may have a slow slot.
+//! A box of 32 rows on 8 cores that may have a slow slot. All are of format 1: boxes of format 2 are not searched.
 
 use crate::boxes::BOARDS;
 use crate::make::written::draft;
@@ -30,7 +30,7 @@ impl Candidate {
     }
 
     pub fn table(&self) -> Vec<u8> {
-        draft(self.cycle, &BOARDS, &self.rows).bytes()
+        draft(1, self.cycle, &BOARDS, &self.rows).bytes()
     }
 
     pub fn is_sound(&self) -> bool {
