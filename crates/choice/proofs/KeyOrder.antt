@@ -192,7 +192,7 @@ rank-has-key row i q favoured has cost few =
     near (inl none) = inl none
     near (inr some) = inr (some .0, omega (arith, some .1))
 
--- For callers: a key ends with its row's number, if not favoured with 32 more,
+-- A key ends with its row's number, if not favoured with 32 more,
 ends-with : (front : ℕ) (favoured : Bool) (row : ℕ) → row < 32 → (front * 64 + endOf favoured row) % 32 ≡ row
 ends-with front true row few =
     let rest = mod-lt (front * 64 + row) {m = 32} (omega arith) in
@@ -201,6 +201,7 @@ ends-with front false row few =
     let rest = mod-lt (front * 64 + (32 + row)) {m = 32} (omega arith) in
     omega (arith, div-add-mod' (front * 64 + (32 + row)) 32)
 
+-- For callers: so that the row is found again.
 pub key-ends-with-row : (x : Rank) → x .row < 32 → keyFor x % 32 ≡ x .row
 unfolding keyFor
 key-ends-with-row x few = ends-with (frontOf x) (x .favoured) (x .row) few

@@ -1,6 +1,6 @@
 -- "Format 2 breaks ties kindly" (02, Eight): "Tables of format 2 keep the bytes of format 1 but end PD2's order differently: among full ties, a row picked in the
--- previous slot goes first, then the lower row number." That the order's laws, the picks, demand 3 and never late hold in both formats stands with them: they
--- speak of any table, and so of its format.
+-- previous slot goes first, then the lower row number." That the picks, demand 3 and never late hold in both formats is said where they are stated:
+-- of any table, whatever its format.
 use Prim.Native.Nat.{ℕ, _+_, _<_}
 use mathlib.Core.Path.{_≡_}
 use mathlib.Core.List.{List, [], _∷_, map}

@@ -27,7 +27,7 @@ pub record WritingTables : Type 0 where
   -- a table that the reader would refuse is refused with that number."
   pub as-the-reader : RefusedAsTheReaderWould
   pub reader-says-the-same : ReaderSaysTheSame
-  -- "Refusals: 12 to 20 in reading order, 22, then 37 if the buffer is too short for exactly the bytes needed."
+  -- "Refusals: 12 to 20 in reading order, 22, then 37 if the buffer is too short for exactly the bytes needed."; with Eight's 11 ahead of them
   pub numbers : WriteNumbers
   pub refused : WriteNumbersAreFirstCauses
   pub exactly : WrittenExactly

@@ -163,8 +163,8 @@ fn stands_ahead(cost: u64, period: u64, given: u64, elapsed: u64) -> Stand
     Stand::Waits
 }
 
-// The key of a ready row, which ends so. What its next quantum lacks of its share, divided by what a slot brings, says when it is due, and what is left over gives the bit and the
-// group deadline.
+// The key of a ready row, whose end is known. What its next quantum lacks of its share, divided by what a slot brings, says when it is due, and what is left
+// over gives the bit and the group deadline.
 fn key(row: Row, end: u8, given: u64, time: u64) -> u64
     requires { ⌜ CanBeReady row given time × (end < 64) ⌝ }
     ensures { λ r. ⌜ (r ≡ frontOf (rankOf row 0 given) * 64 + end) × (r < most) × HasKey (rankOf row 0 given) ⌝ }

@@ -20,7 +20,7 @@ pub struct Row {
     pub kind: u8,
 }
 
-// The format stands behind n, where a byte is free: in front it would make every copy of a table longer.
+// The format stands behind n: there it takes a byte that was padding, in front it would make every copy of a table longer.
 pub struct Table {
     pub cycle: u32,
     pub cores: u8,

@@ -1,4 +1,4 @@
--- What stands past n and M, and what is remembered, has no part in the answer. Assumes nothing.
+-- What stands past n and M, and what is remembered but for who is favoured, has no part in the answer. Assumes nothing.
 use Prim.Native.Nat.{ℕ, _<_}
 use mathlib.Core.Path.{_≡_, refl, sym, ap, ap₂, subst, _∙_}
 use mathlib.Core.Bool.{Bool}

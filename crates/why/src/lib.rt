@@ -142,7 +142,7 @@ fn reason(state: State, k: u8, row: usize) -> Answer
     let by = dropped(marks, fewer);
     let ahead = rows[by];
     let had = quanta[by];
-    let kinder = is_dropped(favoured[by], favoured[row]);
+    let kinder = only_first(favoured[by], favoured[row]);
     let rule = order::rule_between(ahead, had, asked, given, kinder);
     let by = by as u8;
     Answer::PassedOver { by, rule }
@@ -168,7 +168,7 @@ fn dropped(marks: [bool; 32], fewer: [bool; 32]) -> usize
     while i < 32 {
         let with = marks[i];
         let without = fewer[i];
-        if is_dropped(with, without) {
+        if only_first(with, without) {
             return i;
         }
         i += 1;
@@ -176,11 +176,12 @@ fn dropped(marks: [bool; 32], fewer: [bool; 32]) -> usize
     32
 }
 
-fn is_dropped(with: bool, without: bool) -> bool
-    ensures { λ r. ⌜ r ≡ with && not without ⌝ }
+// Of the two the first alone.
+fn only_first(first: bool, second: bool) -> bool
+    ensures { λ r. ⌜ r ≡ first && not second ⌝ }
 {
-    if with {
-        return !without;
+    if first {
+        return !second;
     }
     false
 }

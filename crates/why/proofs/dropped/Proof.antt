@@ -22,11 +22,11 @@ array-read-with c = omega arith
 array-read-without : tie.Need-array-read-without Inv-loop μ-loop
 array-read-without c = omega arith
 
-is-dropped-requires : tie.Need-is-dropped-requires Inv-loop μ-loop
-is-dropped-requires c κs = search needs
+only-first-requires : tie.Need-only-first-requires Inv-loop μ-loop
+only-first-requires c κs = search needs
 
 returns : tie.Need-returns Inv-loop μ-loop
-returns c = found-lowest _ _ (c .before .before .before .loop .inv) (c .before .before .loop-test .taken) (sym (c .before .is-dropped .ensures) ∙ c .if1 .taken)
+returns c = found-lowest _ _ (c .before .before .before .loop .inv) (c .before .before .loop-test .taken) (sym (c .before .only-first .ensures) ∙ c .if1 .taken)
 
 add-i : tie.Need-add-i Inv-loop μ-loop
 add-i c = omega arith
@@ -35,7 +35,7 @@ loop-less : tie.Need-loop-less Inv-loop μ-loop
 loop-less c = omega arith
 
 loop-again : tie.Need-loop-again Inv-loop μ-loop
-loop-again c = looks-on _ _ (c .before .before .before .loop .inv) (c .before .before .loop-test .taken) (sym (c .before .is-dropped .ensures) ∙ c .if1 .left)
+loop-again c = looks-on _ _ (c .before .before .before .loop .inv) (c .before .before .loop-test .taken) (sym (c .before .only-first .ensures) ∙ c .if1 .left)
 
 returns-2 : tie.Need-returns-2 Inv-loop μ-loop
 returns-2 c = found-none _ _ (c .before .loop .inv) (c .loop-test .left)
@@ -49,7 +49,7 @@ dropped-spec =
     loop-holds
     array-read-with
     array-read-without
-    is-dropped-requires
+    only-first-requires
     returns
     add-i
     loop-less

@@ -128,14 +128,14 @@ mul-had c = search needs
 array-copy-out-had : tie.Need-array-copy-out-had
 array-copy-out-had c = in-array (c .before)
 
-array-read-is-dropped : tie.Need-array-read-is-dropped
-array-read-is-dropped c = in-array (c .before .before)
+array-read-only-first : tie.Need-array-read-only-first
+array-read-only-first c = in-array (c .before .before)
 
-array-read-is-dropped-2 : tie.Need-array-read-is-dropped-2
-array-read-is-dropped-2 c = search needs
+array-read-only-first-2 : tie.Need-array-read-only-first-2
+array-read-only-first-2 c = search needs
 
-is-dropped-requires : tie.Need-is-dropped-requires
-is-dropped-requires c κs = search needs
+only-first-requires : tie.Need-only-first-requires
+only-first-requires c κs = search needs
 
 rule-between-requires : tie.Need-rule-between-requires
 rule-between-requires c κs =
@@ -155,7 +155,7 @@ ruled c =
     let few : length (rowsIn s) ≤ 32 = omega (arith, a .pre .usable .place .few, a .pre .usable .place .all) in
     let says : (row : ℕ) → row < length (rowsIn s) → getD (favoured .result) row false ≡ favouredIn s row = λ row l. ap (λ marks. getD marks row false) (favoured .ensures) ∙ favour-at s few row l in
     rule-there s (a .pre .usable) (lowest d .0) (a .pre .is-row) _ _ _ _
-    (c .before .is-dropped .ensures ∙ ap₂ (λ f g. f && not g) (says (d .dropped .result) (lowest d .0)) (says (a .args .row) (a .pre .is-row)))
+    (c .before .only-first .ensures ∙ ap₂ (λ f g. f && not g) (says (d .dropped .result) (lowest d .0)) (says (a .args .row) (a .pre .is-row)))
     (c .rule-between .ensures)
 
 cast-by : tie.Need-cast-by
@@ -195,9 +195,9 @@ reason-spec =
     array-copy-out-ahead
     mul-had
     array-copy-out-had
-    array-read-is-dropped
-    array-read-is-dropped-2
-    is-dropped-requires
+    array-read-only-first
+    array-read-only-first-2
+    only-first-requires
     rule-between-requires
     cast-by
     returns-4)
