@@ -20,14 +20,14 @@ pub struct Row {
     pub kind: u8,
 }
 
-// The format stands behind n: there it takes a byte that was padding, in front it would make every copy of a table longer.
+// The format stands last: there it takes a byte that was padding, and every other field stays where it was.
 pub struct Table {
     pub cycle: u32,
     pub cores: u8,
     pub boards: [u8; 8],
     pub n: u8,
-    pub format: u8,
     pub rows: [Row; 32],
+    pub format: u8,
 }
 
 // What reading answers: 0 and the table, or the number of the first fault met and a table of zeros.

@@ -3,6 +3,7 @@
 use super::by_hand;
 use super::slot::{free_cores, where_one_alone_ran, wild_state};
 use crate::kind::*;
+use crate::make::whole_core::is_whole;
 use crate::make::{values, why_seen};
 use second::slot::{broken, ready_rows, rule_between, Next, Rule, State};
 use second::why::answer;
@@ -123,15 +124,21 @@ fn any_question(random: &mut Random, state: &State) -> (u8, u8) {
     (k, row(random, state, k))
 }
 
-/// Any row of the table, the last, one that is not there, or one that is picked or passed over by little.
+/// Any row of the table, the last, one that is not there, one that is picked or passed over by little, or one with e = p.
 fn row(random: &mut Random, state: &State, k: u8) -> u8 {
     let n = state.table.count;
+    let whole = whole_core_rows(state);
     match random.below(12) {
         0 => random.pick(&[n, n.wrapping_add(1), 31, 32, 255]),
         1 => n.wrapping_sub(1),
         2..=6 if !broken(state) => near_the_last_picked(random, state, k),
+        7 if !whole.is_empty() => random.pick(&whole),
         _ => random.below(usize::from(n).max(1)) as u8,
     }
+}
+
+fn whole_core_rows(state: &State) -> Vec<u8> {
+    (0..state.table.count.min(32)).filter(|&row| is_whole(&state.table.rows[usize::from(row)])).collect()
 }
 
 /// The row that is picked last, or one of the two after it; row 0 where nobody is ready.

@@ -19,7 +19,7 @@ pub const GROUPS: [Group; 20] = [
     "36 by row (1 in 400): n | n + 1 | 31 | 32 | 255",
     "36 with (1 in 500): n of 0 | n of 32 | something at the row's place",
     "reason (1 in 50): picked | not ready | no core free | passed over",
-    "asked about a row with e = p (1 in 250): picked | not ready | no core free | passed over",
+    "asked about a row with e = p (1 in 200): picked | not ready | no core free | passed over",
     "answered with (1 in 250): row 31 | k of M | k of 8 | time above 900,000,000,000",
     "k of 0, and the row is (1 in 150): ready | not ready",
     "not ready (1 in 80): plain | early release | before its phase | after a phase above 0",

@@ -27,7 +27,7 @@ eight : (c : tie.Start) → length (c .args .table .boards) ≡ 8
 eight c = search needs
 
 thirty-two : (c : tie.Start) → length (c .args .table .rows) ≡ 32
-thirty-two c = sym (length-map (c .args .table .rows) _) ∙ c .good .0 .1 .1 .1 .1 .1 .1 .1 .0 .1 .0 .1
+thirty-two c = sym (length-map (c .args .table .rows) _) ∙ c .good .0 .1 .1 .1 .1 .1 .1 .0 .1 .0 .1
 
 long : (e : tie.Else1) → let t = e .before .before .before .args .table in length (bytesOfTable t) ≡ 7 + t .cores + 9 * t .n
 long e = let start = e .before .before .before in bytes-needed (start .args .table) (eight start) (thirty-two start) (sizes e .0) (sizes e .1)

@@ -57,7 +57,7 @@ arrays c =
     let a = c .before .before in
     let s = a .args .state in
     in-place s (is-whole _ (whole c) .table)
-    (sym (length-map (s .table .rows) _) ∙ a .good .0 .1 .1 .0 .1 .1 .1 .1 .1 .1 .1 .0 .1 .0 .1)
+    (sym (length-map (s .table .rows) _) ∙ a .good .0 .1 .1 .0 .1 .1 .1 .1 .1 .1 .0 .1 .0 .1)
     (sym (length-map (s .quanta) _) ∙ a .good .0 .1 .1 .1 .1 .1 .0 .1 .0 .1)
 
 returns-5 : tie.Need-returns-5

@@ -61,7 +61,7 @@ arrays : (c : tie.Else2) → let s = c .before .before .before .before .args .se
 arrays c =
     let a = c .before .before .before .before in
     in-place (a .args .self) (no-fault (c .before .before))
-    (sym (length-map (a .args .self .table .rows) _) ∙ a .good .0 .1 .1 .0 .1 .1 .1 .1 .1 .1 .1 .0 .1 .0 .1)
+    (sym (length-map (a .args .self .table .rows) _) ∙ a .good .0 .1 .1 .0 .1 .1 .1 .1 .1 .1 .0 .1 .0 .1)
     (sym (length-map (a .args .self .quanta) _) ∙ a .good .0 .1 .1 .1 .1 .1 .0 .1 .0 .1)
 
 favoured-requires : tie.Need-favoured-requires

@@ -67,7 +67,7 @@ usable c =
     let w = is-whole _ (admitted c .whole) in
     is-usable (a .args .self) w
     (in-place (a .args .self) (w .table)
-    (sym (length-map (a .args .self .table .rows) _) ∙ a .good .0 .1 .1 .0 .1 .1 .1 .1 .1 .1 .1 .0 .1 .0 .1)
+    (sym (length-map (a .args .self .table .rows) _) ∙ a .good .0 .1 .1 .0 .1 .1 .1 .1 .1 .1 .0 .1 .0 .1)
     (sym (length-map (a .args .self .quanta) _) ∙ a .good .0 .1 .1 .1 .1 .1 .0 .1 .0 .1))
 
 how-many-requires : tie.Need-how-many-requires
