@@ -7,6 +7,7 @@ import argparse
 from pathlib import Path
 
 import files
+import inputs
 import tables
 import words
 from archive import Archive
@@ -44,6 +45,13 @@ def explain(number: int) -> None:
     known = words.meaning(number)
     if known is not None:
         tell(f"zb: {known.plain}")
+
+
+def note_held_back(asked: inputs.Asked, late: int) -> None:
+    """Of slots of our own that ended late, at this time: that one core was held back in some of them, if it was, and what frees it."""
+    cores = len(tables.laid_out(asked.table).boards)
+    if cores > 1 and late > len(asked.listed):
+        tell(f"zb: from slot {len(asked.listed)} on no list says how many cores are free, so one of the {cores} is held back; --free {asked.slots}x{cores} frees them all")
 
 
 def keep_apart(output: str, *names: str) -> None:

@@ -16,7 +16,7 @@ import listing
 import schedule
 import tables
 import traces
-from desk import Desk, Words, keep_apart, plan, version
+from desk import Desk, Words, keep_apart, note_held_back, plan, version
 from endings import ANSWERED_NO, FINE, show_all, tell
 from picture import Picture
 from probe import Table
@@ -37,14 +37,17 @@ def draw(asked: Words, desk: Desk) -> int:
         return over_trace(asked, desk, draw_trace)
     source = tables.source(asked.table, desk.probe)
     table = tables.taken(source.table, desk.probe)
-    listed = listing.free_list(asked.free) if asked.free is not None else source.asked.listed if source.asked else b""
+    listed = listing.free_list(asked.free, course.MOST) if asked.free is not None else source.asked.listed if source.asked else b""
     there = source.asked.slots if source.asked else plan(table).cycle
     first, end = within(asked.slots, 0, min(there, DRAWN_SLOTS), there)
     if end > course.MOST:
         raise Trouble(f"slots of our own are drawn up to slot {course.MOST - 1}")
     all_slots = inputs.Asked(source.table, end, listed)
     ran = course.ours(source.table, table, bytes(all_slots.free(slot, table.cores) for slot in range(end)), desk.archive)
-    return put_drawing(schedule.drawn(title(source.name, None), table, ran, first, end, desk.probe), ran, form, asked.output)
+    status = put_drawing(schedule.drawn(title(source.name, None), table, ran, first, end, desk.probe), ran, form, asked.output)
+    if ran.late is not None:
+        note_held_back(all_slots, ran.late.time)
+    return status
 
 
 def draw_trace(source: Source, table: Table, trace: IO[bytes], asked: Words, desk: Desk) -> int:

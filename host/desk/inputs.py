@@ -19,12 +19,17 @@ class Asked:
     listed: bytes
 
     def free(self, slot: int, cores: int) -> int:
-        """The k of a slot, where the table has so many cores: 'Slots past the k list use all M cores.'"""
-        return self.listed[slot] if slot < len(self.listed) else cores
+        """The k of a slot, where the table has so many cores."""
+        return self.listed[slot] if slot < len(self.listed) else held_back(cores)
 
     def input(self) -> bytes:
         """The bytes for the printer, of parts that are within its limits."""
         return struct.pack("<H", len(self.table)) + self.table + struct.pack("<HH", self.slots, len(self.listed)) + self.listed
+
+
+def held_back(cores: int) -> int:
+    """How many of so many cores are free past the list: 'Slots past the k list now use M - 1, and 1 if M is 1' (02, Nine)."""
+    return max(1, cores - 1)
 
 
 def split(input: bytes) -> Asked | None:

@@ -29,8 +29,8 @@ def printed(asked: inputs.Asked, command: Sequence[str] = COMMAND) -> str:
     return run.stdout.decode("ascii")
 
 
-def free_list(text: str) -> bytes:
-    """The numbers of free cores that a person lists: '2,2,0,1', where '3x0' stands for '0,0,0'."""
+def free_list(text: str, most: int = inputs.SLOT_LIMIT) -> bytes:
+    """The numbers of free cores that a person lists: '2,2,0,1', where '3x0' stands for '0,0,0'; for so many slots at most."""
     numbers = bytearray()
     for part in filter(None, re.split(r"[,\s]+", text)):
         found = re.fullmatch(r"(?:([0-9]{1,9})x)?([0-9]{1,9})", part)
@@ -39,8 +39,8 @@ def free_list(text: str) -> bytes:
         times, k = int(found[1] or 1), int(found[2])
         if k > K_MOST:
             raise Trouble(f"--free: {k} does not fit: a number of free cores is {K_MOST} at most")
-        if len(numbers) + times > inputs.SLOT_LIMIT:
-            raise Trouble(f"--free lists more than {inputs.SLOT_LIMIT} slots")
+        if len(numbers) + times > most:
+            raise Trouble(f"--free lists more than {most} slots")
         numbers += times * bytes([k])
     return bytes(numbers)
 

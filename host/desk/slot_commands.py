@@ -8,7 +8,7 @@ import files
 import inputs
 import listing
 import tables
-from desk import Desk, Words, plan
+from desk import Desk, Words, note_held_back, plan
 from endings import ANSWERED_NO, FINE, show, tell
 from probe import LONGEST_TABLE
 from table_text import Fault
@@ -39,11 +39,15 @@ def slots(asked: Words, desk: Desk) -> int:
     if ended is None:
         return FINE
     tell(f"zb: {ended}")
+    if last.startswith("late"):
+        note_held_back(wanted, int(last.split()[1]))
     return ANSWERED_NO
 
 
 def wanted_slots(asked: Words, desk: Desk) -> inputs.Asked | str:
-    """What the printer is to print: the file's own, if it is an input, else of a table a cycle with all cores; and what the command line says in place of it."""
+    """What the printer is to print: the file's own, if it is an input, else of a table a cycle, in which one core is held back; and what the command
+    line says in place of it.
+    """
     source = tables.source(asked.file, desk.probe)
     listed = listing.free_list(asked.free) if asked.free is not None else None
     if source.asked is not None:

@@ -186,13 +186,18 @@ def cores_needed(table: bytes, probe: Probe) -> int | None:
 
 
 def never_late(table: bytes, plan: Plan, probe: Probe) -> str:
-    """Whether a table that is taken can ever be late (docs/NEVER-LATE.md)."""
+    """Whether a table that is taken can ever be late, and whether with one core held back (docs/NEVER-LATE.md)."""
     needed, cores = cores_needed(table, probe), len(plan.boards)
     if needed is None or needed > cores:
         raise Trouble("the probe contradicts itself: it takes a table, and not with fewer cores than it has, nor with as many")
-    enough = f"at least {needed} of the {cores} cores {'is' if needed == 1 else 'are'}" if needed < cores else ("the core is" if cores == 1 else f"all {cores} cores are")
+    if cores == 1:
+        enough, held_back = "the core is", ""
+    elif needed < cores:
+        enough, held_back = f"at least {needed} of the {cores} cores {'is' if needed == 1 else 'are'}", ", so also with one held back"
+    else:
+        enough, held_back = f"all {cores} cores are", "; with one held back it is late sooner or later (proved)"
     fewer = f"; it needs {needed}: with {words.counted(needed - 1, 'core')} the same table is refused ({words.of_number(22)})" if needed > 1 else ""
-    return f"never late from a fresh start if {enough} free in every slot (proved){fewer}"
+    return f"never late from a fresh start if {enough} free in every slot (proved){held_back}{fewer}"
 
 
 def would_need(plan: Plan, probe: Probe) -> str:

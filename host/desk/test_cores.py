@@ -1,5 +1,5 @@
 """The tests of the second listing, zb slots --cores, of the inputs that it reads and of the archive that runs its slots: python3 host/desk/test_cores.py.
-What is expected was worked out by hand, from 01 and request One of 02.
+What is expected was worked out by hand, from 01 and requests One and Nine of 02.
 """
 from __future__ import annotations
 
@@ -8,12 +8,14 @@ import subprocess
 import tempfile
 import unittest
 from pathlib import Path
-from typing import Iterator
+from typing import Iterator, Sequence
+from unittest import mock
 
 import archive
 import cores
 import files
 import inputs
+import listing
 import slot_commands
 import zb
 from archive import Archive, Ran
@@ -40,6 +42,7 @@ from testing import (
     placement,
     ran,
     refused,
+    three_slots,
 )
 from trouble import Trouble
 
@@ -154,7 +157,7 @@ class InFolder(unittest.TestCase):
 
 class Splitting(unittest.TestCase):
     def test_parts(self) -> None:
-        self.assertEqual(inputs.split(THREE_SLOTS), inputs.Asked(TABLE, 3, b""))
+        self.assertEqual(inputs.split(THREE_SLOTS), inputs.Asked(TABLE, 3, b"\2\2\2"))
         self.assertEqual(inputs.split(bytes.fromhex("0100 AA 0300 0200 07FF")), inputs.Asked(b"\xaa", 3, b"\x07\xff"))
 
     def test_missing_or_extra_bytes(self) -> None:
@@ -174,7 +177,7 @@ class Splitting(unittest.TestCase):
         for given, words in [
             (b"", "it is empty"),
             (b"\x24", "it has 1 byte, and the table's length alone takes 2"),
-            (THREE_SLOTS[:-1], "the table's length says 36, so the input must have 42 bytes with 0 k values, and has 41"),
+            (THREE_SLOTS[:-1], "the table's length says 36, so the input must have 45 bytes with 3 k values, and has 44"),
             (bytes.fromhex("0000 0110 0000"), "it asks for 4097 slots, and 4,096 are the most"),
             (bytes.fromhex("0000 0100 0200 0101"), "it has 2 k values for 1 slot"),
             (bytes.fromhex("0000 0110 0100"), "the table's length says 0, so the input must have 7 bytes with 1 k value, and has 6; it asks for 4097 slots, and 4,096 are the most"),
@@ -183,11 +186,14 @@ class Splitting(unittest.TestCase):
             self.assertEqual(inputs.fault(given), words)
 
     def test_free(self) -> None:
-        asked = inputs.Asked(b"", 3, b"\x05\x00")
-        self.assertEqual([asked.free(slot, 8) for slot in range(3)], [5, 0, 8])
+        # Past the list M - 1, and 1 if M is 1.
+        asked = inputs.Asked(b"", 4, b"\x05\x00")
+        for cores, past in [(1, 1), (2, 1), (3, 2), (8, 7)]:
+            self.assertEqual([asked.free(slot, cores) for slot in range(4)], [5, 0, past, past])
+            self.assertEqual(inputs.held_back(cores), past)
 
     def test_parts_make_the_input(self) -> None:
-        self.assertEqual(inputs.Asked(TABLE, 3, b"").input(), THREE_SLOTS)
+        self.assertEqual(inputs.Asked(TABLE, 3, b"\2\2\2").input(), THREE_SLOTS)
         self.assertEqual(inputs.Asked(b"\xaa", 259, b"\x07\xff").input(), bytes.fromhex("0100 AA 0301 0200 07FF"))
 
 
@@ -401,12 +407,12 @@ class Listings(InFolder):
     def test_late_with_a_move(self) -> None:
         ours = FakeArchive([done((0, 0), (1, 1)), Ran(1, 2, b"\1\1\1", ((1, 0),))])
         said = "0 2 0 10@0 11@1\n1 1 1 11@0\nlate 2 20\nmoves 1\n"
-        self.assertEqual(text(THREE_SLOTS[:-2] + b"\2\0\2\1", Fake(TAKEN), ours), cores.HEADER + "\n" + said)
+        self.assertEqual(text(three_slots(b"\2\1\2"), Fake(TAKEN), ours), cores.HEADER + "\n" + said)
         self.assertEqual(ours.asked, [(TABLE, b"\2\1\2")])
 
     def test_refused_slot(self) -> None:
         ours = FakeArchive([Ran(0, 0, b"\0\0", ()), Ran(35, 0, b"", ())])
-        self.assertEqual(text(THREE_SLOTS[:-2] + b"\2\0\0\x28", Fake(TAKEN), ours), cores.HEADER + "\n0 0 0\nrefused 35\n")
+        self.assertEqual(text(three_slots(b"\0\x28\2"), Fake(TAKEN), ours), cores.HEADER + "\n0 0 0\nrefused 35\n")
         self.assertEqual(ours.asked, [(TABLE, b"\0\x28\2")])
 
     def test_refused_table(self) -> None:
@@ -433,17 +439,17 @@ class Command(InFolder):
     def test_end(self) -> None:
         fake, ours = Fake(*INPUT_READ), FakeArchive(EXAMPLE_RUN)
         self.assertEqual(self.printed(THREE_SLOTS, fake, ours), (0, EXAMPLE_LISTING, ""))
-        self.assertEqual(fake.requests, [b"T\x2a\0\0\0" + THREE_SLOTS, b"T\x24\0\0\0" + TABLE])
+        self.assertEqual(fake.requests, [b"T\x2d\0\0\0" + THREE_SLOTS, b"T\x24\0\0\0" + TABLE])
         self.assertEqual(ours.asked, [(TABLE, b"\2\2\2")])
 
     def test_late(self) -> None:
         ours = FakeArchive([done((0, 0), (1, 1)), Ran(1, 2, b"\1\1\1", ((1, 0),))])
-        status, out, error = self.printed(THREE_SLOTS[:-2] + b"\2\0\2\1", Fake(*INPUT_READ), ours)
+        status, out, error = self.printed(three_slots(b"\2\1\2"), Fake(*INPUT_READ), ours)
         self.assertEqual((status, out), (1, cores.HEADER + "\n0 2 0 10@0 11@1\n1 1 1 11@0\nlate 2 20\nmoves 1\n"))
         self.assertRegex(error, "^zb: tank 20 is late at time 2: .*\n$")
 
     def test_refused_slot(self) -> None:
-        status, out, error = self.printed(THREE_SLOTS[:-2] + b"\1\0\x28", Fake(*INPUT_READ), FakeArchive([Ran(35, 0, b"", ())]))
+        status, out, error = self.printed(three_slots(b"\x28\2\2"), Fake(*INPUT_READ), FakeArchive([Ran(35, 0, b"", ())]))
         self.assertEqual((status, out), (1, cores.HEADER + "\nrefused 35\n"))
         self.assertRegex(error, "^zb: 35, a set naming a core not below M, or a printer's k above M: .*\n$")
 
@@ -462,15 +468,15 @@ class Command(InFolder):
     def test_what_was_to_be_an_input_with_a_table_of_format_2(self) -> None:
         # As below, with a 2 where the table begins.
         cut = b"\x24\0\2" + THREE_SLOTS[3:-1]
-        words = "zb: input: the table's length says 36, so the input must have 42 bytes with 0 k values, and has 41\n"
+        words = "zb: input: the table's length says 36, so the input must have 45 bytes with 3 k values, and has 44\n"
         self.assertEqual(self.printed(cut, Fake(refused(11)), FakeArchive()), (1, "input\n", words))
 
     def test_what_is_neither_input_nor_table(self) -> None:
         # One byte too many: no input. The first byte is its length's, 0x24, and a table's is 1 or 2, so it was to be an input.
         fake, ours = Fake(refused(11)), FakeArchive()
-        words = "zb: input: the table's length says 36, so the input must have 42 bytes with 0 k values, and has 43\n"
+        words = "zb: input: the table's length says 36, so the input must have 45 bytes with 3 k values, and has 46\n"
         self.assertEqual(self.printed(THREE_SLOTS + b"\0", fake, ours), (1, "input\n", words))
-        self.assertEqual((fake.requests, ours.asked), ([b"T\x2b\0\0\0" + THREE_SLOTS + b"\0"], []))
+        self.assertEqual((fake.requests, ours.asked), ([b"T\x2e\0\0\0" + THREE_SLOTS + b"\0"], []))
 
     def test_a_cut_table_is_a_table(self) -> None:
         fake, ours = Fake(refused(10), refused(10)), FakeArchive()
@@ -479,10 +485,10 @@ class Command(InFolder):
         self.assertRegex(error, "^zb: 10, table ends inside a field or row: .*\n$")
 
     def test_a_table(self) -> None:
-        # Its cycle has 3 slots, and 2 cores are free in each: these are the slots of 01's example.
+        # Its cycle has 3 slots; with 2 cores free in each these are the slots of 01's example.
         for data in [TABLE, TABLE.hex().encode()]:
             fake, ours = Fake(TAKEN, TAKEN), FakeArchive(EXAMPLE_RUN)
-            self.assertEqual(self.printed(data, fake, ours), (0, EXAMPLE_LISTING, ""))
+            self.assertEqual(self.printed(data, fake, ours, "--free", "3x2"), (0, EXAMPLE_LISTING, ""))
             self.assertEqual(fake.requests, 2 * [b"T\x24\0\0\0" + TABLE])
             self.assertEqual(ours.asked, [(TABLE, b"\2\2\2")])
 
@@ -491,6 +497,99 @@ class Command(InFolder):
         said = cores.HEADER + "\n0 0 0\n1 1 0 10@1\nend 2\nmoves 0\n"
         self.assertEqual(self.printed(THREE_SLOTS, Fake(*INPUT_READ), ours, "--slots", "2", "--free", "0,1,2"), (0, said, "zb: of the 3 slots of the list the first 2 are printed\n"))
         self.assertEqual(ours.asked, [(TABLE, b"\0\1")])
+
+
+class Asking(FakeArchive):
+    """Remembers what it was asked, and is interrupted."""
+
+    def run(self, table: bytes, listed: bytes) -> Iterator[Ran]:
+        self.asked.append((table, listed))
+        raise KeyboardInterrupt
+
+
+class HeldBack(InFolder):
+    """Past the list one core less is free than there are, or the only one (02, Nine); where that ends late, a line says so. No program runs here: what
+    they pick is in test_zb.py.
+    """
+
+    ONE_CORE = TABLE[:5] + b"\1\0" + b"\1" + TABLE[9:18]  # tank 10 alone
+    ONE_TAKEN = b"\0" + (VALUE[:5] + b"\1" + bytes(8) + b"\1" + VALUE[15:24]).ljust(303, b"\0")
+    LATE = Ran(0, 0, b"\0\0", ()), Ran(1, 0, b"\1\0", ())  # nobody is picked, and row 0 is late at 2
+    SAID = "zb: from slot {} on no list says how many cores are free, so one of the 2 is held back; --free 3x2 frees them all\n"
+
+    def test_the_listing_with_cores_and_the_drawing_ask_for_the_same(self) -> None:
+        for data, read, options, listed in [
+            (TABLE, [TAKEN], [], b"\1\1\1"),
+            (TABLE, [TAKEN], ["--free", "2"], b"\2\1\1"),
+            (TABLE, [TAKEN], ["--free", "0,2"], b"\0\2\1"),
+            (TABLE, [TAKEN], ["--free", "3x2"], b"\2\2\2"),
+            (three_slots(b""), INPUT_READ, [], b"\1\1\1"),
+            (three_slots(b"\2\2"), INPUT_READ, [], b"\2\2\1"),
+            (three_slots(b"\2\2"), INPUT_READ, ["--free", "2"], b"\2\1\1"),
+            (THREE_SLOTS, INPUT_READ, [], b"\2\2\2"),
+            (self.ONE_CORE, [self.ONE_TAKEN], [], b"\1\1\1"),
+            (self.ONE_CORE, [self.ONE_TAKEN], ["--free", "0"], b"\0\1\1"),
+        ]:
+            table = self.ONE_CORE if data is self.ONE_CORE else TABLE
+            for command in [["slots", "--cores"], ["draw"]]:
+                ours = Asking()
+                again = read[-1:] if data is table and command[0] == "slots" else []  # the cycle of a table, before its slots
+                self.assertEqual(ran([*command, self.file("input", data), *options], Fake(*read, *again), ours)[0], 130)
+                self.assertEqual(ours.asked, [(table, listed)])
+
+    def test_a_drawing_past_the_slots_of_a_listing(self) -> None:
+        # All cores can be listed there too, or they could not be drawn any more.
+        table, ours = self.file("t", TABLE), Asking()
+        self.assertEqual(ran(["draw", table, "--slots", "4999-5000", "--free", "5001x2"], Fake(TAKEN), ours)[0], 130)
+        self.assertEqual(ours.asked, [(TABLE, 5_001 * b"\2")])
+        self.assertEqual(ran(["draw", table, "--free", "1000001x2"], Fake(TAKEN), ours), (2, "", "zb: --free lists more than 1000000 slots\n"))
+        self.assertEqual(ran(["slots", table, "--free", "4097x2"], Fake(TAKEN), ours), (2, "", "zb: --free lists more than 4096 slots\n"))
+
+    def noted(self, data: bytes, read: Sequence[bytes], *options: str) -> str:
+        """What is said behind the lateness."""
+        status, _, error = ran(["slots", self.file("input", data), "--cores", *options], Fake(*read), FakeArchive(self.LATE))
+        self.assertEqual(status, 1)
+        late, *more = error.splitlines(keepends=True)
+        self.assertTrue(late.startswith("zb: tank 10 is late at time 2: "), late)
+        return "".join(more)
+
+    def test_late_past_the_list(self) -> None:
+        # Slots 0 and 1 ran.
+        self.assertEqual(self.noted(TABLE, [TAKEN, TAKEN]), self.SAID.format(0))
+        self.assertEqual(self.noted(TABLE, [TAKEN, TAKEN], "--free", "0"), self.SAID.format(1))
+        self.assertEqual(self.noted(three_slots(b"\0"), INPUT_READ), self.SAID.format(1))
+        self.assertEqual(self.noted(THREE_SLOTS, INPUT_READ, "--free", ""), self.SAID.format(0))
+        self.assertEqual(self.noted(TABLE, [TAKEN, TAKEN], "--slots", "4096"), self.SAID.format(0).replace("3x2", "4096x2"))
+
+    def test_late_within_the_list(self) -> None:
+        for listed in ["0,1", "0,1,2"]:
+            self.assertEqual(self.noted(TABLE, [TAKEN, TAKEN], "--free", listed), "")
+        self.assertEqual(self.noted(three_slots(b"\0\1"), INPUT_READ), "")
+
+    def test_late_on_one_core(self) -> None:
+        self.assertEqual(self.noted(self.ONE_CORE, 2 * [self.ONE_TAKEN]), "")
+
+    def test_not_late(self) -> None:
+        ours = FakeArchive([Ran(0, 0, b"\1\0", ()), Ran(0, 0, b"\1\0", ()), Ran(0, 0, b"\1\0", ())])
+        self.assertEqual(ran(["slots", self.file("t", TABLE), "--cores"], Fake(TAKEN, TAKEN), ours), (0, cores.HEADER + "\n0 1 0\n1 1 0\n2 1 0\nend 3\nmoves 0\n", ""))
+
+    def test_a_refused_slot(self) -> None:
+        status, out, error = ran(["slots", self.file("t", TABLE), "--cores", "--free", "2"], Fake(TAKEN, TAKEN), FakeArchive([done(), Ran(35, 0, b"", ())]))
+        self.assertEqual((status, out), (1, cores.HEADER + "\n0 2 0\nrefused 35\n"))
+        self.assertRegex(error, "^zb: 35, .*\n$")
+
+    def test_the_listing_without_cores(self) -> None:
+        with mock.patch.object(listing, "printed", return_value="slot free tanks\n0 1 10\n1 1 11\nlate 2 20\n") as printed:
+            status, out, error = ran(["slots", self.file("t", TABLE)], Fake(TAKEN, TAKEN))
+        self.assertEqual((status, out, printed.call_args.args), (1, printed.return_value, (inputs.Asked(TABLE, 3, b""),)))
+        self.assertRegex(error, "^zb: tank 20 is late at time 2: .*\n" + self.SAID.format(0) + "$")
+
+    def test_a_drawing(self) -> None:
+        # Of the three rows subtasks 1 to 5 are asked for, and why each waited in two slots: refusals, of which nothing is drawn.
+        for options, said in [([], self.SAID.format(0)), (["--free", "0"], self.SAID.format(1)), (["--free", "0,1"], ""), (["--free", "3x1"], "")]:
+            fake = Fake(TAKEN, 15 * (b"\x32" + bytes(25)), 6 * (b"\x1e" + bytes(11)))
+            status, out, error = ran(["draw", self.file("t", TABLE), *options], fake, FakeArchive(self.LATE))
+            self.assertEqual((status, out.splitlines()[-1], error), (1, "Tank 10 is late at time 2: there the dispatcher stops.", said))
 
 
 class Endings(EndingCase):
@@ -564,7 +663,7 @@ class AgainstProbe(unittest.TestCase):
 
     def test_k_above_the_cores(self) -> None:
         for k in [3, 9, 32, 255]:
-            self.assert_listed(THREE_SLOTS[:-2] + bytes([2, 0, 2, k]), cores.HEADER + "\n0 2 0 10@0 11@1\nrefused 35\n")
+            self.assert_listed(three_slots(bytes([2, k, 2])), cores.HEADER + "\n0 2 0 10@0 11@1\nrefused 35\n")
 
     def test_late(self) -> None:
         self.assert_listed(files.read(LATE, inputs.INPUT_LIMIT).data, cores.HEADER + "\n0 0 0\n1 0 0\nlate 2 10\nmoves 0\n")
@@ -584,7 +683,7 @@ class AgainstArchive(AgainstProbe):
         self.archive = Archive()
 
     def test_as_the_probe(self) -> None:
-        for name in ["three-tanks-slots.hex", "four-cores.hex", "full-box.hex", "moves.hex", "late.hex", "four-halves-1.hex", "four-halves-2.hex"]:
+        for name in ["three-tanks-slots.hex", "four-cores.hex", "full-box.hex", "moves.hex", "late.hex", "four-halves-1.hex", "four-halves-2.hex", "held-back.hex"]:
             asked = inputs.split(files.read(str(ROOT / "examples" / name), inputs.INPUT_LIMIT).data)
             assert asked is not None
             table = Probe().read_table(asked.table)
@@ -593,7 +692,7 @@ class AgainstArchive(AgainstProbe):
 
     def test_command(self) -> None:
         self.assertEqual(as_process("slots", EXAMPLE, "--cores"), (0, EXAMPLE_LISTING.encode(), ""))
-        self.assertEqual(as_process("slots", str(ROOT / "examples" / "three-tanks.csv"), "--cores"), (0, EXAMPLE_LISTING.encode(), ""))
+        self.assertEqual(as_process("slots", str(ROOT / "examples" / "three-tanks.csv"), "--cores", "--free", "3x2"), (0, EXAMPLE_LISTING.encode(), ""))
         status, out, error = as_process("slots", LATE, "--cores")
         self.assertEqual((status, out.splitlines()[-2:]), (1, [b"late 2 10", b"moves 0"]))
         self.assertRegex(error, "^zb: tank 10 is late at time 2: .*\n$")
@@ -612,7 +711,7 @@ class ProgramAgainstProbe(unittest.TestCase):
         self.assertEqual(as_process("slots", "-", "--cores", given=given, command=command), (1, b"input\n", f"zb: input: {words}\n"))
 
     def test_standard_input(self) -> None:
-        self.assert_input("the table's length says 36, so the input must have 42 bytes with 0 k values, and has 43", THREE_SLOTS + b"\0")
+        self.assert_input("the table's length says 36, so the input must have 45 bytes with 3 k values, and has 46", THREE_SLOTS + b"\0")
         self.assert_input("it has more than 65,536 bytes", b"\0\0\1" + bytes(70_000))
         self.assert_refused(11, "format is neither 1 nor 2", bytes(70_000))
         self.assert_input("it is empty", b"")

@@ -457,6 +457,39 @@ class Places(unittest.TestCase):
             tables.taken(TABLE, Fake(refused(99), 36 * refused(10)))
 
 
+class NeverLate(unittest.TestCase):
+    """What is said of a table that is taken, with a probe that takes it with so many cores and more."""
+
+    def said(self, cores: int, needed: int) -> str:
+        table = TABLE[:5] + bytes([cores, *range(cores)]) + TABLE[8:]
+        fake = Fake(b"".join(refused(22) if tried < needed else TAKEN for tried in range(1, 9)))
+        said = tables.never_late(table, tables.laid_out(table), fake)
+        self.assertEqual(len(fake.requests), 1)
+        return said.removeprefix("never late from a fresh start if ")
+
+    def test_all_cores_are_needed(self) -> None:
+        # So one less is not enough.
+        late = "(proved); with one held back it is late sooner or later (proved)"
+        self.assertEqual(self.said(2, 2), f"all 2 cores are free in every slot {late}; it needs 2: with 1 core the same table is refused (22, sum above M*L)")
+        self.assertEqual(self.said(8, 8), f"all 8 cores are free in every slot {late}; it needs 8: with 7 cores the same table is refused (22, sum above M*L)")
+
+    def test_fewer_cores_are_needed(self) -> None:
+        # So one less is enough.
+        for cores, needed in [(3, 2), (4, 2)]:
+            fewer = "it needs 2: with 1 core the same table is refused (22, sum above M*L)"
+            self.assertEqual(self.said(cores, needed), f"at least 2 of the {cores} cores are free in every slot (proved), so also with one held back; {fewer}")
+        for cores in (2, 4, 8):
+            self.assertEqual(self.said(cores, 1), f"at least 1 of the {cores} cores is free in every slot (proved), so also with one held back")
+
+    def test_the_only_core_is_not_held_back(self) -> None:
+        self.assertEqual(self.said(1, 1), "the core is free in every slot (proved)")
+
+    def test_a_probe_that_contradicts_itself(self) -> None:
+        for needed in (3, 9):  # it has taken the table with 2
+            with self.assertRaisesRegex(Trouble, "^the probe contradicts itself: "):
+                self.said(2, needed)
+
+
 class InFolder(unittest.TestCase):
     def setUp(self) -> None:
         folder = tempfile.TemporaryDirectory()

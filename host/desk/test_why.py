@@ -14,6 +14,7 @@ from pathlib import Path
 from typing import Sequence
 
 import files
+import inputs
 import testing
 import traces
 import verdict
@@ -598,7 +599,7 @@ class AgainstProbe(unittest.TestCase):
     #   1: rows 2 and 3. 2: they ran in slot 1 and go first. 3: rows 0 and 1. 4: they ran in slot 3. 5: rows 2 and 3. 6: they ran in slot 5. 7: rows 0 and 1.
     def test_format_2(self) -> None:
         box, given = (files.read(str(ROOT / "examples" / f"four-halves-2{name}.hex"), REQUEST_LIMIT).data for name in ("", "-trace"))
-        self.assertEqual(box[2:-4], four_halves(2))
+        self.assertEqual(inputs.split(box), inputs.Asked(four_halves(2), 8, 8 * b"\2"))
         passed = "but passed over: with 2 cores free the last in line to be picked was tank"
         for tank, slot, text in [
             (10, 0, "Tank 10 was picked in slot 0."),

@@ -32,7 +32,8 @@ EXAMPLES = ROOT / "examples"
 
 TABLE = bytes.fromhex("01 03000000 02 0001 03  0A00 0200 0300 0000 00  0B00 0200 0300 0000 00  1400 0200 0300 0000 00")  # 01's example
 TRACE = bytes.fromhex("03000000 02020001 02020002 02020102")
-LISTING = "slot free tanks\n0 2 10 11\n1 2 10 20\n2 2 11 20\nend 3\n"
+LISTING = "slot free tanks\n0 2 10 11\n1 2 10 20\n2 2 11 20\nend 3\n"  # with both cores free
+BOTH = ("--free", "3x2")
 BUILT = all((ROOT / "target" / name).exists() for name in ("bin/probe", "bin/slot_printer", "desk/run"))
 
 
@@ -108,7 +109,8 @@ class Words(unittest.TestCase):
         self.assertEqual(listing.free_list("2,2,0"), b"\2\2\0")
         self.assertEqual(listing.free_list("3x0, 1 255"), b"\0\0\0\1\xff")
         self.assertEqual(listing.free_list(""), b"")
-        for wrong in ["a", "2,-1", "256", "x2", "2x", "1.5", "5000x1"]:
+        self.assertEqual([len(listing.free_list("4096x1")), len(listing.free_list("1,4999x1", 5_000))], [4_096, 5_000])
+        for wrong in ["a", "2,-1", "256", "x2", "2x", "1.5", "5000x1", "1,4096x1"]:
             with self.assertRaises(Trouble):
                 listing.free_list(wrong)
 
@@ -154,14 +156,16 @@ class Tables(WithFiles):
         status, out, error = ran("table", "check", self.file("t", TABLE))
         self.assertEqual((status, error), (0, ""))
         self.assertEqual(out.splitlines()[:2], ["0 done", "3 tanks; load 6 of 6 quanta in a cycle of 3 slots on 2 cores: nothing is left"])
-        self.assertRegex(out.splitlines()[2], r"\Anever late from a fresh start if all 2 cores are free in every slot .* with 1 core .* refused \(22, sum above M\*L\)\Z")
+        late, fewer = "with one held back it is late sooner or later (proved)", "it needs 2: with 1 core the same table is refused (22, sum above M*L)"
+        self.assertEqual(out.splitlines()[2:], [f"never late from a fresh start if all 2 cores are free in every slot (proved); {late}; {fewer}"])
 
     def test_fewer_cores_are_enough(self) -> None:
-        # Three rows of 1/3 on four cores: one core is enough. With a fourth row it takes two.
+        # Three rows of 1/3 on four cores: one core is enough. With a fourth row it takes two. So three are enough for both.
         rows = [f"{tank},1,3" for tank in range(4)]
         three = "boards,0,1,2,3\ntank,cost,period\n" + "\n".join(rows[:3]) + "\n"
-        self.assertIn("if at least 1 of the 4 cores is free in every slot (proved)\n", ran("table", "check", self.file("t.csv", three))[1])
-        self.assertIn("if at least 2 of the 4 cores are free in every slot (proved); it needs 2: with 1 core", ran("table", "check", self.file("t.csv", three + rows[3] + "\n"))[1])
+        self.assertIn("if at least 1 of the 4 cores is free in every slot (proved), so also with one held back\n", ran("table", "check", self.file("t.csv", three))[1])
+        four = "if at least 2 of the 4 cores are free in every slot (proved), so also with one held back; it needs 2: with 1 core the same table is refused (22, sum above M*L)\n"
+        self.assertIn(four, ran("table", "check", self.file("t.csv", three + rows[3] + "\n"))[1])
 
     def test_where_a_fault_lies(self) -> None:
         row = TABLE[9:18]
@@ -226,7 +230,7 @@ class Tables(WithFiles):
             name = str(EXAMPLES / f"four-halves-{format}.hex")
             status, out, _ = ran("table", "check", name)
             self.assertEqual((status, out.splitlines()[:2]), (0, ["0 done", f"{tanks}; {load}"]))
-            self.assertRegex(out.splitlines()[2], r"\Anever late from a fresh start if all 2 cores are free in every slot \(proved\); it needs 2: ")
+            self.assertRegex(out.splitlines()[2], r"\Anever late from a fresh start if all 2 cores are free in every slot \(proved\); with one held back it is late .*; it needs 2: ")
             self.assertEqual(ran("table", "show", name)[:2], (0, shown))
 
     def test_how_many_cores_a_table_of_format_2_would_need(self) -> None:
@@ -251,8 +255,9 @@ class Tables(WithFiles):
 @unittest.skipUnless(BUILT, "not built: host/build probe slot_printer desk")
 class Slots(WithFiles):
     def test_a_table_and_an_input(self) -> None:
-        for name in [self.file("t", TABLE), self.file("t.csv", "boards,0,1\ntank,cost,period\n10,2,3\n11,2,3\n20,2,3\n"), str(EXAMPLES / "three-tanks-slots.hex"), str(EXAMPLES / "three-tanks.hex")]:
-            self.assertEqual(ran("slots", name), (0, LISTING, ""))
+        for name in [self.file("t", TABLE), self.file("t.csv", "boards,0,1\ntank,cost,period\n10,2,3\n11,2,3\n20,2,3\n"), str(EXAMPLES / "three-tanks.hex")]:
+            self.assertEqual(ran("slots", name, *BOTH), (0, LISTING, ""))
+        self.assertEqual(ran("slots", str(EXAMPLES / "three-tanks-slots.hex")), (0, LISTING, ""))
 
     def test_both_formats(self) -> None:
         # Slot by slot the two pairs take turns; in format 2 a pair that ran in the slot before goes first.
@@ -261,11 +266,11 @@ class Slots(WithFiles):
             listed = "slot free tanks\n" + "".join(f"{slot} 2 {tanks}\n" for slot, tanks in enumerate(picks)) + "end 8\n"
             self.assertEqual(ran("slots", str(EXAMPLES / f"four-halves-{format}.hex")), (0, listed, ""))
             text = f"format,{format}\nboards,0,1\ntank,cost,period\n" + "".join(f"{tank},1,2\n" for tank in range(10, 14))
-            self.assertEqual(ran("slots", self.file("t.csv", text), "--slots", "8"), (0, listed, ""))
+            self.assertEqual(ran("slots", self.file("t.csv", text), "--free", "8x2"), (0, listed, ""))
 
     def test_slots_and_free(self) -> None:
         name = self.file("t", TABLE)
-        self.assertEqual(ran("slots", name, "--slots", "1"), (0, "slot free tanks\n0 2 10 11\nend 1\n", ""))
+        self.assertEqual(ran("slots", name, "--slots", "1", "--free", "2"), (0, "slot free tanks\n0 2 10 11\nend 1\n", ""))
         self.assertEqual(ran("slots", name, "--slots", "0"), (0, "slot free tanks\nend 0\n", ""))
         status, out, error = ran("slots", name, "--free", "0,0")
         self.assertEqual((status, out), (1, "slot free tanks\n0 0\n1 0\nlate 2 10\n"))
@@ -287,7 +292,7 @@ class Slots(WithFiles):
     def test_what_is_no_input_and_no_table(self) -> None:
         example = files.read(str(EXAMPLES / "three-tanks-slots.hex"), 1_000).data
         status, out, error = ran("slots", self.file("t", example[:-1]))
-        self.assertEqual((status, out, error), (1, "input\n", "zb: input: the table's length says 36, so the input must have 42 bytes with 0 k values, and has 41\n"))
+        self.assertEqual((status, out, error), (1, "input\n", "zb: input: the table's length says 36, so the input must have 45 bytes with 3 k values, and has 44\n"))
         for data in (b"\3" + TABLE[1:], TRACE):
             self.assertEqual(ran("slots", self.file("t", data))[:2], (1, "refused 11\n"))
 
@@ -307,9 +312,116 @@ class Slots(WithFiles):
         self.assertEqual((status, out.splitlines()[-1], error), (0, "end 100", "zb: 100 of the cycle's 1000000 slots; --slots N prints others\n"))
 
     def test_with_cores(self) -> None:
-        self.assertEqual(ran("slots", self.file("t", TABLE), "--cores", "--slots", "2")[:2], (0, "slot free moves tanks on cores\n0 2 0 10@0 11@1\n1 2 0 10@0 20@1\nend 2\nmoves 0\n"))
+        self.assertEqual(ran("slots", self.file("t", TABLE), "--cores", "--slots", "2", "--free", "2x2")[:2], (0, "slot free moves tanks on cores\n0 2 0 10@0 11@1\n1 2 0 10@0 20@1\nend 2\nmoves 0\n"))
         self.assertEqual(ran("slots", self.file("t", TABLE[:-1]), "--cores")[:2], (1, "refused 10\n"))
         self.assertEqual(ran("slots", str(EXAMPLES / "late.hex"), "--cores")[:2], (1, "slot free moves tanks on cores\n0 0 0\n1 0 0\nlate 2 10\nmoves 0\n"))
+
+
+@unittest.skipUnless(BUILT, "not built: host/build probe slot_printer desk")
+class HeldBack(WithFiles):
+    """Slots past the list of free cores use one core less than there are, or the only one (02, Nine): in the listing, with cores, and drawn."""
+
+    SAID = "zb: from slot {} on no list says how many cores are free, so one of the 2 is held back; --free {}x2 frees them all\n"
+
+    # The farm of docs/TABLES.md on three cores, of which two are free. Tank 10, of 2/3, has the windows 0 to 2, 1 to 3, 3 to 5, 4 to 6, and so on; tank 11,
+    # of 1/4, has 0 to 4, 4 to 8, 8 to 12, and tank 20, of 3/12, the same, but it is of early release, and ready until it has had its three quanta; tank 21,
+    # of 1/6 from slot 5 on, has 5 to 11 and 11 to 17. Three are ready in slot 0 alone: tank 10 is due first, and tanks 11 and 20 tie, so the lower row goes.
+    FARM = [
+        ["10@0", "11@1"], ["10@0", "20@1"], ["20@1"], ["10@0", "20@1"],  # tank 20 stays on core 1, tank 10 is new in slot 3
+        ["10@0", "11@1"], ["21@0"], ["10@0"], ["10@0"], ["11@0"], ["10@0"], ["10@0"], ["21@0"],
+    ]  # fmt: skip
+
+    def setUp(self) -> None:
+        super().setUp()
+        self.table = self.file("t", TABLE)
+
+    def assert_late(self, arguments: list[str], listed: str, said: str) -> None:
+        status, out, error = ran("slots", *arguments)
+        self.assertEqual((status, out), (1, listed))
+        late, more = error.split("\n", 1)
+        self.assertRegex(late, r"\Azb: tank [0-9]+ is late at time [0-9]+: ")
+        self.assertEqual(more, said)
+
+    def test_without_a_list(self) -> None:
+        # Each tank of 01's example has a quantum due at 2, with b = 1 and D = 3, and one due at 3: the lower row goes first, and tank 20 has none at time 2.
+        for name in [self.table, str(EXAMPLES / "three-tanks.hex"), str(EXAMPLES / "three-tanks.csv")]:
+            self.assert_late([name], "slot free tanks\n0 1 10\n1 1 11\nlate 2 20\n", self.SAID.format(0, 3))
+        cores = "slot free moves tanks on cores\n0 1 0 10@0\n1 1 0 11@0\nlate 2 20\nmoves 0\n"
+        self.assert_late([self.table, "--cores"], cores, self.SAID.format(0, 3))
+        drawn = [
+            "slot            0   1   2",
+            "free            1   1",
+            "tank 10    2/3  ├█0────┤",
+            "                    ├──────┤",
+            "tank 11    2/3  ├────█0┤",
+            "                    ├──────┤",
+            "tank 20    2/3  ├──────!",
+            "                    ├──────┤",
+            "  late at 2            ^",
+            "",
+            "Tank 20 is late at time 2: there the dispatcher stops.",
+        ]
+        self.assertEqual(ran("draw", self.table), (1, "\n".join(drawn) + "\n", self.SAID.format(0, 3)))
+
+    def test_past_a_list(self) -> None:
+        # Slot 0 has both: tanks 10 and 11. In slot 1 tank 20 is due at 2, and the others at 3. In slot 2 all are due at 3, and at time 3 tanks 11 and 20 are late.
+        own = self.file("input", b"\x24\0" + TABLE + b"\3\0" + b"\1\0\2")
+        for arguments in [[self.table, "--free", "2"], [own]]:
+            self.assert_late(arguments, "slot free tanks\n0 2 10 11\n1 1 20\n2 1 10\nlate 3 11\n", self.SAID.format(1, 3))
+            cores = "slot free moves tanks on cores\n0 2 0 10@0 11@1\n1 1 0 20@0\n2 1 0 10@0\nlate 3 11\nmoves 0\n"
+            self.assert_late([*arguments, "--cores"], cores, self.SAID.format(1, 3))
+            status, out, error = ran("draw", *arguments)
+            self.assertEqual((status, out.splitlines()[1].split(), error), (1, ["free", "2", "1", "1"], self.SAID.format(1, 3)))
+
+    def test_a_list_in_full(self) -> None:
+        # As before the link stack came; and what is late then has another cause, which needs no line.
+        self.assertEqual(ran("slots", self.table, *BOTH), (0, LISTING, ""))
+        status, out, error = ran("draw", self.table, *BOTH)
+        self.assertEqual((status, out.splitlines()[1].split(), error), (0, ["free", "2", "2", "2"], ""))
+        for more in ([], ["--cores"]):
+            self.assertRegex(ran("slots", self.table, "--free", "0,0,2", *more)[2], r"\Azb: tank 10 is late at time 2: [^\n]*\n\Z")
+        self.assertEqual(ran("draw", self.table, "--free", "3x1")[2], "")
+
+    def test_what_is_said_works(self) -> None:
+        # The option that is named, with the same command: nobody is late any more. A drawing may lie past the 4,096 slots of a listing.
+        for command in [["slots", self.table], ["slots", self.table, "--cores", "--slots", "4096"], ["draw", self.table], ["draw", self.table, "--slots", "4999-5000"]]:
+            status, _, error = ran(*command)
+            named = re.findall("; --free ([0-9]+x2) frees them all\n", error)
+            self.assertEqual((status, len(named)), (1, 1), error)
+            status, _, error = ran(*command, "--free", named[0])
+            self.assertEqual((status, error), (0, ""))
+
+    def test_saved_drawings(self) -> None:
+        for name in ("a.svg", "a.html", "a.txt"):
+            error = ran("draw", self.table, "-o", str(self.folder / name))[2]
+            self.assertEqual(error, f"zb: Tank 20 is late at time 2: there the dispatcher stops.\n{self.SAID.format(0, 3)}")
+
+    def test_a_trace_says_itself_how_many_were_free(self) -> None:
+        # The same picks in a trace, which ends late at 2.
+        status, out, error = ran("draw", self.table, self.file("u", bytes.fromhex("02000000 010100 010101")))
+        self.assertEqual((status, error), (1, ""))
+        self.assertIn("  late at 2", out)
+
+    def test_one_core_alone(self) -> None:
+        # It is not held back. Tanks 7 and 8, of 1/2 each, have it by turns; without it in slot 0 tank 8 is late at 2, and no core was held back.
+        name = self.file("t.csv", "boards,5\ntank,cost,period\n7,1,2\n8,1,2\n")
+        self.assertEqual(ran("slots", name), (0, "slot free tanks\n0 1 7\n1 1 8\nend 2\n", ""))
+        self.assertEqual(ran("slots", name, "--cores"), (0, "slot free moves tanks on cores\n0 1 0 7@0\n1 1 0 8@0\nend 2\nmoves 0\n", ""))
+        self.assertEqual(ran("draw", name)[1].splitlines()[1].split(), ["free", "1", "1"])
+        self.assert_late([name, "--free", "0"], "slot free tanks\n0 0\n1 1 7\nlate 2 8\n", "")
+        status, out, error = ran("draw", name, "--free", "0")
+        self.assertEqual((status, out.splitlines()[1].split(), error), (1, ["free", "0", "1"], ""))
+
+    def test_the_farm_on_three_cores(self) -> None:
+        text = (EXAMPLES / "farm.csv").read_text(encoding="utf-8").replace("boards,0,1\n", "boards,0,1,2\n")
+        plain = [" ".join([str(slot), "2", *(pair.split("@")[0] for pair in pairs)]) for slot, pairs in enumerate(self.FARM)]
+        cores = [" ".join([str(slot), "2", "0", *pairs]) for slot, pairs in enumerate(self.FARM)]
+        for name in [self.file("t.csv", text), str(EXAMPLES / "held-back.hex")]:
+            self.assertEqual(ran("slots", name), (0, "\n".join(["slot free tanks", *plain, "end 12\n"]), ""))
+            self.assertEqual(ran("slots", name, "--cores"), (0, "\n".join(["slot free moves tanks on cores", *cores, "end 12", "moves 0\n"]), ""))
+            status, out, error = ran("draw", name)
+            self.assertEqual((status, out.splitlines()[1].split(), error), (0, ["free", *12 * "2"], ""))
+            self.assertEqual(ran("slots", name, "--slots", "4096")[1].splitlines()[-1], "end 4096")
 
 
 @unittest.skipUnless(BUILT, "not built: host/build probe slot_printer desk")
@@ -359,7 +471,7 @@ class Traces(WithFiles):
     def test_standard_input(self) -> None:
         self.assertEqual(process("trace", "check", self.table, "-", given=TRACE)[0], 0)
         self.assertEqual(process("trace", "check", "-", self.trace, given=TABLE.hex().encode())[0], 0)
-        self.assertEqual(process("slots", "-", given=TABLE), (0, LISTING, ""))
+        self.assertEqual(process("slots", "-", *BOTH, given=TABLE), (0, LISTING, ""))
 
 
 @unittest.skipUnless(BUILT, "not built: host/build probe slot_printer desk")
@@ -374,7 +486,7 @@ class Drawings(WithFiles):
             "tank 9     2/3  ├█1────┤",
             "                    ├█1────┤",
         ]
-        self.assertEqual(ran("draw", str(EXAMPLES / "camera.csv"))[1].splitlines(), drawn)
+        self.assertEqual(ran("draw", str(EXAMPLES / "camera.csv"), *BOTH)[1].splitlines(), drawn)
 
     def test_both_formats(self) -> None:
         # Windows 0 to 2, 2 to 4, .. of all four alike. In format 1 tanks 10 and 11 run at the start of each, 12 and 13 at the end; in format 2 the pair
@@ -395,13 +507,13 @@ class Drawings(WithFiles):
         table = self.file("t", TABLE)
         for name, start in [("a.svg", "<"), ("a.html", "<!"), ("a.txt", "slot ")]:
             out = self.folder / name
-            self.assertEqual(ran("draw", table, "-o", str(out))[:2], (0, ""))
+            self.assertEqual(ran("draw", table, *BOTH, "-o", str(out))[:2], (0, ""))
             self.assertTrue(out.read_text(encoding="utf-8").startswith(start))
-        self.assertEqual(ran("draw", table)[1], (self.folder / "a.txt").read_text(encoding="utf-8"))
+        self.assertEqual(ran("draw", table, *BOTH)[1], (self.folder / "a.txt").read_text(encoding="utf-8"))
 
     def test_cut(self) -> None:
         table = self.file("t", TABLE)
-        self.assertEqual(ran("draw", table, "--slots", "4-5")[1].split("\n")[0].split(), ["slot", "4", "5"])
+        self.assertEqual(ran("draw", table, "--slots", "4-5", "--free", "6x2")[1].split("\n")[0].split(), ["slot", "4", "5"])
         status, _, error = ran("draw", table, "--slots", "0-9999")
         self.assertEqual(status, 2)
         self.assertIn("2000 slots at most", error)
@@ -478,7 +590,7 @@ class Endings(WithFiles):
     def test_from_anywhere_and_through_a_symlink(self) -> None:
         link = self.folder / "link"
         link.symlink_to(ZB)
-        self.assertEqual(process("slots", "-", given=TABLE, program=str(link)), (0, LISTING, ""))
+        self.assertEqual(process("slots", "-", *BOTH, given=TABLE, program=str(link)), (0, LISTING, ""))
         self.assertEqual(os.listdir(self.folder), ["link"])
 
     def test_a_socket_as_standard_input(self) -> None:
@@ -486,7 +598,7 @@ class Endings(WithFiles):
         with ours, theirs:
             ours.sendall(TABLE)
             ours.shutdown(socket.SHUT_WR)
-            run = subprocess.run([ZB, "slots", "-"], stdin=theirs, capture_output=True)
+            run = subprocess.run([ZB, "slots", "-", *BOTH], stdin=theirs, capture_output=True)
         self.assertEqual((run.returncode, run.stdout.decode()), (0, LISTING))
 
     def test_ended_from_outside(self) -> None:
@@ -509,11 +621,11 @@ class Endings(WithFiles):
         self.assertEqual((run.returncode, run.stderr.decode()), (2, "zb: Python 3 is not here: on Debian it is the package python3\n"))
 
     def test_letters_that_the_terminal_has_not(self) -> None:
-        run = subprocess.run([ZB, "draw", self.file("t", TABLE)], capture_output=True, env={**os.environ, "PYTHONIOENCODING": "latin-1"})
+        run = subprocess.run([ZB, "draw", self.file("t", TABLE), *BOTH], capture_output=True, env={**os.environ, "PYTHONIOENCODING": "latin-1"})
         self.assertEqual((run.returncode, run.stderr), (0, b""))
 
     def test_no_room_for_what_is_kept(self) -> None:
-        for command, given in [(["draw", self.file("t", TABLE)], b""), (["trace", "check", self.file("t", TABLE), "-"], TRACE)]:
+        for command, given in [(["draw", self.file("t", TABLE), *BOTH], b""), (["trace", "check", self.file("t", TABLE), "-"], TRACE)]:
             run = subprocess.run([ZB, *command], input=given, capture_output=True, env={**os.environ, "TMPDIR": "/no/such"}, cwd="/proc")
             self.assertIn(run.returncode, (0, 2))
             self.assertNotIn("Traceback", run.stderr.decode())
@@ -567,6 +679,7 @@ class Progress(unittest.TestCase):
                 waited_for.wait()
                 while not script.with_name("build.begun").exists():
                     time.sleep(0.01)
+                time.sleep(0.2)  # so that it does wait: a signal just before that would be heeded only when the build has ended
                 os.kill(os.getpid(), signal.SIGINT)
 
             heeded = signal.signal(signal.SIGINT, signal.default_int_handler)
@@ -601,7 +714,7 @@ class Pages(unittest.TestCase):
         listing = "slot free tanks\n0 1 7\n1 1 9\nlate 2 7\n"
         self.assertEqual(ran("slots", camera, "--free", "2x1")[:2], (1, listing))
         self.assertIn("".join(f"    {line}\n" for line in listing.splitlines()), page)
-        self.assertEqual(ran("slots", camera, "--slots", "4096")[1].splitlines()[-1], "end 4096")
+        self.assertEqual(ran("slots", camera, "--free", "4096x2")[1].splitlines()[-1], "end 4096")
 
     @unittest.skipUnless(BUILT, "not built: host/build probe slot_printer desk")
     def test_the_client_of_the_probe(self) -> None:

@@ -17,12 +17,13 @@ HERE = Path(__file__).resolve().parent
 ROOT = HERE.parent.parent
 COMMAND = str(ROOT / "zb")
 
-# 01's example: its table, the same as a table value, the whole input, and its trace: slot 0 picks rows 0 and 1, slot 1 rows 0 and 2, slot 2 rows 1 and 2.
+# 01's example: its table, the same as a table value, the whole input, with 'a k list of three 2s' (02, Nine), and its trace: slot 0 picks rows 0 and 1,
+# slot 1 rows 0 and 2, slot 2 rows 1 and 2.
 TABLE = bytes.fromhex("01 03000000 02 0001 03  0A00 0200 0300 0000 00  0B00 0200 0300 0000 00  1400 0200 0300 0000 00")
 VALUE = bytes.fromhex(
     "01 03000000 02 0001000000000000 03  0A00 0200 0300 0000 00  0B00 0200 0300 0000 00  1400 0200 0300 0000 00" + 29 * "000000000000000000"
 )
-THREE_SLOTS = b"\x24\0" + TABLE + b"\3\0" + b"\0\0"
+THREE_SLOTS = b"\x24\0" + TABLE + b"\3\0" + b"\3\0" + b"\2\2\2"
 TRACE = bytes.fromhex("03000000 02020001 02020002 02020102")
 
 TAKEN = b"\0" + VALUE  # the answer to T for this table
@@ -30,6 +31,11 @@ TAKEN = b"\0" + VALUE  # the answer to T for this table
 # Where they are missing, the command would first prove and build them, which takes minutes.
 needs_probe = unittest.skipUnless((ROOT / "target" / "bin" / "probe").exists(), "target/bin/probe is not built: host/build probe")
 needs_archive = unittest.skipUnless((ROOT / "target" / "desk" / "run").exists(), "target/desk/run is not built: host/build desk")
+
+
+def three_slots(listed: bytes) -> bytes:
+    """The input for three slots of 01's table with this k list."""
+    return b"\x24\0" + TABLE + b"\3\0" + len(listed).to_bytes(2, "little") + listed
 
 
 def refused(number: int) -> bytes:

@@ -45,7 +45,7 @@ def natural(text: str) -> int:
 
 FILE_HELP = "a table: its bytes, hex text, or a text to type on (docs/TABLES.md); or an input of the slot printer; - is standard input"
 TRACE_HELP = "a trace: its bytes, or hex text; - is standard input"
-FREE_HELP = "how many cores are free in each slot, such as 2,2,0; 3x2 is 2,2,2; past the list all are"
+FREE_HELP = "how many cores are free in each slot, such as 2,2,0; 3x2 is 2,2,2; past the list one core is held back, unless it is the only one"
 
 
 class Parser(argparse.ArgumentParser):

@@ -19,6 +19,7 @@ use Rattle.demands.proofs.WritingTables.{writing-tables}
 use Rattle.demands.proofs.WholeCore.{whole-core}
 use Rattle.demands.proofs.ShorterSlots.{shorter-slots}
 use Rattle.demands.proofs.KindTies.{kind-ties}
+use Rattle.demands.proofs.HeldBack.{held-back}
 
 pub all : All
 all =
@@ -42,4 +43,5 @@ all =
       whole-core = whole-core;
       shorter-slots = shorter-slots;
       kind-ties = kind-ties;
+      held-back = held-back;
     }

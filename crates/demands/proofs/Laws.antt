@@ -31,9 +31,9 @@ use Rattle.why.specs.Lowest.{lowestPicked}
 use Rattle.why.specs.Why.{readyFrom, reasonOf, whyOf}
 use Rattle.checker.specs.Causes.{badRows}
 use Rattle.checker.specs.Check.{recordsFindings, traceSaid, checkOf}
-use Rattle.printer.specs.Input.{freeIn, unfit}
+use Rattle.printer.specs.Input.{listedOr, unfit}
 use Rattle.printer.specs.Lines.{digitsBy, decimal, spaced}
-use Rattle.printer.specs.Text.{slotsText, textOf}
+use Rattle.printer.specs.Text.{slotsText, textWith}
 use Rattle.fields.specs.Fields.{bytesOf}
 use Rattle.table.specs.Writing.{bytesOfRow, bytesOfTable, writeNumber, writing, bufferAfter}
 use Rattle.demands.specs.Bench.{same}
@@ -59,19 +59,19 @@ both-hold (law ∷ a) b p q = let x = both (lawHolds law) (allLawsHold a) p in h
 
 -- Each part is computed.
 window-laws : allLawsHold windowLaws ≡ true
-unfolding ceilDiv atFirst howMany those firstFound rising places padded start deadline bit windowLength jobStart heavy stops stopTime groupDeadline windowReply load faultOf tableNumber reading ready late lower upper before picked given withFront withRecord placeOf names isFound misremembers wanted leftOver inTurn coresFor broken refusal slotOf badRows recordsFindings traceSaid checkOf freeIn unfit digitsBy decimal spaced slotsText textOf bytesOf same allLawsHold alikeRows risingRows idleSlots
+unfolding ceilDiv atFirst howMany those firstFound rising places padded start deadline bit windowLength jobStart heavy stops stopTime groupDeadline windowReply load faultOf tableNumber reading ready late lower upper before picked given withFront withRecord placeOf names isFound misremembers wanted leftOver inTurn coresFor broken refusal slotOf badRows recordsFindings traceSaid checkOf listedOr unfit digitsBy decimal spaced slotsText textWith bytesOf same allLawsHold alikeRows risingRows idleSlots
 window-laws = refl
 
 table-laws : allLawsHold tableLaws ≡ true
-unfolding ceilDiv atFirst howMany those firstFound rising places padded start deadline bit windowLength jobStart heavy stops stopTime groupDeadline windowReply load faultOf tableNumber reading ready late lower upper before picked given withFront withRecord placeOf names isFound misremembers wanted leftOver inTurn coresFor broken refusal slotOf badRows recordsFindings traceSaid checkOf freeIn unfit digitsBy decimal spaced slotsText textOf bytesOf same allLawsHold alikeRows risingRows idleSlots
+unfolding ceilDiv atFirst howMany those firstFound rising places padded start deadline bit windowLength jobStart heavy stops stopTime groupDeadline windowReply load faultOf tableNumber reading ready late lower upper before picked given withFront withRecord placeOf names isFound misremembers wanted leftOver inTurn coresFor broken refusal slotOf badRows recordsFindings traceSaid checkOf listedOr unfit digitsBy decimal spaced slotsText textWith bytesOf same allLawsHold alikeRows risingRows idleSlots
 table-laws = refl
 
 reading-laws : allLawsHold readingOrder ≡ true
-unfolding ceilDiv atFirst howMany those firstFound rising places padded start deadline bit windowLength jobStart heavy stops stopTime groupDeadline windowReply load faultOf tableNumber reading ready late lower upper before picked given withFront withRecord placeOf names isFound misremembers wanted leftOver inTurn coresFor broken refusal slotOf badRows recordsFindings traceSaid checkOf freeIn unfit digitsBy decimal spaced slotsText textOf bytesOf same allLawsHold alikeRows risingRows idleSlots
+unfolding ceilDiv atFirst howMany those firstFound rising places padded start deadline bit windowLength jobStart heavy stops stopTime groupDeadline windowReply load faultOf tableNumber reading ready late lower upper before picked given withFront withRecord placeOf names isFound misremembers wanted leftOver inTurn coresFor broken refusal slotOf badRows recordsFindings traceSaid checkOf listedOr unfit digitsBy decimal spaced slotsText textWith bytesOf same allLawsHold alikeRows risingRows idleSlots
 reading-laws = refl
 
 value-laws : allLawsHold valueLaws ≡ true
-unfolding ceilDiv atFirst howMany those firstFound rising places padded start deadline bit windowLength jobStart heavy stops stopTime groupDeadline windowReply load faultOf tableNumber reading ready late lower upper before picked given withFront withRecord placeOf names isFound misremembers wanted leftOver inTurn coresFor broken refusal slotOf badRows recordsFindings traceSaid checkOf freeIn unfit digitsBy decimal spaced slotsText textOf bytesOf same allLawsHold alikeRows risingRows idleSlots
+unfolding ceilDiv atFirst howMany those firstFound rising places padded start deadline bit windowLength jobStart heavy stops stopTime groupDeadline windowReply load faultOf tableNumber reading ready late lower upper before picked given withFront withRecord placeOf names isFound misremembers wanted leftOver inTurn coresFor broken refusal slotOf badRows recordsFindings traceSaid checkOf listedOr unfit digitsBy decimal spaced slotsText textWith bytesOf same allLawsHold alikeRows risingRows idleSlots
 value-laws = refl
 
 write-laws : allLawsHold writeLaws ≡ true
@@ -79,11 +79,11 @@ unfolding flatMap firstFound rising places load bytesOf bytesOfRow bytesOfTable 
 write-laws = refl
 
 slot-laws : allLawsHold slotLaws ≡ true
-unfolding ceilDiv atFirst howMany those firstFound rising places padded start deadline bit windowLength jobStart heavy stops stopTime groupDeadline windowReply load faultOf tableNumber reading ready late lower upper before picked given withFront withRecord placeOf names isFound misremembers wanted leftOver inTurn coresFor broken refusal slotOf badRows recordsFindings traceSaid checkOf freeIn unfit digitsBy decimal spaced slotsText textOf bytesOf same allLawsHold alikeRows risingRows idleSlots
+unfolding ceilDiv atFirst howMany those firstFound rising places padded start deadline bit windowLength jobStart heavy stops stopTime groupDeadline windowReply load faultOf tableNumber reading ready late lower upper before picked given withFront withRecord placeOf names isFound misremembers wanted leftOver inTurn coresFor broken refusal slotOf badRows recordsFindings traceSaid checkOf listedOr unfit digitsBy decimal spaced slotsText textWith bytesOf same allLawsHold alikeRows risingRows idleSlots
 slot-laws = refl
 
 core-laws : allLawsHold coreLaws ≡ true
-unfolding ceilDiv atFirst howMany those firstFound rising places padded start deadline bit windowLength jobStart heavy stops stopTime groupDeadline windowReply load faultOf tableNumber reading ready late lower upper before picked given withFront withRecord placeOf names isFound misremembers wanted leftOver inTurn coresFor broken refusal slotOf badRows recordsFindings traceSaid checkOf freeIn unfit digitsBy decimal spaced slotsText textOf bytesOf same allLawsHold alikeRows risingRows idleSlots
+unfolding ceilDiv atFirst howMany those firstFound rising places padded start deadline bit windowLength jobStart heavy stops stopTime groupDeadline windowReply load faultOf tableNumber reading ready late lower upper before picked given withFront withRecord placeOf names isFound misremembers wanted leftOver inTurn coresFor broken refusal slotOf badRows recordsFindings traceSaid checkOf listedOr unfit digitsBy decimal spaced slotsText textWith bytesOf same allLawsHold alikeRows risingRows idleSlots
 core-laws = refl
 
 why-laws : allLawsHold whyLaws ≡ true
@@ -91,19 +91,19 @@ unfolding ceilDiv atFirst howMany those firstFound rising start deadline bit win
 why-laws = refl
 
 kind-laws : allLawsHold kindLaws ≡ true
-unfolding ceilDiv atFirst howMany those firstFound rising places padded start deadline bit windowLength jobStart heavy stops stopTime groupDeadline windowReply load faultOf tableNumber reading ready late lower upper before picked given withFront withRecord placeOf names isFound misremembers wanted leftOver inTurn coresFor broken refusal slotOf badRows recordsFindings traceSaid checkOf freeIn unfit digitsBy decimal spaced slotsText textOf bytesOf same allLawsHold alikeRows risingRows idleSlots ruleFor lowestPicked readyFrom reasonOf whyOf
+unfolding ceilDiv atFirst howMany those firstFound rising places padded start deadline bit windowLength jobStart heavy stops stopTime groupDeadline windowReply load faultOf tableNumber reading ready late lower upper before picked given withFront withRecord placeOf names isFound misremembers wanted leftOver inTurn coresFor broken refusal slotOf badRows recordsFindings traceSaid checkOf listedOr unfit digitsBy decimal spaced slotsText textWith bytesOf same allLawsHold alikeRows risingRows idleSlots ruleFor lowestPicked readyFrom reasonOf whyOf
 kind-laws = refl
 
 part-laws : allLawsHold partLaws ≡ true
-unfolding ceilDiv atFirst howMany those firstFound rising places padded start deadline bit windowLength jobStart heavy stops stopTime groupDeadline windowReply load faultOf tableNumber reading ready late lower upper before picked given withFront withRecord placeOf names isFound misremembers wanted leftOver inTurn coresFor broken refusal slotOf badRows recordsFindings traceSaid checkOf freeIn unfit digitsBy decimal spaced slotsText textOf bytesOf same allLawsHold alikeRows risingRows idleSlots
+unfolding ceilDiv atFirst howMany those firstFound rising places padded start deadline bit windowLength jobStart heavy stops stopTime groupDeadline windowReply load faultOf tableNumber reading ready late lower upper before picked given withFront withRecord placeOf names isFound misremembers wanted leftOver inTurn coresFor broken refusal slotOf badRows recordsFindings traceSaid checkOf listedOr unfit digitsBy decimal spaced slotsText textWith bytesOf same allLawsHold alikeRows risingRows idleSlots
 part-laws = refl
 
 trace-laws : allLawsHold traceLaws ≡ true
-unfolding ceilDiv atFirst howMany those firstFound rising places padded start deadline bit windowLength jobStart heavy stops stopTime groupDeadline windowReply load faultOf tableNumber reading ready late lower upper before picked given withFront withRecord placeOf names isFound misremembers wanted leftOver inTurn coresFor broken refusal slotOf badRows recordsFindings traceSaid checkOf freeIn unfit digitsBy decimal spaced slotsText textOf bytesOf same allLawsHold alikeRows risingRows idleSlots
+unfolding ceilDiv atFirst howMany those firstFound rising places padded start deadline bit windowLength jobStart heavy stops stopTime groupDeadline windowReply load faultOf tableNumber reading ready late lower upper before picked given withFront withRecord placeOf names isFound misremembers wanted leftOver inTurn coresFor broken refusal slotOf badRows recordsFindings traceSaid checkOf listedOr unfit digitsBy decimal spaced slotsText textWith bytesOf same allLawsHold alikeRows risingRows idleSlots
 trace-laws = refl
 
 printer-laws : allLawsHold printerLaws ≡ true
-unfolding ceilDiv atFirst howMany those firstFound rising places padded start deadline bit windowLength jobStart heavy stops stopTime groupDeadline windowReply load faultOf tableNumber reading ready late lower upper before picked given withFront withRecord placeOf names isFound misremembers wanted leftOver inTurn coresFor broken refusal slotOf badRows recordsFindings traceSaid checkOf freeIn unfit digitsBy decimal spaced slotsText textOf bytesOf same allLawsHold alikeRows risingRows idleSlots
+unfolding ceilDiv atFirst howMany those firstFound rising places padded start deadline bit windowLength jobStart heavy stops stopTime groupDeadline windowReply load faultOf tableNumber reading ready late lower upper before picked given withFront withRecord placeOf names isFound misremembers wanted leftOver inTurn coresFor broken refusal slotOf badRows recordsFindings traceSaid checkOf listedOr unfit digitsBy decimal spaced slotsText textWith bytesOf same allLawsHold alikeRows risingRows idleSlots
 printer-laws = refl
 
 pub laws-hold : LawsHold

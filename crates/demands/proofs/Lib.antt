@@ -23,4 +23,5 @@ pub mod WritingTables
 pub mod WholeCore
 pub mod ShorterSlots
 pub mod KindTies
+pub mod HeldBack
 pub mod All

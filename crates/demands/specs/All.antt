@@ -19,6 +19,7 @@ use Rattle.demands.specs.WritingTables.{WritingTables}
 use Rattle.demands.specs.WholeCore.{WholeCore}
 use Rattle.demands.specs.ShorterSlots.{ShorterSlots}
 use Rattle.demands.specs.KindTies.{KindTies}
+use Rattle.demands.specs.HeldBack.{HeldBack}
 
 pub record All : Type 0 where
   -- "any two results allowed are equal", of every public function
@@ -56,3 +57,5 @@ pub record All : Type 0 where
   pub shorter-slots : ShorterSlots
   -- "among full ties, a row picked in the previous slot goes first, then the lower row number"
   pub kind-ties : KindTies
+  -- "Slots past the k list now use M - 1, and 1 if M is 1."
+  pub held-back : HeldBack

@@ -43,3 +43,8 @@ pub record CanAsk (s : State) (k row : ℕ) : Type 0 where
 pub record CanWrite (t : Table) (buffer : List ℕ) : Type 0 where
   pub table : CanBeHeld t
   pub bytes : Bytes buffer
+
+-- A listing can be asked for so: an input and a buffer, both slices of bytes.
+pub record CanPrint (input out : List ℕ) : Type 0 where
+  pub read : Bytes input
+  pub written : Bytes out

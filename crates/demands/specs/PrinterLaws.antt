@@ -1,12 +1,12 @@
--- Laws of the slot printer (01, "Slot printer"): part of specs/Laws.antt.
+-- Laws of the slot printer (01, "Slot printer"; 02, Nine): part of specs/Laws.antt.
 use Prim.Native.Nat.{ℕ, zero, suc, _+_}
 use mathlib.Core.List.{List, [], _∷_, _++_, map}
 use mathlib.Core.Bool.{cond}
 use lib.Dec.{eqb}
-use lib.ListN.{length, take, replicate}
-use Rattle.fields.specs.Fields.{bytesOf}
+use lib.ListN.{take, replicate}
 use Rattle.table.specs.Example.{example}
-use Rattle.printer.specs.Example.{exampleInput, exampleText}
+use Rattle.printer.specs.FullList.{inputOf}
+use Rattle.printer.specs.Example.{exampleInput, exampleText, unlistedInput, unlistedText}
 use Rattle.demands.specs.Law.{Law, prints}
 use Rattle.demands.specs.LawInputs.{front, rowBytes, halfAndThirdBytes}
 
@@ -36,10 +36,6 @@ inputText = 105 ∷ 110 ∷ 112 ∷ 117 ∷ 116 ∷ 10 ∷ []
 abbrev pub headerText : List ℕ
 headerText = 115 ∷ 108 ∷ 111 ∷ 116 ∷ 32 ∷ 102 ∷ 114 ∷ 101 ∷ 101 ∷ 32 ∷ 116 ∷ 97 ∷ 110 ∷ 107 ∷ 115 ∷ 10 ∷ []
 
--- an input: "table length (2), table, slots to run (2, at most 4,096), count of k values (2, at most the slots), those k bytes"
-abbrev pub inputOf : List ℕ → ℕ → List ℕ → List ℕ
-inputOf table slots free = bytesOf 2 (length table) ++ (table ++ (bytesOf 2 slots ++ (bytesOf 2 (length free) ++ free)))
-
 -- the lines of n slots with one core and no rows, from a slot of one digit on
 unfoldable pub idleSlots : ℕ → ℕ → List ℕ
 idleSlots slot zero = []
@@ -48,8 +44,9 @@ idleSlots slot (suc n) = lineOf (slot ∷ sp ∷ 1 ∷ []) ++ idleSlots (slot + 
 -- The slot printer.
 abbrev pub printerLaws : List Law
 printerLaws =
-    -- "Whole output"
+    -- "Whole output", with "a k list of three 2s" (02, Nine); without a list tank 20 is late
     prints exampleInput exampleText
+    ∷ prints unlistedInput unlistedText
     -- no slots: "end 0"; "A refused table prints `refused N` alone, without the header", here an empty one
     ∷ prints (inputOf halfAndThirdBytes 0 []) (headerText ++ endText (0 ∷ []))
     ∷ prints (inputOf [] 0 []) (refusedText (1 ∷ 0 ∷ []))
@@ -62,9 +59,18 @@ printerLaws =
     -- tanks 100 and 9,999
     ∷ prints (inputOf (front 2 (0 ∷ []) ++ (2 ∷ rowBytes 100 1 2 0 0 ++ rowBytes 9_999 1 2 0 0)) 2 [])
     (headerText ++ (lineOf (0 ∷ sp ∷ 1 ∷ sp ∷ 1 ∷ 0 ∷ 0 ∷ []) ++ (lineOf (1 ∷ sp ∷ 1 ∷ sp ∷ 9 ∷ 9 ∷ 9 ∷ 9 ∷ []) ++ endText (2 ∷ []))))
-    -- "Slots past the k list use all M cores": `0 1 0`, and in slot 1, past the list, `1 2 1`
-    ∷ prints (inputOf halfAndThirdBytes 2 (1 ∷ []))
-    (headerText ++ (lineOf (0 ∷ sp ∷ 1 ∷ sp ∷ 0 ∷ []) ++ (lineOf (1 ∷ sp ∷ 2 ∷ sp ∷ 1 ∷ []) ++ endText (2 ∷ []))))
+    -- "Slots past the k list now use M - 1 .." (02, Nine): `0 2 0 1`, and in slots 1 and 2, past the list, `1 1` and `2 1 0`; without a list `0 1 0`, `1 1 1`;
+    -- with one in full `0 2 0 1`, `1 2`; of 8 cores 7
+    ∷ prints (inputOf halfAndThirdBytes 3 (2 ∷ []))
+    (headerText ++ (lineOf (0 ∷ sp ∷ 2 ∷ sp ∷ 0 ∷ sp ∷ 1 ∷ []) ++ (lineOf (1 ∷ sp ∷ 1 ∷ []) ++ (lineOf (2 ∷ sp ∷ 1 ∷ sp ∷ 0 ∷ []) ++ endText (3 ∷ [])))))
+    ∷ prints (inputOf halfAndThirdBytes 2 [])
+    (headerText ++ (lineOf (0 ∷ sp ∷ 1 ∷ sp ∷ 0 ∷ []) ++ (lineOf (1 ∷ sp ∷ 1 ∷ sp ∷ 1 ∷ []) ++ endText (2 ∷ []))))
+    ∷ prints (inputOf halfAndThirdBytes 2 (2 ∷ 2 ∷ []))
+    (headerText ++ (lineOf (0 ∷ sp ∷ 2 ∷ sp ∷ 0 ∷ sp ∷ 1 ∷ []) ++ (lineOf (1 ∷ sp ∷ 2 ∷ []) ++ endText (2 ∷ []))))
+    ∷ prints (inputOf (front 1 (0 ∷ 1 ∷ 2 ∷ 3 ∷ 4 ∷ 5 ∷ 6 ∷ 7 ∷ []) ++ (0 ∷ [])) 1 []) (headerText ++ (lineOf (0 ∷ sp ∷ 7 ∷ []) ++ endText (1 ∷ [])))
+    -- ".. and 1 if M is 1": `0 0`, and past the list `1 1`
+    ∷ prints (inputOf (front 1 (0 ∷ []) ++ (0 ∷ [])) 2 (0 ∷ []))
+    (headerText ++ (lineOf (0 ∷ sp ∷ 0 ∷ []) ++ (lineOf (1 ∷ sp ∷ 1 ∷ []) ++ endText (2 ∷ []))))
     -- "`late T TANK` after the late slot's line": with no core in slots 0 and 1 row 0, tank 10, is late at 2; with k = 1, 0, 0 row 1, tank 1, is at 3
     ∷ prints (inputOf example 3 (0 ∷ 0 ∷ []))
     (headerText ++ (lineOf (0 ∷ sp ∷ 0 ∷ []) ++ (lineOf (1 ∷ sp ∷ 0 ∷ []) ++ lateText (2 ∷ sp ∷ 1 ∷ 0 ∷ []))))

@@ -1,5 +1,5 @@
 -- 01's example, computed from the definitions. Assumes nothing.
-use mathlib.Core.Path.{refl}
+use mathlib.Core.Path.{_≡_, refl}
 use Rattle.facts.specs.Rounding.{ceilDiv}
 use Rattle.facts.specs.First.{atFirst}
 use Rattle.facts.specs.Counting.{howMany, those}
@@ -22,11 +22,20 @@ use Rattle.cores.specs.Fault.{misremembers}
 use Rattle.cores.specs.Cores.{wanted, leftOver, inTurn, coresFor}
 use Rattle.dispatcher.specs.Broken.{broken}
 use Rattle.dispatcher.specs.Slot.{refusal, slotOf}
-use Rattle.printer.specs.Input.{freeIn, unfit}
+use Rattle.printer.specs.Input.{listedOr, unfit}
 use Rattle.printer.specs.Lines.{digitsBy, decimal, spaced}
-use Rattle.printer.specs.Text.{slotsText, textOf}
-use Rattle.printer.specs.Example.{ExampleIsPrinted}
+use Rattle.printer.specs.Text.{slotsText, textWith, textOf}
+use Rattle.printer.specs.FullList.{textBefore}
+use Rattle.printer.specs.Example.{ExampleIsPrinted, exampleText, unlistedInput, unlistedText}
 
 pub example-is-printed : ExampleIsPrinted
-unfolding start deadline bit windowLength jobStart ceilDiv heavy stops stopTime atFirst groupDeadline howMany those firstFound rising places padded load faultOf tableNumber reading ready late lower upper before picked given withFront withRecord names misremembers wanted leftOver inTurn coresFor broken refusal slotOf freeIn unfit digitsBy decimal spaced slotsText textOf
+unfolding start deadline bit windowLength jobStart ceilDiv heavy stops stopTime atFirst groupDeadline howMany those firstFound rising places padded load faultOf tableNumber reading ready late lower upper before picked given withFront withRecord names misremembers wanted leftOver inTurn coresFor broken refusal slotOf listedOr unfit digitsBy decimal spaced slotsText textWith
 example-is-printed = refl
+
+pub unlisted-is-printed : textOf unlistedInput ≡ unlistedText
+unfolding start deadline bit windowLength jobStart ceilDiv heavy stops stopTime atFirst groupDeadline howMany those firstFound rising places padded load faultOf tableNumber reading ready late lower upper before picked given withFront withRecord names misremembers wanted leftOver inTurn coresFor broken refusal slotOf listedOr unfit digitsBy decimal spaced slotsText textWith
+unlisted-is-printed = refl
+
+pub unlisted-was-printed : textBefore unlistedInput ≡ exampleText
+unfolding start deadline bit windowLength jobStart ceilDiv heavy stops stopTime atFirst groupDeadline howMany those firstFound rising places padded load faultOf tableNumber reading ready late lower upper before picked given withFront withRecord names misremembers wanted leftOver inTurn coresFor broken refusal slotOf listedOr unfit digitsBy decimal spaced slotsText textWith
+unlisted-was-printed = refl

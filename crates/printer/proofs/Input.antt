@@ -1,15 +1,16 @@
 -- What is known of an input. Assumes nothing.
-use Prim.Native.Nat.{ℕ, _+_, _≤_, _<_}
-use mathlib.Core.Path.{_≡_}
+use Prim.Native.Nat.{ℕ, zero, suc, _+_, _-_, _≤_, _<_}
+use mathlib.Core.Path.{_≡_, refl}
 use mathlib.Core.List.{List}
 use mathlib.Core.Bool.{true, false, _||_}
+use native.Mathlib.Omega.{arith}
 use borrow.Author.Tests.{lt-ltb, le-ltb, eq-eqb, ne-eqb, ltb-false, eqb-true, not-false}
 use lib.Dec.{ltb}
 use lib.ListN.{length}
 use Rattle.facts.proofs.Tests.{neither-holds}
 use Rattle.fields.specs.Fields.{byte}
 use Rattle.printer.specs.Limits.{inputLimit, runLimit}
-use Rattle.printer.specs.Input.{slotsAsked, listLength, listPlace, freeIn, wrongLength, beyondLimit, aboveLimit, unfit}
+use Rattle.printer.specs.Input.{slotsAsked, listLength, listPlace, listedOr, heldBack, wrongLength, beyondLimit, aboveLimit, unfit}
 
 -- An input that is taken.
 pub record Fit (s : List ℕ) : Type 0 where
@@ -51,11 +52,20 @@ module _ (s : List ℕ) where
       }
 
   -- A slot within the k list has its k,
-  pub free-listed : (cores : ℕ) {slot : ℕ} → slot < listLength s → byte s (listPlace s + slot) ≡ freeIn s cores slot
-  unfolding freeIn
-  free-listed cores {slot} h = rw (lt-ltb slot (listLength s) h)
+  pub free-listed : (past : ℕ) {slot : ℕ} → slot < listLength s → byte s (listPlace s + slot) ≡ listedOr s past slot
+  unfolding listedOr
+  free-listed past {slot} h = rw (lt-ltb slot (listLength s) h)
 
-  -- and one past it all cores.
-  pub free-past : (cores : ℕ) {slot : ℕ} → listLength s ≤ slot → cores ≡ freeIn s cores slot
-  unfolding freeIn
-  free-past cores {slot} h = rw (le-ltb slot (listLength s) h)
+  -- and one past it what such slots use.
+  pub free-past : (past : ℕ) {slot : ℕ} → listLength s ≤ slot → past ≡ listedOr s past slot
+  unfolding listedOr
+  free-past past {slot} h = rw (le-ltb slot (listLength s) h)
+
+-- One core is held back, but not the only one.
+pub held-back-of-few : (cores : ℕ) → cores < 2 → cores ≡ heldBack cores
+held-back-of-few zero h = refl
+held-back-of-few (suc zero) h = refl
+held-back-of-few (suc (suc cores)) h = absurd (omega arith)
+
+pub held-back-of-more : (cores : ℕ) → 2 ≤ cores → cores - 1 ≡ heldBack cores
+held-back-of-more cores h = rw (ne-eqb cores 1 (λ e. omega (arith, h, e)))

@@ -1,6 +1,6 @@
--- The slot printer's input (01, "Slot printer"): "table length (2), table, slots to run (2, at most 4,096), count of k values (2, at most the
--- slots), those k bytes".
-use Prim.Native.Nat.{ℕ, _+_}
+-- The slot printer's input (01, "Slot printer"; 02, Nine, for slots past the k list): "table length (2), table, slots to run (2, at most 4,096),
+-- count of k values (2, at most the slots), those k bytes".
+use Prim.Native.Nat.{ℕ, _+_, _-_}
 use mathlib.Core.List.{List}
 use mathlib.Core.Bool.{Bool, cond, not, _||_}
 use lib.Dec.{ltb, eqb}
@@ -29,9 +29,16 @@ listLength s = half s (slotsPlace s + 2)
 abbrev pub listPlace : List ℕ → ℕ
 listPlace s = slotsPlace s + 4
 
--- "Slots past the k list use all M cores."
-unfoldable pub freeIn : List ℕ → ℕ → ℕ → ℕ
-freeIn s cores slot = cond (ltb slot (listLength s)) (byte s (listPlace s + slot)) cores
+-- The k of a slot: the one that is listed, or `past` in a slot past the k list.
+unfoldable pub listedOr : List ℕ → ℕ → ℕ → ℕ
+listedOr s past slot = cond (ltb slot (listLength s)) (byte s (listPlace s + slot)) past
+
+-- "Slots past the k list now use M - 1, and 1 if M is 1." (02, Nine)
+abbrev pub heldBack : ℕ → ℕ
+heldBack cores = cond (eqb cores 1) 1 (cores - 1)
+
+abbrev pub freeIn : List ℕ → ℕ → ℕ → ℕ
+freeIn s cores slot = listedOr s (heldBack cores) slot
 
 -- "Missing or extra bytes": the input is not as long as its parts say. A missing byte is read as 0, but an input that lacks one is too short
 -- for its parts, whatever they say.

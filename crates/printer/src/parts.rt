@@ -2,7 +2,7 @@
 use counts::Slot;
 ghost use mathlib.Core.Path.{_≡_};
 ghost use Prim.Native.Nat.{_<_};
-ghost use Rattle.printer.specs.Input.{unfit, slotsAsked, slotsPlace, freeIn};
+ghost use Rattle.printer.specs.Input.{unfit, slotsAsked, slotsPlace, heldBack, freeIn};
 ghost use Rattle.printer.specs.Writing.{slotBelow};
 
 const INPUT_LIMIT: usize = 65_536;
@@ -35,7 +35,7 @@ pub(crate) fn slots(input: &[u8]) -> u16
     fields::half(input, slots_place(input))
 }
 
-// How many cores are free in a slot: as the k list says, and all of them past it.
+// How many cores are free in a slot: as the k list says, and past it all but the one that is held back.
 pub(crate) fn free(input: &[u8], cores: u8, slot: Slot) -> u8
     requires { ⌜ slot .0 < slotBelow ⌝ }
     ensures { λ r. ⌜ r ≡ freeIn (now (input .entry)) cores (slot .0) ⌝ }
@@ -44,9 +44,19 @@ pub(crate) fn free(input: &[u8], cores: u8, slot: Slot) -> u8
     let listed = fields::half(input, at + 2) as usize;
     let number = slot.time() as usize;
     if listed <= number {
-        return cores;
+        return held_back(cores);
     }
     fields::byte(input, at + 4 + number)
+}
+
+// One core is held back, for the box's own work, but not the only one.
+fn held_back(cores: u8) -> u8
+    ensures { λ r. ⌜ r ≡ heldBack cores ⌝ }
+{
+    if cores < 2 {
+        return cores;
+    }
+    cores - 1
 }
 
 // Where the slots to run stand: behind the table.

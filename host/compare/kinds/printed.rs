@@ -26,6 +26,8 @@ impl Kind for Case {
         "alone (1 in 75): refused | input",
         "with a row of e = p (1 in 75): end | late",
         "run in format 2 (1 in 100): as in format 1 | unlike format 1",
+        "run with every k listed (1 in 75): end | late",
+        "run past the list (1 in 75): on one core | on more | late by the core held back",
         "input (1 in 150): right, with a table of length 0 | right, of 65,536 bytes | \
          of 65,537 bytes, each in its place | right in its first 65,536 bytes, and one more | \
          of 4,097 slots, else right",
@@ -33,7 +35,7 @@ impl Kind for Case {
 
     /// Mostly one whose counts are right.
     fn wild(random: &mut Random) -> Case {
-        let sound = sound::short(random).bytes();
+        let sound = sound_table(random);
         match random.below(16) {
             0 => with_counts(random, vec![]),
             1 => Case {
@@ -87,6 +89,14 @@ impl Kind for Case {
             let unlike = self.in_format_1() != answer;
             tally.saw_each("run in format 2", [!unlike, unlike]);
         }
+        // a line for each slot, the header and the last line
+        let past = ran && text.lines().count() - 2 > self.free.len();
+        tally.saw_if(ran && !past, "run with every k listed", word);
+        if past {
+            let alone = self.table[5] == 1;
+            let held_back = !alone && word == "late" && self.ends_with_all_cores();
+            tally.saw_each("run past the list", [alone, !alone, held_back]);
+        }
         tally.saw_each("input", self.met());
     }
 }
@@ -97,6 +107,14 @@ impl Case {
         let mut other = self.clone();
         other.table[0] = 1;
         print(&request(&other).bytes)
+    }
+
+    /// Is nobody late if all cores are free in each slot past the list?
+    fn ends_with_all_cores(&self) -> bool {
+        let mut other = self.clone();
+        other.free.resize(usize::from(self.slots), self.table[5]);
+        let text = print(&request(&other).bytes);
+        text.ends_with(format!("end {}\n", self.slots).as_bytes())
     }
 
     /// For each of the inputs that are counted, whether it is this one.
@@ -121,6 +139,17 @@ impl Case {
 /// Is it judged as more than an input?
 fn right(bytes: &[u8]) -> bool {
     print(bytes) != b"input\n"
+}
+
+/// A table without a fault. One of so many has a single core, which is not held back.
+fn sound_table(random: &mut Random) -> Vec<u8> {
+    let single = random.one_in(6);
+    loop {
+        let table = sound::short(random).bytes();
+        if !single || table[5] == 1 {
+            return table;
+        }
+    }
 }
 
 /// Slots and a list of k for this table, all counts right.

@@ -1,11 +1,12 @@
-//! A real-time dispatcher after the paper "Exact scope and rules", called 01 below, and after eight
+//! A real-time dispatcher after the paper "Exact scope and rules", called 01 below, and after nine
 //! requests of the paper "More requests from customers": "A core for each picked row", called
 //! 02, One, "Why did tank 14 wait?", called 02, Two, "Half is heavy", called 02, Three, "The long
 //! walk", called 02, Four, "Writing tables", called 02, Five, "Whole-core rows", called 02, Six,
-//! "Shorter slots", called 02, Seven, and "Format 2 breaks ties kindly", called 02, Eight. Where
-//! One, Three, Six, Seven and Eight change 01, they are followed; Two asks of the slot that is
-//! about to run and changes nothing; Four finds the group deadline by a formula and changes no
-//! answer; Five writes the tables that 01 reads and changes nothing else.
+//! "Shorter slots", called 02, Seven, "Format 2 breaks ties kindly", called 02, Eight, and "One
+//! core held back", called 02, Nine. Where One, Three, Six, Seven, Eight and Nine change 01, they
+//! are followed; Two asks of the slot that is about to run and changes nothing; Four finds the
+//! group deadline by a formula and changes no answer; Five writes the tables that 01 reads and
+//! changes nothing else.
 //!
 //! Six lets a row have e = p, in a table, in a state and in a window asked for alone: "From then on
 //! 18 means e above p", and 50 likewise. Such a row has windows of one slot, b = 0 and D = d, and
@@ -21,6 +22,10 @@
 //! in the previous slot goes first, then the lower row number". Who that was is what One has the
 //! state remember, and of what is remembered the rows must rise now, in both formats.
 //!
+//! Nine changes the printer alone: "Slots past the k list now use M - 1, and 1 if M is 1." A k that
+//! is listed stays as it is, M too, and so does the sum of a table, held against M·L. A slot, a
+//! trace and the question of Two are told their k or their cores, as many as M, and assume none.
+//!
 //! One module for each part of 01, and one for each of One, Two and Five; the papers' words stand
 //! in the comments beside the code that follows them, and their numbers stand in the code as they
 //! are written there.
@@ -35,7 +40,7 @@
 //! * `why`: why a row is picked in the slot about to run, or waits (02, Two).
 //! * `trace`: the record of one slot inside a trace.
 //! * `checker`: the judge of traces from any origin.
-//! * `printer`: the slot printer's whole output.
+//! * `printer`: the slot printer's whole output, one core held back past the k list (02, Nine).
 //! * `never_late`: full boxes by chance, three in ten with rows of e = p and every second one in
 //!   format 2, run with all cores free.
 //! * `questions`: single rules of the above, asked of numbers that no table or state may have; D of
@@ -55,10 +60,12 @@
 //! next three are of 02, Six, and show with e = p alone: the first wherever a table or a state is
 //! judged, the second in both windows asked for alone, the third in `windows::window`. The next
 //! four are of 02, Seven: the first and the last show in a slot and in `why::why`, the second in
-//! both windows asked for alone, the third where a trace is judged. The last ten are of 02, Eight:
+//! both windows asked for alone, the third where a trace is judged. The next ten are of 02, Eight:
 //! the first five show in the order, in a slot and in `why::why`, the first of them in format 1 and
 //! the others in format 2; the next three where a format is judged, in a value, in bytes and in a
-//! state; the ninth where a state is judged, the last in `why::answer`.
+//! state; the ninth where a state is judged, the tenth in `why::answer`. The last three are of
+//! 02, Nine, and show in what is printed alone: the first two in slots past the k list, the other
+//! in slots that it reaches.
 //!
 //! | name | place | the mistake |
 //! |---|---|---|
@@ -106,6 +113,9 @@
 //! | `format_of_value_not_asked` | `slot::broken` | in a state any format is taken |
 //! | `falling_rows_remembered` | `slot::not_rising` | remembered rows may stand in any order |
 //! | `why_row_number_for_ran` | `why::rule_number` | 4 is told where 5 decides |
+//! | `all_cores_past_the_list` | `printer::past_the_list` | slots past the list still use all M |
+//! | `no_core_of_one` | `printer::past_the_list` | with M = 1 slots past the list use 0 |
+//! | `held_back_of_the_list` | `printer::k_of` | a listed k of 2 to M runs as k - 1 |
 
 // compilers that know the lint warn of a cfg name they were not told of; older ones do not know
 // the lint

@@ -2,6 +2,7 @@ use mathlib.Core.Path.{ap, _∙_}
 use Prim.Native.Nat.{_+_}
 use native.Mathlib.Omega.{arith}
 use Rattle.fields.specs.Fields.{byte, half}
+use Rattle.printer.specs.Input.{heldBack}
 use Rattle.printer.proofs.Input.{free-listed, free-past}
 use borrow.Author.Needs.{needs}
 use Rattle.printer.proofs.parts.free.Statement.{statement}
@@ -22,12 +23,15 @@ cast-listed c = omega arith
 time-requires : tie.Need-time-requires
 time-requires c κs = search needs
 
+held-back-requires : tie.Need-held-back-requires
+held-back-requires c κs = search needs
+
 returns : tie.Need-returns
 returns c =
-    let a = c .before in
+    let a = c .before .before in
     let s = a .before .before .before .before .args .input .now in
     let listed = a .before .half .ensures ∙ ap (λ k. half s (k + 2)) (a .before .before .slots-place .ensures .0) in
-    free-past s (a .before .before .before .before .args .cores) (omega (arith, c .if1 .taken, listed, a .time .ensures))
+    c .held-back .ensures ∙ free-past s (heldBack (a .before .before .before .before .args .cores)) (omega (arith, c .before .if1 .taken, listed, a .time .ensures))
 
 add-byte : tie.Need-add-byte
 add-byte c = omega arith
@@ -46,7 +50,7 @@ returns-2 c =
     let listed = a .before .half .ensures ∙ ap (λ k. half s (k + 2)) place in
     c .byte .ensures
     ∙ (ap (byte s) (omega (arith, place, a .time .ensures))
-    ∙ free-listed s (a .before .before .before .before .args .cores) (omega (arith, c .before .if1 .left, listed, a .time .ensures)))
+    ∙ free-listed s (heldBack (a .before .before .before .before .args .cores)) (omega (arith, c .before .if1 .left, listed, a .time .ensures)))
 
 pub free-spec : {M : Type 1} → statement M
 free-spec =
@@ -57,6 +61,7 @@ free-spec =
     half-requires
     cast-listed
     time-requires
+    held-back-requires
     returns
     add-byte
     add-byte-2

@@ -1,0 +1,390 @@
+-- One core held back. Assumes nothing.
+use Prim.Native.Nat.{ℕ, zero, suc, _+_, _-_, _*_, _/_, _≤_, _<_}
+use mathlib.Core.Path.{_≡_, refl, sym, ap, _∙_, subst}
+use mathlib.Core.List.{List, [], _∷_, _++_, append-assoc}
+use mathlib.Core.Bool.{Bool, false, cond}
+use native.Mathlib.Decide.{decLt}
+use native.Mathlib.Nat.{mul-le-mul-left, mul-le-mul-right, le-div-iff-mul-le}
+use native.Mathlib.Omega.{arith}
+use borrow.Author.Tests.{lt-ltb, le-ltb, le-leb}
+use lib.ListN.{length, getD, take, replicate, length-replicate}
+use lib.Seq.{take-append-seam}
+use Rattle.facts.specs.Sums.{sum}
+use Rattle.facts.specs.Below.{allBelow}
+use Rattle.facts.specs.Rounding.{ceilDiv}
+use Rattle.facts.specs.First.{atFirst}
+use Rattle.facts.specs.Counting.{howMany, those}
+use Rattle.facts.specs.Findings.{firstFound}
+use Rattle.facts.specs.Rising.{rising}
+use Rattle.facts.specs.Places.{places, padded}
+use Rattle.facts.proofs.Sums.{sum-grows, sum-adds, sum-scales, sum-of-none, sum-of-passed}
+use Rattle.facts.proofs.Counting.{same-count}
+use Rattle.facts.proofs.Listing.{as-many-listed}
+use Rattle.counts.specs.Limits.{timeLimit}
+use Rattle.fields.specs.Fields.{bytesOf}
+use Rattle.windows.specs.Windows.{start, deadline, bit, windowLength, jobStart}
+use Rattle.windows.specs.Group.{heavy, stops, stopTime, groupDeadline}
+use Rattle.table.specs.declared.Table.{Table}
+use Rattle.table.specs.Limits.{rowLimit}
+use Rattle.table.specs.Causes.{load}
+use Rattle.table.specs.Value.{faultOf, rowsOf}
+use Rattle.table.specs.Bytes.{reading, tableNumber, tableIn}
+use Rattle.table.proofs.Taken.{number-read, table-read, taken-value-has-no-fault, sizes-are-within, rows-are-sound, jobs-fill-cycle}
+use Rattle.pd2.specs.Ready.{ready, late}
+use Rattle.pd2.specs.Share.{lower, upper}
+use Rattle.pd2.specs.Choice.{rowAt, quantaAt, readyIn, goesBeforeBy, given}
+use Rattle.pd2.specs.Order.{before}
+use Rattle.pd2.specs.Picks.{picked}
+use Rattle.trace.specs.Record.{withFront, withRecord}
+use Rattle.trace.specs.Records.{names}
+use Rattle.trace.proofs.Names.{listed-are-named}
+use Rattle.optimal.specs.Box.{inCycle}
+use Rattle.optimal.proofs.Box.{sum-is-load}
+use Rattle.cores.specs.Sets.{size, firstCores}
+use Rattle.cores.specs.Fault.{misremembers}
+use Rattle.cores.specs.Cores.{wanted, leftOver, inTurn, coresFor}
+use Rattle.cores.proofs.Sets.{first-cores-are-k}
+use Rattle.cores.proofs.Past.{there-exactly}
+use Rattle.dispatcher.specs.declared.State.{State}
+use Rattle.dispatcher.specs.State.{rowsIn, quantaIn, timeOf, freshOf}
+use Rattle.dispatcher.specs.Broken.{broken}
+use Rattle.dispatcher.specs.Slot.{favouredIn, picksIn, placedIn, afterSlot, refusal, slotOf}
+use Rattle.dispatcher.specs.Run.{Step}
+use Rattle.dispatcher.proofs.Whole.{is-whole, nothing-given}
+use Rattle.dispatcher.proofs.Ran.{places-stay}
+use Rattle.dispatcher.proofs.Placing.{picks-are-few}
+use Rattle.dispatcher.proofs.Kept.{Goes, goes-back, not-refused-is-done, refusal-changes-nothing, done-makes-the-step, quanta-after}
+use Rattle.printer.specs.Input.{tableBytes, slotsAsked, listLength, heldBack, listedOr, unfit}
+use Rattle.printer.specs.Lines.{header, slotLine, endLine, lateLine, digitsBy, decimal, spaced}
+use Rattle.printer.specs.Text.{recordBuffer, askedOf, tankOf, tanksIn, slotText, slotsText, allSlots, textWith, textOf}
+use Rattle.printer.specs.Buffer.{lengthOf, printedOf, outAfter}
+use Rattle.printer.specs.FullList.{inputOf}
+use Rattle.printer.specs.Example.{unlistedInput}
+use Rattle.printer.proofs.Input.{is-fit, free-listed, free-past, held-back-of-few, held-back-of-more}
+use Rattle.printer.proofs.Buffer.{text-of-taken}
+use Rattle.printer.proofs.FullList.{full-list-prints-as-before, written-in-full-prints-as-before}
+use Rattle.printer.proofs.Example.{example-is-printed, unlisted-is-printed, unlisted-was-printed}
+use Rattle.demands.specs.LawInputs.{front}
+use Rattle.demands.specs.Inputs.{CanPrint}
+use Rattle.demands.specs.Three.{FromFresh}
+use Rattle.demands.specs.NeverLate.{WithCores}
+use Rattle.demands.specs.HeldBack.{Uses, EndsIn, EndsIfEnoughAreFree, HeldBackCarries, WithAtMost, lateBy, NoPhaseAfter, LateWithTooFew, FullBoxIsLate, LateIfTooFewAreFree, Printer, IsPrinter, writtenBy, UsesPast, PrintersShutOut, HeldBack}
+use Rattle.demands.proofs.Three.{Running, fresh-runs, still-runs, demand-three}
+use Rattle.demands.proofs.NeverLate.{never-late}
+
+uses : (s : List ℕ) (M slot : ℕ) → Uses s M slot
+uses s M slot =
+    record {
+      listed = λ l. sym (free-listed s (heldBack M) l);
+      past = λ l more. sym (held-back-of-more M more ∙ free-past s (heldBack M) l);
+      past-of-1 = λ l one. sym (free-past s (heldBack M) l) ∙ ap heldBack one;
+    }
+
+-- It is never more than all cores.
+held-back-is-within : (M : ℕ) → heldBack M ≤ M
+held-back-is-within M = go (decLt M 2)
+  where
+    go : Dec (M < 2) → heldBack M ≤ M
+    go (yes l) = omega (arith, held-back-of-few M l)
+    go (no l) = omega (arith, held-back-of-more M (omega arith))
+
+-- The listing of a table that has its cores free in each of n slots.
+module _ (table : Table) (c : ℕ) (sound : faultOf table ≡ 0) (few : load (table .cycle) (rowsOf table) ≤ c * table .cycle) (free : ℕ → ℕ) (n : ℕ) (short : n ≤ timeLimit)
+    (enough : (slot : ℕ) → slot < n → (c ≤ free slot) × (free slot ≤ table .cores)) where
+  -- Each slot is done, and its line is followed by those of the slots after it.
+  slots-end : (slot left : ℕ) (s : State) → slot + left ≡ n → timeOf s ≡ slot → WithCores table c s → EndsIn (slotsText free slot s left) (endLine n)
+  unfolding slotsText
+  slots-end slot zero s count time from = ([], ap endLine {x = slot} {y = n} (omega arith))
+  slots-end slot (suc left) s count time from =
+      let k = free slot in
+      let cores = enough slot (omega arith) in
+      let most = sizes-are-within table sound .1 .1 in
+      let first = first-cores-are-k (table .cores) k most in
+      let has : c ≤ size (firstCores k) = omega (arith, first .size-is (omega (arith, cores .1, most)), cores .0) in
+      let own = there-exactly (table .cores) (firstCores k) .0 (first .past ∙ le-ltb (table .cores) k (cores .1)) in
+      let said = never-late .some-cores table c sound few .always-0 s from (firstCores k) recordBuffer 0 has own (omega (arith, time)) (omega (arith, length-replicate {A = ℕ} 10 0)) in
+      let number : askedOf s k .said .number ≡ 0 = ap (λ x. x .number) said in
+      let after = ap (λ x. timeOf (x .state)) (done-makes-the-step s (firstCores k) recordBuffer 0 (omega (arith, number))) in
+      let rest = slots-end (slot + 1) left (askedOf s k .state) (omega arith) (after ∙ ap (λ t. t + 1) time) (WithCores.step s (Step.slot (firstCores k)) recordBuffer 0 from has) in
+      let line = slotLine slot k (tanksIn s k) in (
+        line ++ rest .0,
+        ap (λ m. slotText m slot k s (askedOf s k .said) (slotsText free (slot + 1) (askedOf s k .state) left)) number
+            ∙ (ap (λ l. line ++ l) (rest .1) ∙ sym (append-assoc line (rest .0) (endLine n))),
+      )
+
+-- What its slots end in, the whole listing of a table that is taken ends in.
+behind-header : (s : List ℕ) → unfit s ≡ false → tableNumber (tableBytes s) ≡ 0 → {last : List ℕ} → EndsIn (allSlots heldBack s (freshOf (tableIn (tableBytes s)))) last → EndsIn (textOf s) last
+behind-header s fit taken {last} ends = (
+  header ++ ends .0,
+  sym (text-of-taken heldBack s fit (number-read (tableBytes s) ∙ taken))
+      ∙ (ap (λ t. header ++ allSlots heldBack s (freshOf t)) (table-read (tableBytes s) taken)
+      ∙ (ap (λ l. header ++ l) (ends .1) ∙ sym (append-assoc header (ends .0) last))),
+)
+
+ends-if-enough-are-free : EndsIfEnoughAreFree
+ends-if-enough-are-free s c fit taken enough few =
+    let table = tableIn (tableBytes s) in
+    behind-header s fit taken
+    (slots-end table c (taken-value-has-no-fault (tableBytes s) taken) few (listedOr s (heldBack (table .cores))) (slotsAsked s) (omega (arith, is-fit s fit .slots)) enough 0 (slotsAsked s) (freshOf table) (omega arith) refl WithCores.start)
+
+held-back-carries : HeldBackCarries
+held-back-carries s fit taken none few =
+    let M = tableIn (tableBytes s) .cores in
+    ends-if-enough-are-free s (heldBack M) fit taken
+    (λ slot l. let k = free-past s (heldBack M) {slot = slot} (omega (arith, none)) in (omega (arith, k), omega (arith, k, held-back-is-within M)))
+    few
+
+-- A row that has its share of K cycles has K times its quanta of a cycle.
+share-of-cycles : (e p jobs cycle K a q : ℕ) → 0 < p → jobs * p ≡ cycle → cycle * K ≤ a → e * a / p ≤ q → K * (e * jobs) ≤ q
+share-of-cycles e p jobs cycle K a q pos fill long share =
+    let due = mul-le-mul-left e long in
+    let filled = ap (λ x. e * (x * K)) fill in
+    let whole : K * (e * jobs) ≤ e * a / p = le-div-iff-mul-le pos .1 (omega (arith, due, filled)) in
+    omega (arith, whole, share)
+
+-- With at most c cores in a slot the rows have at most c quanta a slot.
+module _ (table : Table) (c : ℕ) (sound : faultOf table ≡ 0) where
+  abbrev n : ℕ
+  n = length (rowsOf table)
+
+  record Given (s : State) : Type 0 where
+    known : Running table s
+    long : length (s .quanta) ≡ rowLimit
+    few : sum n (quantaAt (quantaIn s)) ≤ c * timeOf s
+
+  given-after : (s : State) (free : List Bool) (buffer : List ℕ) (place : ℕ) → Given s → size free ≤ c → slotOf s free buffer place .said .number < 2 →
+      sum n (quantaAt (quantaIn (slotOf s free buffer place .state))) ≤ c * timeOf (slotOf s free buffer place .state)
+  given-after s free buffer place so most done =
+      rw (ap (λ x. x .state) (done-makes-the-step s free buffer place done))
+      (omega (
+        arith,
+        sum-grows n (quantaAt (quantaIn (afterSlot s free))) (λ i. quantaAt (quantaIn s) i + cond (names (picksIn s (size free)) i) 1 0) (λ i l. omega (arith, quanta-after s free (is-whole s (so .known .whole)) (so .long) i)),
+        sum-adds n (quantaAt (quantaIn s)) (λ i. cond (names (picksIn s (size free)) i) 1 0),
+        sum-of-passed n (names (picksIn s (size free))),
+        named-are-few,
+        so .few,
+      ))
+    where
+      isPicked : ℕ → Bool
+      isPicked i = picked (readyIn (rowsIn s) (quantaIn s) (timeOf s)) (goesBeforeBy before (rowsIn s) (quantaIn s) (favouredIn s)) (length (rowsIn s)) (size free) i
+
+      named-are-few : howMany (names (picksIn s (size free))) n ≤ c
+      named-are-few =
+          let rows : n ≡ length (rowsIn s) = ap (λ t. length (rowsOf t)) (sym (so .known .same)) in
+          let same = same-count (names (picksIn s (size free))) isPicked n (λ i l. listed-are-named isPicked (length (rowsIn s)) i ∙ rw (lt-ltb i (length (rowsIn s)) (omega (arith, rows))) refl) in
+          omega (arith, same, ap (howMany isPicked) rows, as-many-listed isPicked (length (rowsIn s)), picks-are-few s (size free), most)
+
+  given-so-far : (s : State) → WithAtMost table c s → Given s
+  given-so-far _ WithAtMost.start =
+      record {
+        known = fresh-runs table sound;
+        long = refl;
+        few = omega (arith, sum-of-none n (quantaAt (quantaIn (freshOf table))) (λ i l. nothing-given table i));
+      }
+  given-so-far _ (WithAtMost.step s (Step.slot free) buffer place from most not-late) = go (decLt (slotOf s free buffer place .said .number) 2) (given-so-far s from)
+    where
+      go : Dec (slotOf s free buffer place .said .number < 2) → Given s → Given (slotOf s free buffer place .state)
+      go (yes done) so =
+          record {
+            known = still-runs table s free buffer place (so .known) not-late;
+            long = ap (λ x. length (x .state .quanta)) (done-makes-the-step s free buffer place done) ∙ (places-stay s (picksIn s (size free)) (placedIn s free) ∙ so .long);
+            few = given-after s free buffer place so most done;
+          }
+      go (no refused) so = subst Given (sym (refusal-changes-nothing s free buffer place (omega arith) .0)) so
+
+  -- such states are some of those of demand 3
+  from-fresh : (s : State) → WithAtMost table c s → FromFresh table s
+  from-fresh _ WithAtMost.start = FromFresh.start
+  from-fresh _ (WithAtMost.step s x buffer place from most not-late) = FromFresh.step s x buffer place (from-fresh s from) not-late
+
+  -- After F slots every row has begun. K cycles later each must have had K times its quanta of a cycle, which is K·(c·L + 1) together at least, and c cores have given
+  -- c·(F + L·K). That is too little once K is above c·F.
+  module _ (F : ℕ) (full : c * table .cycle < load (table .cycle) (rowsOf table)) (begun : (i : ℕ) → i < n → rowAt (rowsOf table) i .phase ≤ F) where
+    abbrev K : ℕ
+    K = c * F + 1
+
+    late-then : (s : State) → WithAtMost table c s → timeOf s ≡ lateBy (table .cycle) c F → ⊥
+    late-then s from now =
+        let had : (i : ℕ) → i < n → K * inCycle (table .cycle) (rowAt (rowsOf table) i) ≤ quantaAt (quantaIn s) i =
+        λ i l.
+        let row = rowAt (rowsOf table) i in
+        let can = rows-are-sound table sound i l in
+        share-of-cycles (row .cost) (row .period) (table .cycle / row .period) (table .cycle) K (timeOf s - row .phase) (quantaAt (quantaIn s) i)
+        (omega (arith, can .cost, can .within-period)) (jobs-fill-cycle can) (omega (arith, now, begun i l)) (demand-three .keeps table s (from-fresh s from) i l .at-least) in
+        let all = sum-grows n (λ i. K * inCycle (table .cycle) (rowAt (rowsOf table) i)) (quantaAt (quantaIn s)) had in
+        let scaled = sum-scales n K (λ i. inCycle (table .cycle) (rowAt (rowsOf table) i)) in
+        let total = ap (λ x. K * x) (sum-is-load (table .cycle) (rowsOf table)) in
+        let over = mul-le-mul-left K full in
+        let time = ap (λ t. c * t) now in
+        omega (arith, all, scaled, total, over, time, given-so-far s from .few)
+
+    not-yet : (s : State) → WithAtMost table c s → timeOf s < lateBy (table .cycle) c F
+    not-yet _ WithAtMost.start = let one : 1 ≤ K = omega arith in omega (arith, mul-le-mul-left (table .cycle) one, sizes-are-within table sound .0 .0)
+    not-yet _ (WithAtMost.step s (Step.slot free) buffer place from most not-late) =
+        go (decLt (slotOf s free buffer place .said .number) 2) (decLt (timeOf (slotOf s free buffer place .state)) (lateBy (table .cycle) c F)) (not-yet s from)
+      where
+        go : Dec (slotOf s free buffer place .said .number < 2) → Dec (timeOf (slotOf s free buffer place .state) < lateBy (table .cycle) c F) → timeOf s < lateBy (table .cycle) c F →
+            timeOf (slotOf s free buffer place .state) < lateBy (table .cycle) c F
+        go done (yes l) before = l
+        go (yes done) (no l) before =
+            let time : timeOf (slotOf s free buffer place .state) ≡ timeOf s + 1 = ap (λ x. timeOf (x .state)) (done-makes-the-step s free buffer place done) in
+            absurd (late-then (slotOf s free buffer place .state) (WithAtMost.step s (Step.slot free) buffer place from most not-late) (omega (arith, time)))
+        go (no refused) (no l) before = omega (arith, ap timeOf (refusal-changes-nothing s free buffer place (omega arith) .0))
+
+late-with-too-few : LateWithTooFew
+late-with-too-few table c F sound full begun = not-yet table c sound F full begun
+
+full-box-is-late : FullBoxIsLate
+full-box-is-late table F sound several full begun =
+    let more : heldBack (table .cores) + 1 ≤ table .cores = omega (arith, held-back-of-more (table .cores) several) in
+    late-with-too-few table (heldBack (table .cores)) F sound (omega (arith, mul-le-mul-right (table .cycle) more, full, sizes-are-within table sound .0 .0)) begun
+
+-- The listing of a table that has at most c of its cores free in each of n slots, and needs more.
+module _ (table : Table) (c F : ℕ) (sound : faultOf table ≡ 0) (full : c * table .cycle < load (table .cycle) (rowsOf table)) (begun : NoPhaseAfter table F) (free : ℕ → ℕ) (n : ℕ) (short : n ≤ timeLimit)
+    (long : lateBy (table .cycle) c F ≤ n) (most : (slot : ℕ) → slot < n → (free slot ≤ c) × (free slot ≤ table .cores)) where
+  -- Each slot is done;
+  is-done : (slot : ℕ) (s : State) → slot < n → timeOf s ≡ slot → WithAtMost table c s → askedOf s (free slot) .said .number < 2
+  is-done slot s l time from =
+      let k = free slot in
+      let so = given-so-far table c sound s from .known in
+      let few = sizes-are-within table sound .1 .1 in
+      let first = first-cores-are-k (table .cores) k few in
+      let picks : length (picksIn s (size (firstCores k))) ≤ 8 = omega (arith, picks-are-few s (size (firstCores k)), first .size-is (omega (arith, most slot l .1, few)), most slot l .1, few) in
+      let going : Goes s (firstCores k) recordBuffer 0 =
+      record {
+        whole = so .whole;
+        runs = so .runs;
+        time = omega (arith, time, short);
+        there = rw (so .same) (first .past ∙ le-ltb (table .cores) k (most slot l .1));
+        room = omega (arith, picks, length-replicate {A = ℕ} 10 0);
+      } in
+      not-refused-is-done s (firstCores k) recordBuffer 0 (goes-back s (firstCores k) recordBuffer 0 going)
+
+  -- and one of them reports a row late, since nobody comes to the last time without that.
+  slots-late : (slot left : ℕ) (s : State) → slot + left ≡ n → timeOf s ≡ slot → WithAtMost table c s → (late-at : ℕ) × (tank : ℕ) × EndsIn (slotsText free slot s left) (lateLine late-at tank)
+  unfolding slotsText
+  slots-late slot zero s count time from = absurd (omega (arith, late-with-too-few table c F sound full begun s from))
+  slots-late slot (suc left) s count time from =
+      go (askedOf s (free slot) .said .number) refl
+      (λ none.
+      let few = sizes-are-within table sound .1 .1 in
+      let mine = most slot (omega arith) in
+      let after = ap (λ x. timeOf (x .state)) (done-makes-the-step s (firstCores (free slot)) recordBuffer 0 (omega (arith, none))) in
+      slots-late (slot + 1) left (askedOf s (free slot) .state) (omega arith) (after ∙ ap (λ t. t + 1) time)
+      (WithAtMost.step s (Step.slot (firstCores (free slot))) recordBuffer 0 from (omega (arith, first-cores-are-k (table .cores) (free slot) few .size-is (omega (arith, mine .1, few)), mine .0)) (λ one. omega (arith, none, one))))
+    where
+      line : List ℕ
+      line = slotLine slot (free slot) (tanksIn s (free slot))
+
+      go : (number : ℕ) → number ≡ askedOf s (free slot) .said .number →
+          (askedOf s (free slot) .said .number ≡ 0 → (late-at : ℕ) × (tank : ℕ) × EndsIn (slotsText free (slot + 1) (askedOf s (free slot) .state) left) (lateLine late-at tank)) →
+          (late-at : ℕ) × (tank : ℕ) × EndsIn (slotText number slot (free slot) s (askedOf s (free slot) .said) (slotsText free (slot + 1) (askedOf s (free slot) .state) left)) (lateLine late-at tank)
+      go zero e rest =
+          let later = rest (sym e) in
+          (later .0, later .1, (line ++ later .2 .0, ap (λ l. line ++ l) (later .2 .1) ∙ sym (append-assoc line (later .2 .0) (lateLine (later .0) (later .1)))))
+      go (suc zero) e rest = (askedOf s (free slot) .said .time, tankOf s (askedOf s (free slot) .said .row), (line, refl))
+      go (suc (suc number)) e rest = absurd (omega (arith, e, is-done slot s (omega arith) time from))
+
+late-if-too-few-are-free : LateIfTooFewAreFree
+late-if-too-few-are-free s c F fit taken most full begun long =
+    let table = tableIn (tableBytes s) in
+    let rest = slots-late table c F (taken-value-has-no-fault (tableBytes s) taken) full begun (listedOr s (heldBack (table .cores))) (slotsAsked s) (omega (arith, is-fit s fit .slots)) long most 0 (slotsAsked s) (freshOf table) (omega arith) refl WithAtMost.start in
+    (rest .0, rest .1, behind-header s fit taken (rest .2))
+
+-- Inputs on which the wrong printers differ: one slot of no rows, on one core and on eight; and a buffer.
+abbrev blank : List ℕ
+blank = replicate 64 0
+
+abbrev idleOn : List ℕ → List ℕ
+idleOn boards = inputOf (front 1 boards ++ (0 ∷ [])) 1 []
+
+abbrev onOne : List ℕ
+onOne = idleOn (0 ∷ [])
+
+abbrev onEight : List ℕ
+onEight = idleOn (0 ∷ 1 ∷ 2 ∷ 3 ∷ 4 ∷ 5 ∷ 6 ∷ 7 ∷ [])
+
+-- The k of slot 0 stands behind the header of 16 bytes and behind `0 `. '0' is 48.
+abbrev kShown : List ℕ → ℕ
+kShown text = getD text 18 0
+
+record Computed : Type 0 where
+  unlisted-can : CanPrint unlistedInput blank
+  unlisted-short : listLength unlistedInput < slotsAsked unlistedInput
+  one-can : CanPrint onOne blank
+  one-long : length (textOf onOne) ≡ 26
+  one-k : kShown (textOf onOne) ≡ 49
+  none-long : length (textWith (λ M. M - 1) onOne) ≡ 26
+  none-k : kShown (textWith (λ M. M - 1) onOne) ≡ 48
+  eight-can : CanPrint onEight blank
+  eight-long : length (textOf onEight) ≡ 26
+  eight-k : kShown (textOf onEight) ≡ 55
+  single-long : length (textWith (λ M. 1) onEight) ≡ 26
+  single-k : kShown (textWith (λ M. 1) onEight) ≡ 49
+
+computed : Computed
+unfolding allBelow ceilDiv atFirst howMany those firstFound rising places padded start deadline bit windowLength jobStart heavy stops stopTime groupDeadline load faultOf tableNumber reading ready late lower upper before picked given withFront withRecord names misremembers wanted leftOver inTurn coresFor broken refusal slotOf listedOr unfit digitsBy decimal spaced slotsText textWith bytesOf
+computed =
+    record {
+      unlisted-can = record { read = refl; written = refl };
+      unlisted-short = omega arith;
+      one-can = record { read = refl; written = refl };
+      one-long = refl;
+      one-k = refl;
+      none-long = refl;
+      none-k = refl;
+      eight-can = record { read = refl; written = refl };
+      eight-long = refl;
+      eight-k = refl;
+      single-long = refl;
+      single-k = refl;
+    }
+
+module _ (print : Printer) (is : IsPrinter print) where
+  -- A printer writes the text where there is room for it,
+  has-written : (input out : List ℕ) → CanPrint input out → length (textOf input) ≤ length out → writtenBy (print input out) ≡ textOf input
+  unfolding printedOf outAfter
+  has-written input out can room =
+      let promise = is input out can in
+      ap (λ p. take (lengthOf p) (print input out .1)) (promise .0)
+      ∙ (ap (take (lengthOf (printedOf input out))) (promise .1) ∙ rw (le-leb (length (textOf input)) (length out) room) (take-append-seam (textOf input) _))
+
+  -- so that no two printers write others.
+  one-text : (past : ℕ → ℕ) (input : List ℕ) → UsesPast past print → CanPrint input blank → length (textOf input) ≤ 64 → length (textWith past input) ≤ 64 → textOf input ≡ textWith past input
+  one-text past input uses-past can room room-past = sym (has-written input blank can room) ∙ uses-past input blank can room-past
+
+printers-shut-out : PrintersShutOut
+unfolding spaced
+printers-shut-out =
+    record {
+      all-cores-past-the-list = λ print is wrong.
+          let same = one-text print is (λ M. M) unlistedInput wrong (computed .unlisted-can) (omega (arith, ap length unlisted-is-printed)) (omega (arith, ap length unlisted-was-printed)) in
+          omega (arith, ap kShown (sym unlisted-is-printed ∙ (same ∙ unlisted-was-printed)));
+      no-core-of-one = λ print is wrong.
+          let same = one-text print is (λ M. M - 1) onOne wrong (computed .one-can) (omega (arith, computed .one-long)) (omega (arith, computed .none-long)) in
+          omega (arith, ap kShown same, computed .one-k, computed .none-k);
+      one-core-for-all = λ print is wrong.
+          let same = one-text print is (λ M. 1) onEight wrong (computed .eight-can) (omega (arith, computed .eight-long)) (omega (arith, computed .single-long)) in
+          omega (arith, ap kShown same, computed .eight-k, computed .single-k);
+      needs-full-list = λ print is wrong.
+          let room : length (textOf unlistedInput) ≤ 64 = omega (arith, ap length unlisted-is-printed) in
+          let same = sym (has-written print is unlistedInput blank (computed .unlisted-can) room) ∙ wrong unlistedInput blank (computed .unlisted-can) (computed .unlisted-short) room in
+          omega (arith, ap (λ text. getD text 0 0) (sym unlisted-is-printed ∙ same));
+    }
+
+pub held-back : HeldBack
+held-back =
+    record {
+      uses = uses;
+      full-list = full-list-prints-as-before;
+      written-in-full = written-in-full-prints-as-before;
+      listing = example-is-printed;
+      unlisted = unlisted-is-printed;
+      unlisted-before = unlisted-was-printed;
+      ends = ends-if-enough-are-free;
+      carries = held-back-carries;
+      late-with-too-few = late-with-too-few;
+      full-box-late = full-box-is-late;
+      late = late-if-too-few-are-free;
+      shut-out = printers-shut-out;
+    }
