@@ -23,5 +23,6 @@ pub mod WritingTables
 pub mod WholeCore
 pub mod ShorterSlots
 pub mod KindTies
+pub mod TooFew
 pub mod HeldBack
 pub mod All

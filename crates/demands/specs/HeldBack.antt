@@ -10,11 +10,8 @@ use Rattle.table.specs.declared.Table.{Table}
 use Rattle.table.specs.Causes.{load}
 use Rattle.table.specs.Value.{faultOf, rowsOf}
 use Rattle.table.specs.Bytes.{tableNumber, tableIn}
-use Rattle.pd2.specs.Choice.{rowAt}
-use Rattle.cores.specs.Sets.{size}
 use Rattle.dispatcher.specs.declared.State.{State}
-use Rattle.dispatcher.specs.State.{timeOf, freshOf}
-use Rattle.dispatcher.specs.Run.{Step, stepOf}
+use Rattle.dispatcher.specs.State.{timeOf}
 use Rattle.printer.specs.declared.Printed.{Printed}
 use Rattle.printer.specs.Input.{tableBytes, slotsAsked, listLength, listPlace, heldBack, freeIn, unfit}
 use Rattle.printer.specs.Lines.{endLine, lateLine, inputLine}
@@ -24,6 +21,7 @@ use Rattle.printer.specs.FullList.{FullListPrintsAsBefore, WrittenInFullPrintsA
 use Rattle.printer.specs.Example.{ExampleIsPrinted, UnlistedIsPrinted, UnlistedWasPrinted}
 use Rattle.demands.specs.Promises.{printer·print}
 use Rattle.demands.specs.Inputs.{CanPrint}
+use Rattle.demands.specs.TooFew.{WithAtMost, lateBy, NoPhaseAfter, LateWithTooFew}
 
 -- "Slots past the k list now use M - 1, and 1 if M is 1"; the others use the k that is listed.
 pub record Uses (s : List ℕ) (M slot : ℕ) : Type 0 where
@@ -50,29 +48,7 @@ HeldBackCarries =
     let table = tableIn (tableBytes s) in
     load (table .cycle) (rowsOf table) ≤ heldBack (table .cores) * table .cycle → EndsIn (textOf s) (endLine (slotsAsked s))
 
--- And no more: a table whose sum is above c·L is late with c cores. A step has at most c cores free,
-abbrev pub HasAtMost : ℕ → Step → Type 0
-HasAtMost c (Step.slot free) = size free ≤ c
-
--- and these are the states that such steps lead to from a fresh start, with any buffer and any place, as long as none has reported a row late.
-pub data WithAtMost (table : Table) (c : ℕ) : State → Type 0 where
-  start : WithAtMost table c (freshOf table)
-  step : (s : State) (x : Step) (buffer : List ℕ) (place : ℕ) → WithAtMost table c s → HasAtMost c x → (stepOf s x buffer place .said .number ≡ 1 → ⊥) →
-      WithAtMost table c (stepOf s x buffer place .state)
-
--- None of them has come to this time, where no phase is later than F; with no phases it is the end of the first cycle.
-abbrev pub lateBy : ℕ → ℕ → ℕ → ℕ
-lateBy cycle c F = F + cycle * (c * F + 1)
-
-abbrev pub NoPhaseAfter : Table → ℕ → Type 0
-NoPhaseAfter table F = (i : ℕ) → i < length (rowsOf table) → rowAt (rowsOf table) i .phase ≤ F
-
-abbrev pub LateWithTooFew : Type 0
-LateWithTooFew =
-    (table : Table) (c F : ℕ) → faultOf table ≡ 0 → c * table .cycle < load (table .cycle) (rowsOf table) → NoPhaseAfter table F →
-    (s : State) → WithAtMost table c s → timeOf s < lateBy (table .cycle) c F
-
--- So a full box of more than one core is late with one held back,
+-- And no more (specs/TooFew.antt): a full box of more than one core is late with one held back,
 abbrev pub FullBoxIsLate : Type 0
 FullBoxIsLate =
     (table : Table) (F : ℕ) → faultOf table ≡ 0 → 1 < table .cores → load (table .cycle) (rowsOf table) ≡ table .cores * table .cycle → NoPhaseAfter table F →
