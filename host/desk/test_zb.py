@@ -705,6 +705,8 @@ class Pages(unittest.TestCase):
             self.assertEqual(ran("slots", table.name, "--slots", "4096", "--free", "7x1,4089x2")[1].splitlines()[-1], "end 4096")
         self.assertEqual(status, 1)
         self.assertIn("".join(f"    {line}\n" for line in out.splitlines()), page)
+        # on its own two cores one is held back
+        self.assertEqual(ran("slots", str(EXAMPLES / "farm.csv"))[:2], (1, out))
 
     @unittest.skipUnless(BUILT, "not built: host/build probe slot_printer desk")
     def test_the_late_camera(self) -> None:

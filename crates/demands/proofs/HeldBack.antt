@@ -40,10 +40,9 @@ use Rattle.cores.proofs.Past.{there-exactly}
 use Rattle.dispatcher.specs.declared.State.{State}
 use Rattle.dispatcher.specs.State.{timeOf, freshOf}
 use Rattle.dispatcher.specs.Broken.{broken}
-use Rattle.dispatcher.specs.Slot.{picksIn, refusal, slotOf}
+use Rattle.dispatcher.specs.Slot.{refusal, slotOf}
 use Rattle.dispatcher.specs.Run.{Step}
-use Rattle.dispatcher.proofs.Placing.{picks-are-few}
-use Rattle.dispatcher.proofs.Kept.{Goes, goes-back, not-refused-is-done, done-makes-the-step}
+use Rattle.dispatcher.proofs.Kept.{done-makes-the-step}
 use Rattle.printer.specs.Input.{tableBytes, slotsAsked, listLength, heldBack, listedOr, unfit}
 use Rattle.printer.specs.Lines.{header, slotLine, endLine, lateLine, digitsBy, decimal, spaced}
 use Rattle.printer.specs.Text.{recordBuffer, askedOf, tankOf, tanksIn, slotText, slotsText, allSlots, textWith, textOf}
@@ -59,6 +58,7 @@ use Rattle.demands.specs.Inputs.{CanPrint}
 use Rattle.demands.specs.NeverLate.{WithCores}
 use Rattle.demands.specs.TooFew.{WithAtMost, lateBy, NoPhaseAfter}
 use Rattle.demands.specs.HeldBack.{Uses, EndsIn, EndsIfEnoughAreFree, HeldBackCarries, FullBoxIsLate, LateIfTooFewAreFree, Printer, IsPrinter, writtenBy, UsesPast, PrintersShutOut, HeldBack}
+use Rattle.demands.proofs.Three.{done-with-room}
 use Rattle.demands.proofs.NeverLate.{never-late}
 use Rattle.demands.proofs.TooFew.{given-so-far, late-with-too-few}
 
@@ -135,20 +135,8 @@ module _ (table : Table) (c F : ℕ) (sound : faultOf table ≡ 0) (full : c * t
   -- Each slot is done;
   is-done : (slot : ℕ) (s : State) → slot < n → timeOf s ≡ slot → WithAtMost table c s → askedOf s (free slot) .said .number < 2
   is-done slot s l time from =
-      let k = free slot in
-      let so = given-so-far table c sound s from .known in
-      let few = sizes-are-within table sound .1 .1 in
-      let first = first-cores-are-k (table .cores) k few in
-      let picks : length (picksIn s (size (firstCores k))) ≤ 8 = omega (arith, picks-are-few s (size (firstCores k)), first .size-is (omega (arith, most slot l .1, few)), most slot l .1, few) in
-      let going : Goes s (firstCores k) recordBuffer 0 =
-      record {
-        whole = so .whole;
-        runs = so .runs;
-        time = omega (arith, time, short);
-        there = rw (so .same) (first .past ∙ le-ltb (table .cores) k (most slot l .1));
-        room = omega (arith, picks, length-replicate {A = ℕ} 10 0);
-      } in
-      not-refused-is-done s (firstCores k) recordBuffer 0 (goes-back s (firstCores k) recordBuffer 0 going)
+      let there = first-cores-are-k (table .cores) (free slot) (sizes-are-within table sound .1 .1) .past ∙ le-ltb (table .cores) (free slot) (most slot l .1) in
+      done-with-room table s (firstCores (free slot)) recordBuffer 0 sound (given-so-far table c sound s from .known) there (omega (arith, time, short)) (omega (arith, length-replicate {A = ℕ} 10 0))
 
   -- and one of them reports a row late, since nobody comes to the last time without that.
   slots-late : (slot left : ℕ) (s : State) → slot + left ≡ n → timeOf s ≡ slot → WithAtMost table c s → (late-at : ℕ) × (tank : ℕ) × EndsIn (slotsText free slot s left) (lateLine late-at tank)

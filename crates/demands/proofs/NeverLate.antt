@@ -23,7 +23,7 @@ use Rattle.table.specs.Causes.{load}
 use Rattle.table.specs.Value.{faultOf, rowsOf}
 use Rattle.table.specs.Bytes.{tableNumber, tableIn}
 use Rattle.table.specs.Example.{example}
-use Rattle.table.proofs.Taken.{taken-value-has-no-fault, sum-is-within, sizes-are-within}
+use Rattle.table.proofs.Taken.{taken-value-has-no-fault, sum-is-within}
 use Rattle.pd2.specs.Ready.{ready, late}
 use Rattle.pd2.specs.Share.{lower, upper}
 use Rattle.pd2.specs.Order.{before}
@@ -39,7 +39,6 @@ use Rattle.optimal.proofs.NeverLate.{pd2-never-late}
 use Rattle.cores.specs.Sets.{size, namesPast, firstCores}
 use Rattle.cores.specs.Fault.{misremembers}
 use Rattle.cores.specs.Cores.{wanted, leftOver, inTurn, coresFor}
-use Rattle.cores.proofs.Sets.{size-within}
 use Rattle.cores.proofs.Past.{there-exactly}
 use Rattle.dispatcher.specs.declared.State.{State}
 use Rattle.dispatcher.specs.State.{quantaIn, timeOf}
@@ -48,10 +47,9 @@ use Rattle.dispatcher.specs.Run.{Step, run}
 use Rattle.dispatcher.specs.Slot.{favouredIn, picksIn, placedIn, refusal, slotOf}
 use Rattle.dispatcher.proofs.Whole.{is-whole}
 use Rattle.dispatcher.proofs.Ran.{places-stay}
-use Rattle.dispatcher.proofs.Placing.{picks-are-few}
-use Rattle.dispatcher.proofs.Kept.{Goes, goes-back, not-refused-is-done, refusal-changes-nothing, done-makes-the-step, quanta-after, done-keeps-whole}
+use Rattle.dispatcher.proofs.Kept.{refusal-changes-nothing, done-makes-the-step, quanta-after, done-keeps-whole}
 use Rattle.dispatcher.proofs.Places.{bare-unless-late}
-use Rattle.demands.proofs.Three.{done-with-0, Running, fresh-runs, still-runs}
+use Rattle.demands.proofs.Three.{done-with-0, Running, fresh-runs, still-runs, done-with-room}
 use Rattle.demands.specs.NeverLate.{WithCores, NeverLateWith, NeverLate}
 use Rattle.demands.proofs.RunsOn.{runs-on}
 
@@ -176,9 +174,7 @@ module _ (table : Table) (c : ℕ) (sound : faultOf table ≡ 0) (few : load (ta
       answers-0 : (s : State) (free : List Bool) (buffer : List ℕ) (place : ℕ) → Kept s → c ≤ size free → namesPast (table .cores) free ≡ false → timeOf s < timeLimit → place + 10 ≤ length buffer →
           slotOf s free buffer place .said ≡ bare 0
       answers-0 s free buffer place so more there time room =
-          let few : length (picksIn s (size free)) ≤ 8 = omega (arith, picks-are-few s (size free), size-within (table .cores) free there, sizes-are-within table sound .1 .1) in
-          let going : Goes s free buffer place = record { whole = so .known .whole; runs = so .known .runs; time = time; there = rw (so .known .same) there; room = omega arith } in
-          let done : slotOf s free buffer place .said .number < 2 = not-refused-is-done s free buffer place (goes-back s free buffer place going) in
+          let done = done-with-room table s free buffer place sound (so .known) there time room in
           let late = not-late s free buffer place so more in
           bare-unless-late s free buffer place late ∙ ap bare (done-with-0 done late)
 

@@ -1,5 +1,5 @@
 -- Demand 3. Assumes nothing.
-use Prim.Native.Nat.{ℕ, _*_, _<_, zero-le}
+use Prim.Native.Nat.{ℕ, _+_, _*_, _≤_, _<_, zero-le}
 use mathlib.Core.Path.{_≡_, refl, sym, ap, _∙_, subst}
 use mathlib.Core.List.{List}
 use mathlib.Core.Bool.{Bool, true, false, true≢false}
@@ -8,24 +8,28 @@ use native.Mathlib.Decide.{decLt, ℕ-discrete}
 use native.Mathlib.Nat.{mul-zero, div-le-self}
 use native.Mathlib.Omega.{arith}
 use lib.ListN.{length}
+use Rattle.counts.specs.Limits.{timeLimit}
 use Rattle.table.specs.declared.Row.{Row}
 use Rattle.table.specs.declared.Table.{Table}
 use Rattle.table.specs.Value.{faultOf, rowsOf}
 use Rattle.table.specs.Bytes.{tableIn}
-use Rattle.table.proofs.Taken.{taken-value-has-no-fault}
+use Rattle.table.proofs.Taken.{taken-value-has-no-fault, sizes-are-within}
 use Rattle.pd2.specs.Ready.{late}
 use Rattle.pd2.specs.Share.{within, CanBe}
 use Rattle.pd2.specs.Choice.{rowAt, quantaAt}
 use Rattle.pd2.proofs.Share.{row-can-be, late-exactly-if-owed}
 use Rattle.trace.specs.Records.{timesNamed}
 use Rattle.trace.specs.Said.{Said}
+use Rattle.cores.specs.Sets.{size, namesPast}
+use Rattle.cores.proofs.Sets.{size-within}
 use Rattle.dispatcher.specs.declared.State.{State}
 use Rattle.dispatcher.specs.State.{rowsIn, quantaIn, timeOf, freshOf}
 use Rattle.dispatcher.specs.Broken.{broken}
-use Rattle.dispatcher.specs.Slot.{slotOf}
+use Rattle.dispatcher.specs.Slot.{picksIn, slotOf}
 use Rattle.dispatcher.specs.Run.{Step}
 use Rattle.dispatcher.proofs.Whole.{is-whole, nothing-given}
-use Rattle.dispatcher.proofs.Kept.{After, refusal-changes-nothing, done-makes-the-step, done-keeps-whole, fresh-is-whole, fault-answers-30}
+use Rattle.dispatcher.proofs.Placing.{picks-are-few}
+use Rattle.dispatcher.proofs.Kept.{After, Goes, goes-back, not-refused-is-done, refusal-changes-nothing, done-makes-the-step, done-keeps-whole, fresh-is-whole, fault-answers-30}
 use Rattle.dispatcher.proofs.RunKept.{one-when-late, quanta-are-records, records-stand-in-turn}
 use Rattle.checker.proofs.Passes.{passes-in-shares, checked-as-table}
 use Rattle.demands.specs.Limits.{sincePhase, InLimits}
@@ -85,6 +89,14 @@ still-runs table s free buffer place so not-late = go (decLt (slotOf s free buff
 running : (table : Table) (s : State) → faultOf table ≡ 0 → FromFresh table s → Running table s
 running table _ sound FromFresh.start = fresh-runs table sound
 running table _ sound (FromFresh.step s (Step.slot free) buffer place from not-late) = still-runs table s free buffer place (running table s sound from) not-late
+
+-- Such a slot is done up to the time limit, if its cores are the table's own and it has ten bytes for its record.
+pub done-with-room : (table : Table) (s : State) (free : List Bool) (buffer : List ℕ) (place : ℕ) → faultOf table ≡ 0 → Running table s → namesPast (table .cores) free ≡ false →
+    timeOf s < timeLimit → place + 10 ≤ length buffer → slotOf s free buffer place .said .number < 2
+done-with-room table s free buffer place sound so there time room =
+    let few : length (picksIn s (size free)) ≤ 8 = omega (arith, picks-are-few s (size free), size-within (table .cores) free there, sizes-are-within table sound .1 .1) in
+    let going : Goes s free buffer place = record { whole = so .whole; runs = so .runs; time = time; there = rw (so .same) there; room = omega arith } in
+    not-refused-is-done s free buffer place (goes-back s free buffer place going)
 
 -- A table with a fault stays fresh: each slot answers 30.
 pub stays-fresh : (table : Table) (s : State) → (faultOf table ≡ 0 → ⊥) → FromFresh table s → s ≡ freshOf table
