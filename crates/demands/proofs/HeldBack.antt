@@ -24,7 +24,7 @@ use Rattle.table.specs.declared.Table.{Table}
 use Rattle.table.specs.Causes.{load}
 use Rattle.table.specs.Value.{faultOf, rowsOf}
 use Rattle.table.specs.Bytes.{reading, tableNumber, tableIn}
-use Rattle.table.proofs.Taken.{number-read, table-read, taken-value-has-no-fault, sizes-are-within}
+use Rattle.table.proofs.Taken.{number-read, table-read, taken-value-has-no-fault, sizes-are-within, sum-is-within}
 use Rattle.pd2.specs.Ready.{ready, late}
 use Rattle.pd2.specs.Share.{lower, upper}
 use Rattle.pd2.specs.Choice.{given}
@@ -131,11 +131,19 @@ full-box-is-late table F sound several full begun =
 
 -- The listing of a table that has at most c of its cores free in each of n slots, and needs more.
 module _ (table : Table) (c F : ℕ) (sound : faultOf table ≡ 0) (full : c * table .cycle < load (table .cycle) (rowsOf table)) (begun : NoPhaseAfter table F) (free : ℕ → ℕ) (n : ℕ) (short : n ≤ timeLimit)
-    (long : lateBy (table .cycle) c F ≤ n) (most : (slot : ℕ) → slot < n → (free slot ≤ c) × (free slot ≤ table .cores)) where
-  -- Each slot is done;
+    (long : lateBy (table .cycle) c F ≤ n) (most : (slot : ℕ) → slot < n → free slot ≤ c) where
+  -- No slot has more cores free than the table has,
+  fewer : c < table .cores
+  fewer = go (decLt c (table .cores))
+    where
+      go : Dec (c < table .cores) → c < table .cores
+      go (yes l) = l
+      go (no l) = let all : table .cores ≤ c = omega arith in absurd (omega (arith, mul-le-mul-right (table .cycle) all, full, sum-is-within table sound))
+
+  -- so each slot is done;
   is-done : (slot : ℕ) (s : State) → slot < n → timeOf s ≡ slot → WithAtMost table c s → askedOf s (free slot) .said .number < 2
   is-done slot s l time from =
-      let there = first-cores-are-k (table .cores) (free slot) (sizes-are-within table sound .1 .1) .past ∙ le-ltb (table .cores) (free slot) (most slot l .1) in
+      let there = first-cores-are-k (table .cores) (free slot) (sizes-are-within table sound .1 .1) .past ∙ le-ltb (table .cores) (free slot) (omega (arith, most slot l, fewer)) in
       done-with-room table s (firstCores (free slot)) recordBuffer 0 sound (given-so-far table c sound s from .known) there (omega (arith, time, short)) (omega (arith, length-replicate {A = ℕ} 10 0))
 
   -- and one of them reports a row late, since nobody comes to the last time without that.
@@ -149,7 +157,7 @@ module _ (table : Table) (c F : ℕ) (sound : faultOf table ≡ 0) (full : c * t
       let mine = most slot (omega arith) in
       let after = ap (λ x. timeOf (x .state)) (done-makes-the-step s (firstCores (free slot)) recordBuffer 0 (omega (arith, none))) in
       slots-late (slot + 1) left (askedOf s (free slot) .state) (omega arith) (after ∙ ap (λ t. t + 1) time)
-      (WithAtMost.step s (Step.slot (firstCores (free slot))) recordBuffer 0 from (omega (arith, first-cores-are-k (table .cores) (free slot) few .size-is (omega (arith, mine .1, few)), mine .0)) (λ one. omega (arith, none, one))))
+      (WithAtMost.step s (Step.slot (firstCores (free slot))) recordBuffer 0 from (omega (arith, first-cores-are-k (table .cores) (free slot) few .size-is (omega (arith, mine, fewer, few)), mine)) (λ one. omega (arith, none, one))))
     where
       line : List ℕ
       line = slotLine slot (free slot) (tanksIn s (free slot))
@@ -227,7 +235,7 @@ module _ (print : Printer) (is : IsPrinter print) where
       ap (λ p. take (lengthOf p) (print input out .1)) (promise .0)
       ∙ (ap (take (lengthOf (printedOf input out))) (promise .1) ∙ rw (le-leb (length (textOf input)) (length out) room) (take-append-seam (textOf input) _))
 
-  -- so that no two printers write others.
+  -- so one whose slots past the list use `past` would have to write the same text.
   one-text : (past : ℕ → ℕ) (input : List ℕ) → UsesPast past print → CanPrint input blank → length (textOf input) ≤ 64 → length (textWith past input) ≤ 64 → textOf input ≡ textWith past input
   one-text past input uses-past can room room-past = sym (has-written input blank can room) ∙ uses-past input blank can room-past
 

@@ -54,12 +54,12 @@ FullBoxIsLate =
     (table : Table) (F : ℕ) → faultOf table ≡ 0 → 1 < table .cores → load (table .cycle) (rowsOf table) ≡ table .cores * table .cycle → NoPhaseAfter table F →
     (s : State) → WithAtMost table (heldBack (table .cores)) s → timeOf s < lateBy (table .cycle) (heldBack (table .cores)) F
 
--- and its listing, if it is long enough, ends in `late T TANK`: so does that of any table whose sum is above c·L, if no slot has more than c of its cores free.
+-- and its listing, if it is long enough, ends in `late T TANK`: so does that of any table whose sum is above c·L, if no slot has more than c cores free.
 abbrev pub LateIfTooFewAreFree : Type 0
 LateIfTooFewAreFree =
     (s : List ℕ) (c F : ℕ) → unfit s ≡ false → tableNumber (tableBytes s) ≡ 0 →
     let table = tableIn (tableBytes s) in
-    ((slot : ℕ) → slot < slotsAsked s → (freeIn s (table .cores) slot ≤ c) × (freeIn s (table .cores) slot ≤ table .cores)) →
+    ((slot : ℕ) → slot < slotsAsked s → freeIn s (table .cores) slot ≤ c) →
     c * table .cycle < load (table .cycle) (rowsOf table) → NoPhaseAfter table F → lateBy (table .cycle) c F ≤ slotsAsked s →
     (time : ℕ) × (tank : ℕ) × EndsIn (textOf s) (lateLine time tank)
 
@@ -74,7 +74,8 @@ IsPrinter print = (input out : List ℕ) → CanPrint input out → printer·pri
 abbrev pub writtenBy : Printed × List ℕ → List ℕ
 writtenBy r = take (lengthOf (r .0)) (r .1)
 
--- Shut out are: one whose slots past the k list use other cores, and one that takes no input without its k list in full.
+-- Shut out are: one whose slots past the k list use all cores, one that uses none there of a single one, one that uses one there of any number, and one
+-- that takes no input without its k list in full.
 abbrev pub UsesPast : (ℕ → ℕ) → Printer → Type 0
 UsesPast past print = (input out : List ℕ) → CanPrint input out → length (textWith past input) ≤ length out → writtenBy (print input out) ≡ textWith past input
 

@@ -29,7 +29,7 @@ inputOf table slots list = bytesOf 2 (length table) ++ (table ++ (bytesOf 2 slot
 abbrev pub inFull : ℕ → ℕ → List ℕ → List ℕ
 inFull cores slots list = list ++ replicate (slots - length list) cores
 
--- An input that leaned on all M cores, any of those that 01 takes, prints as before once its k list is written in full.
+-- An input that leaned on all M cores prints as before once its k list is written in full, if it still fits: every one does whose table is taken.
 abbrev pub WrittenInFullPrintsAsBefore : Type 0
 WrittenInFullPrintsAsBefore =
     (table : List ℕ) (slots : ℕ) (list : List ℕ) → slots ≤ runLimit → length list ≤ slots →

@@ -37,6 +37,7 @@ listedOr s past slot = cond (ltb slot (listLength s)) (byte s (listPlace s + slo
 abbrev pub heldBack : ℕ → ℕ
 heldBack cores = cond (eqb cores 1) 1 (cores - 1)
 
+-- So this is the k of a slot of a listing.
 abbrev pub freeIn : List ℕ → ℕ → ℕ → ℕ
 freeIn s cores slot = listedOr s (heldBack cores) slot
 
