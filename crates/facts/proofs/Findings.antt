@@ -124,6 +124,7 @@ module _ {A : Type 0} {such : A → Type 0} where
 
   -- What is found first is such.
   pub first_is_such : {fs : List (Finding A)} {x : A} → AllSay such fs → FirstFound fs x → such x
+  first_is_such AllSay.end first = elim first [ ]
   first_is_such (AllSay.next x p) (FirstFound.here c) = x
   first_is_such (AllSay.next x p) (FirstFound.later c first) = first_is_such p first
 

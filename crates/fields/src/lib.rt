@@ -1,4 +1,6 @@
 // Fields in bytes, little-endian. A byte past the end counts as 0 and is not written, so every place may be asked for.
+#![tactic(auto)]
+
 ghost use Rattle.std.specs.Prelude.{◌≡◌, ◌-◌, min, length};
 ghost use Rattle.std.proofs.lemmas.List.Edits.{sets};
 ghost use Rattle.fields.specs.Fields.{byte, half, word, bytes_of, number_at};

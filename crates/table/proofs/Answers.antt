@@ -105,10 +105,10 @@ module _ (s : List ℕ) where
                 rows_are : rows ≡ (table_in s).rows
                 rows_are = rw (cores_is, count_is) at (r.content z₄)
 
-                module _ {sum : ℕ} (sum_is_lem : sum ≡ load cycle (take count rows)) where
+                module _ {sum : ℕ} (sum_is : sum ≡ load cycle (take count rows)) where
                   sum_in : ltb (cores * cycle) sum ≡ ltb (cores_in s * cycle_in s) (load (cycle_in s) (map (row_in_bytes s) (row_places s)))
                   sum_in =
-                      rw (sum_is_lem, rows_are, cycle_is, count_is, cores_is)
+                      rw (sum_is, rows_are, cycle_is, count_is, cores_is)
                       (ap (λ l. ltb (cores_in s * cycle_in s) (load (cycle_in s) l)) (first_are_read (row_in_bytes s) zero_row row_limit (rows_place s) 9 (row_count_in s)))
 
                   pub sum_refused : ltb (cores * cycle) sum ≡ true → refused_with 22 ≡ reading s

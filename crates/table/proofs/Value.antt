@@ -60,9 +60,9 @@ module _ (t : Table) where
         pub rows_are_fault : {n : ℕ} → n ≡ first_found 0 (rows_tests t) → (n ≡ 0 → ⊥) → n ≡ fault_of t
         rows_are_fault e f = past_count (decides 0 (rows_tests t) _ e f)
 
-        module _ (rows : NoneFound (rows_tests t)) {sum : ℕ} (sum_is_lem : sum ≡ load t.cycle (rows_of t)) where
+        module _ (rows : NoneFound (rows_tests t)) {sum : ℕ} (sum_is : sum ≡ load t.cycle (rows_of t)) where
           pub sum_is_fault : ltb (t.cores * t.cycle) sum ≡ true → 22 ≡ fault_of t
-          sum_is_fault h = past_count (sym (first_is_said 0 (first_behind rows (FirstFound.here (rw sum_is_lem at h)))))
+          sum_is_fault h = past_count (sym (first_is_said 0 (first_behind rows (FirstFound.here (rw sum_is at h)))))
 
           pub no_fault : ltb (t.cores * t.cycle) sum ≡ false → 0 ≡ fault_of t
-          no_fault h = past_count (sym (after_none 0 _ rows ∙ none_says_otherwise 0 (NoneFound.later (rw sum_is_lem at h) NoneFound.end)))
+          no_fault h = past_count (sym (after_none 0 _ rows ∙ none_says_otherwise 0 (NoneFound.later (rw sum_is at h) NoneFound.end)))

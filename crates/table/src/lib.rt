@@ -1,4 +1,6 @@
 // Job tables: the reader, the fault of a table value, and the writer.
+#![tactic(auto)]
+
 mod boards;
 mod head;
 mod rows;
@@ -10,7 +12,7 @@ ghost use Rattle.table.specs.Bytes.{reading};
 ghost use Rattle.table.specs.Parts.{refused_with};
 ghost use Rattle.table.specs.Writing.{writing, buffer_after};
 
-#[derive(Drop)]
+#[derive(Clone, Copy)]
 pub struct Row {
     pub tank: u16,
     pub cost: u16,
@@ -20,7 +22,7 @@ pub struct Row {
 }
 
 // The format stands last: there it takes a byte that was padding, and every other field stays where it was.
-#[derive(Drop)]
+#[derive(Clone, Copy)]
 pub struct Table {
     pub cycle: u32,
     pub cores: u8,
@@ -31,14 +33,14 @@ pub struct Table {
 }
 
 // What reading answers: 0 and the table, or the number of the first fault met and a table of zeros.
-#[derive(Drop)]
+#[derive(Clone, Copy)]
 pub struct Reading {
     pub number: u8,
     pub table: Table,
 }
 
 // What writing answers: 0 and how many bytes were written, or the number of the first fault met and 0.
-#[derive(Drop)]
+#[derive(Clone, Copy)]
 pub struct Writing {
     pub number: u8,
     pub length: usize,
@@ -47,27 +49,27 @@ pub struct Writing {
 const ROW_LIMIT: u8 = 32;
 
 // A place in the bytes that are read.
-#[derive(Drop)]
+#[derive(Clone, Copy)]
 struct Cursor {
     at: usize,
 }
 
 // What reading a row finds: the row with the place past it, or the number of the first fault met.
-#[derive(Drop)]
+#[derive(Clone, Copy)]
 enum RowRead {
     Row(Row, Cursor),
     Fault(u8),
 }
 
 // The board numbers that were read, or the number of the first fault met.
-#[derive(Drop)]
+#[derive(Clone, Copy)]
 struct BoardsRead {
     number: u8,
     boards: [u8; 8],
 }
 
 // The rows that were read and the quanta that they take in a cycle, or the number of the first fault met.
-#[derive(Drop)]
+#[derive(Clone, Copy)]
 struct RowsRead {
     number: u8,
     rows: [Row; 32],
@@ -75,7 +77,7 @@ struct RowsRead {
 }
 
 // The first fault of rows, or 0 and the quanta that they take in a cycle.
-#[derive(Drop)]
+#[derive(Clone, Copy)]
 struct RowsJudged {
     number: u8,
     sum: u64,
@@ -206,7 +208,7 @@ fn refused(number: u8) -> Reading
     Reading { number, table }
 }
 
-// Whether the quanta that rows take in a cycle are more than the cores have: their sum is above M.L.
+// Whether the quanta that rows take in a cycle are more than the cores have: their sum is above M·L.
 fn is_overfull(cores: u8, cycle: u32, sum: u64) -> bool
     ensures { result ≡ ltb (cores * cycle) sum }
 {

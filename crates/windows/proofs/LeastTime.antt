@@ -2,7 +2,7 @@
 -- The walk stops at the first window that fits, `at`. A mark of an earlier window lies before d, and a mark of a later one lies at or
 -- past the deadline of `at`; so no mark at or past d is smaller than what the walk gives.
 use mathlib.Core.Path.{◌≡◌, refl, sym, ap, ◌∙◌}
-use mathlib.Core.Bool.{true, false, true≢false}
+use mathlib.Core.Bool.{false, true≢false}
 use mathlib.Core.Logic.{inl, inr}
 use Prim.Native.Nat.{ℕ, ◌+◌, ◌-◌, ◌*◌, ◌/◌, ◌≤◌, ◌<◌}
 use native.Mathlib.Nat.{le_antisymm, div-eq_of_eq-mul_left, mul-le-mul_right, lt-div-mul-add}

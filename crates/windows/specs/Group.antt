@@ -20,6 +20,6 @@ unfoldable pub stop_time : ℕ → ℕ → ℕ → ℕ → ℕ
 stop_time e p o j = cond (eqb (bit e p j) 0) (deadline e p o j) (deadline e p o j - 1)
 
 -- "group deadline D: 0 for a light row." For a heavy row, the walk from i. Every e-th subtask has b = 0, so e windows are enough
--- (proofs/Group.antt, walk-ends-within-job).
+-- (proofs/Group.antt, walk_ends_within_job).
 unfoldable pub group_deadline : ℕ → ℕ → ℕ → ℕ → ℕ
 group_deadline e p o i = cond (heavy e p) (at_first (stops e p o i) (stop_time e p o) i e) 0
