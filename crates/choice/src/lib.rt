@@ -1,5 +1,7 @@
 // Who runs in a slot. All that PD2's order looks at stands in one number, the key, and the smaller key goes first. The rows whose keys lie before the
 // first that is left out are picked.
+#![tactic(auto)]
+
 mod smallest;
 
 ghost use Rattle.std.specs.Prelude.{◌≡◌, ◌+◌, ◌-◌, ◌*◌, ◌≤◌, ◌<◌, min, true, ltb, length, take};

@@ -2,12 +2,12 @@
 use Prim.Native.Nat.{ℕ, zero, suc, ◌+◌, ◌≤◌, ◌<◌}
 use mathlib.Core.Path.{◌≡◌, refl, sym, ap, ap₂, ◌∙◌, subst}
 use mathlib.Core.List.{List, [], ◌∷◌}
-use mathlib.Core.Bool.{Bool, true, false, cond}
+use mathlib.Core.Bool.{Bool, true, cond}
 use mathlib.Core.Logic.{◌↔◌}
 use native.Mathlib.Omega.{arith}
 use borrow.Author.Tests.{eqb-true, eq-eqb}
 use lib.Dec.{eqb}
-use lib.ListN.{length, get_or, take}
+use lib.ListN.{length, get_or}
 use lib.Seq.{take_all}
 use Rattle.facts.specs.Counting.{how_many}
 use Rattle.facts.proofs.Some.{some_if}
@@ -16,7 +16,7 @@ use Rattle.trace.specs.Record.{marked}
 use Rattle.cores.specs.declared.Placement.{Placement}
 use Rattle.cores.specs.Placement.{row_in, places_of, rows_placed, cores_placed, placement, ran_on, ran_before, moved}
 use Rattle.cores.specs.Best.{moves, IsBest}
-use Rattle.cores.specs.Cores.{cores_for, placed_for, Rising, Apart, PlacedAlone}
+use Rattle.cores.specs.Cores.{cores_for, placed_for, PlacedAlone}
 use Rattle.cores.proofs.Memory.{found_if_some, place_of, ran_there}
 use Rattle.cores.proofs.Sets.{marked_rise}
 use Rattle.cores.proofs.Best.{cores_are_best}

@@ -1,6 +1,6 @@
 -- When a set names a core that is not below M, said of its marks. Assumes nothing.
 use Prim.Native.Nat.{ℕ, ◌≤◌, ◌<◌}
-use mathlib.Core.Path.{◌≡◌, refl, sym, ◌∙◌}
+use mathlib.Core.Path.{◌≡◌, sym, ◌∙◌}
 use mathlib.Core.List.{List}
 use mathlib.Core.Bool.{Bool, true, false, ◌&&◌, true≢false}
 use mathlib.Core.Logic.{◌↔◌}
@@ -9,8 +9,8 @@ use native.Mathlib.Omega.{arith}
 use borrow.Author.Tests.{leb-true, leb-false, le-leb}
 use lib.Dec.{leb}
 use lib.ListN.{length, get_or, get_or-eq_default}
-use Rattle.facts.specs.Counting.{some, how_many}
-use Rattle.facts.proofs.Some.{some_if, none_if, each_fails}
+use Rattle.facts.specs.Counting.{how_many}
+use Rattle.facts.proofs.Some.{some_if, each_fails}
 use Rattle.facts.proofs.Tests.{both, hold_both}
 use Rattle.facts.proofs.Listing.{as_many_listed}
 use Rattle.cores.specs.Sets.{size, names_past}

@@ -1,4 +1,6 @@
 // Which core each picked row runs on. Sets of cores and of rows are marks, one for each number from 0 on.
+#![tactic(auto)]
+
 mod turns;
 
 ghost use Rattle.std.specs.Prelude.{◌≡◌, ◌&&◌, false, ◌≤◌, leb, get_or};
@@ -10,7 +12,7 @@ ghost use Rattle.cores.specs.Fault.{below, misremembers};
 ghost use Rattle.cores.specs.Sets.{size, names_past, first_cores};
 
 // So many rows, and the core of each: what a slot answers, and what the state remembers of it. Places past the count mean nothing.
-#[derive(Drop)]
+#[derive(Clone, Copy)]
 pub struct Placement {
     pub count: u8,
     pub rows: [u8; 8],

@@ -14,7 +14,7 @@ const NEW: u8 = 32;
 const OTHER: u8 = 33;
 
 // For each row number that a byte can say, the free core on which the row ran; and the free cores on which no picked row ran.
-#[derive(Drop)]
+#[derive(Clone, Copy)]
 pub(crate) struct Kept {
     own: [u8; 256],
     left: [bool; 32],
@@ -97,7 +97,7 @@ pub(crate) fn in_turn(picked: &[u8], kept: Kept) -> Placement
 }
 
 // The core that a row gets, and from where on cores are left then.
-#[derive(Drop)]
+#[derive(Clone, Copy)]
 struct Turn {
     core: u8,
     after: usize,

@@ -1,4 +1,6 @@
 // PD2's rules for one row: is it ready, late, inside its share? By products alone for a plain row: no division.
+#![tactic(auto)]
+
 ghost use Rattle.std.specs.Prelude.{◌≡◌, true, ◌*◌, ◌<◌, ◌≤◌, min};
 ghost use Rattle.facts.specs.First.{Lowest};
 ghost use Rattle.windows.specs.Fits.{furthest, products};
@@ -13,7 +15,7 @@ use counts::{Quanta, Slot};
 use table::Row;
 
 // The answer to a question about one row.
-#[derive(Drop)]
+#[derive(Clone, Copy)]
 pub enum Verdict {
     Yes,
     No,

@@ -3,7 +3,7 @@ use Prim.Native.Nat.{ℕ, ◌+◌}
 use mathlib.Core.Path.{◌≡◌, refl, sym, ap₂, ◌∙◌}
 use mathlib.Core.List.{List}
 use mathlib.Core.Bool.{Bool, cond}
-use denote.Ref.{MutBor}
+use denote.Bor.{Bor}
 use native.Mathlib.Omega.{arith}
 use lib.Dec.{eqb}
 use Rattle.facts.specs.Determined.{Determined, TellsApart}
@@ -35,14 +35,13 @@ pub record_is_determined : (trace : List ℕ) (at : ℕ × ℕ) (slot : ℕ) →
 record_is_determined trace at slot a b p q =
     ap₂ (λ bytes place. (bytes, place)) (p.0 ∙ sym q.0) (ap₂ (λ block place. (block, place)) (p.1.0 ∙ sym q.1.0) (p.1.1 ∙ sym q.1.1))
 
--- A reference has one part more, the name that proofs know it by. With that given, the promise determines the whole reference.
-pub record_is_determined_but_for_its_name : (trace : MutBor (List ℕ)) (slot name : ℕ) →
-    Determined {R = MutBor (List ℕ)}
-    (λ r. (r.ghost_name ≡ name) × ((r.now ≡ part_found trace.now slot) × ((r.ref_ptr.0 ≡ trace.ref_ptr.0) × (r.ref_ptr.1 ≡ trace.ref_ptr.1 + part_begins trace.now slot))))
-record_is_determined_but_for_its_name trace slot name a b p q =
-    let same = record_is_determined trace.now trace.ref_ptr slot (a.now, a.ref_ptr) (b.now, b.ref_ptr) p.1 q.1 in
-    let named = p.0 ∙ sym q.0 in
-    λ i. record { ref_ptr = (same i).1; ghost_name = named i; now = (same i).0 }
+-- So it determines the whole reference, which has no other parts.
+pub reference_is_determined : (trace : Bor (List ℕ)) (slot : ℕ) →
+    Determined {R = Bor (List ℕ)}
+    (λ r. (r.now ≡ part_found trace.now slot) × ((r.ref_ptr.0 ≡ trace.ref_ptr.0) × (r.ref_ptr.1 ≡ trace.ref_ptr.1 + part_begins trace.now slot)))
+reference_is_determined trace slot a b p q =
+    let same = record_is_determined trace.now trace.ref_ptr slot (a.now, a.ref_ptr) (b.now, b.ref_ptr) p q in
+    λ i. record { ref_ptr = (same i).1; now = (same i).0 }
 
 -- the answer of a number and a place
 shaped_for : ShapeReply → Shaped

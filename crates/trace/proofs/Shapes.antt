@@ -16,7 +16,7 @@ use Rattle.trace.specs.Records.{free_at, picked_at, past_record}
 use Rattle.trace.specs.Found.{Inside}
 use Rattle.trace.specs.Said.{Said, bare}
 use Rattle.trace.specs.Shape.{too_long, bad_rows, bad_row, shape_at, SoundRecord}
-use Rattle.trace.specs.Shaped.{ShapeReply, shape_number, shape_of}
+use Rattle.trace.specs.Shaped.{shape_number, shape_of}
 
 -- what may be said of a shape: a number of 40 to 43 alone
 record Sayable (x : Said) : Type 0 where

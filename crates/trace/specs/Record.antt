@@ -1,5 +1,5 @@
 -- The record of a slot (01, "The trace, in bytes"), and a buffer in which it stands.
-use Rattle.std.specs.Prelude.{ℕ, ◌+◌, List, ◌∷◌, ◌++◌, Bool, false, cond, leb, length, get_or, take, drop}
+use Rattle.std.specs.Prelude.{ℕ, List, ◌∷◌, ◌++◌, Bool, false, cond, leb, length, get_or, take, drop}
 use Rattle.facts.specs.Counting.{those}
 use Rattle.trace.specs.declared.Stored.{Stored}
 use Rattle.trace.specs.declared.Stored.TheVariants.{Written, NoRoom}

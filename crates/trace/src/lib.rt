@@ -1,4 +1,6 @@
 // The trace: one record a slot. This is the writer of records, the search for the record of a slot, the shape of a record, and counting whom it names.
+#![tactic(auto)]
+
 mod counting;
 mod rows;
 
@@ -13,7 +15,7 @@ ghost use Rattle.trace.specs.Shaped.{shaped_of, shape_of};
 use counts::Slot;
 
 // Whether the record was written.
-#[derive(Drop)]
+#[derive(Clone, Copy)]
 pub enum Stored {
     Written,
     NoRoom,
@@ -74,7 +76,7 @@ fn put_rows(part: &mut [u8], marks: [bool; 32])
 }
 
 // Where the record of a slot lies.
-#[derive(Drop)]
+#[derive(Clone, Copy)]
 enum Place {
     Between(usize, usize),
     Nowhere,
@@ -154,7 +156,7 @@ pub fn length_inside(trace: &[u8], start: usize) -> usize
 }
 
 // What the shape of a record leads to: the place behind it, or what is found in it first.
-#[derive(Drop)]
+#[derive(Clone, Copy)]
 pub enum Shaped {
     Sound(usize),
     Cut,
