@@ -19,7 +19,7 @@ use counts::Slot;
 use table::{Row, Table};
 
 // What is kept of one row.
-#[derive(Drop)]
+#[derive(Clone, Copy)]
 struct Kept {
     start: u32,
     rest: u32,

@@ -1,4 +1,6 @@
 // The trace check: from the bytes of a table and of a trace to what 01 says of them. One pass over the trace, with constant memory.
+#![tactic(auto)]
+
 mod giving;
 mod record;
 
@@ -11,7 +13,7 @@ use counts::Slot;
 use table::Table;
 
 // Why a table was refused.
-#[derive(Drop)]
+#[derive(Clone, Copy)]
 pub enum TableFault {
     Ends,
     Format,
@@ -29,7 +31,7 @@ pub enum TableFault {
 }
 
 // What the check answers.
-#[derive(Drop)]
+#[derive(Clone, Copy)]
 pub enum Answer {
     Passed,
     Table(TableFault),
@@ -50,7 +52,7 @@ const SLOT_LIMIT: u32 = 1_000_000_000;
 const NEVER: u32 = 4_294_967_295;
 
 // What a record leads to: the place behind it, or the answer that ends the check.
-#[derive(Drop)]
+#[derive(Clone, Copy)]
 struct Step {
     ended: bool,
     answer: Answer,

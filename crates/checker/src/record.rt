@@ -10,7 +10,7 @@ use counts::Slot;
 use table::Table;
 
 // What the bytes of a record hold: 0, where its rows begin and how many there are; or the number of what is found in them.
-#[derive(Drop)]
+#[derive(Clone, Copy)]
 struct RecordRead {
     number: u8,
     first: usize,

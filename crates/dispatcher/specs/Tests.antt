@@ -3,7 +3,7 @@ use Rattle.std.specs.Prelude.{ℕ, ◌+◌, ◌-◌, ◌≤◌, ◌<◌, ◌≡�
 use Rattle.facts.specs.Counting.{those}
 use Rattle.facts.specs.First.{Lowest}
 use Rattle.counts.specs.Limits.{time_limit}
-use Rattle.pd2.specs.Ready.{ready, late}
+use Rattle.pd2.specs.Ready.{late}
 use Rattle.pd2.specs.Choice.{row_at, quanta_at, given}
 use Rattle.trace.specs.Records.{names, rows_at, past_record}
 use Rattle.cores.specs.Sets.{size, names_past}

@@ -1,4 +1,6 @@
 // The dispatcher: who runs in a slot. The state goes in and comes back whole.
+#![tactic(auto)]
+
 mod look;
 mod picked;
 
@@ -22,7 +24,7 @@ use cores::Placement;
 use counts::{Quanta, Slot};
 use table::Table;
 
-#[derive(Drop)]
+#[derive(Clone, Copy)]
 pub struct State {
     pub table: Table,
     pub time: Slot,
@@ -32,7 +34,7 @@ pub struct State {
 }
 
 // What a slot answers.
-#[derive(Drop)]
+#[derive(Clone, Copy)]
 pub enum Answer {
     Done,
     Late { row: u8, time: Slot },
@@ -44,7 +46,7 @@ pub enum Answer {
 }
 
 // What an answer says: the paper's number, and the row and the time that it names.
-#[derive(Drop)]
+#[derive(Clone, Copy)]
 pub struct Told {
     pub number: u8,
     pub row: u8,
@@ -52,7 +54,7 @@ pub struct Told {
 }
 
 // The answer, the core of each picked row, and the state as it is after the slot.
-#[derive(Drop)]
+#[derive(Clone, Copy)]
 pub struct Outcome {
     pub answer: Answer,
     pub placed: Placement,
@@ -247,7 +249,7 @@ impl State {
 }
 
 // Where a row stands in a slot: it breaks the state, it waits, or it is ready.
-#[derive(Drop)]
+#[derive(Clone, Copy)]
 enum Stand {
     Breaks,
     Waits,
@@ -255,14 +257,14 @@ enum Stand {
 }
 
 // Whether a row breaks the state; if not, and the state runs on, so many rows are ready.
-#[derive(Drop)]
+#[derive(Clone, Copy)]
 struct Looked {
     broken: bool,
     found: usize,
 }
 
 // What is found before a slot is run: its refusal, or Done and how many rows are ready.
-#[derive(Drop)]
+#[derive(Clone, Copy)]
 struct Cause {
     answer: Answer,
     found: usize,

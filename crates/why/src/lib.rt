@@ -1,4 +1,6 @@
 // Why a row waits, in the slot about to run (02, Two): asked of a state, a number of free cores and a row. Nothing is changed by asking.
+#![tactic(auto)]
+
 mod order;
 
 ghost use Rattle.std.specs.Prelude.{◌≡◌, not, ◌&&◌, ◌≤◌};
@@ -18,7 +20,7 @@ use table::Row;
 use windows::Moment;
 
 // The rule of PD2's order that puts one row ahead of another.
-#[derive(Drop)]
+#[derive(Clone, Copy)]
 pub enum Rule {
     Deadline,
     Bit,
@@ -28,7 +30,7 @@ pub enum Rule {
 }
 
 // One of the four reasons, or a refusal.
-#[derive(Drop)]
+#[derive(Clone, Copy)]
 pub enum Answer {
     Picked,
     NotReady { until: Slot },
@@ -42,7 +44,7 @@ pub enum Answer {
 }
 
 // What an answer says: the paper's number, the reason and the rule by their places in its lists, and the slot and the row that it names.
-#[derive(Drop)]
+#[derive(Clone, Copy)]
 pub struct Told {
     pub number: u8,
     pub reason: u8,

@@ -12,7 +12,7 @@ use table::Row;
 use windows::Due;
 
 // The end of a row's next window: d and b.
-#[derive(Drop)]
+#[derive(Clone, Copy)]
 struct End {
     deadline: u64,
     bit: u8,
