@@ -1,22 +1,21 @@
 -- What is known where nothing refuses an added slot, and the longer trace then. Assumes nothing.
 -- What is written agrees with the old trace from place 4 up to its end, so every older place and count is as it was; the count is read from its own four bytes.
-use Prim.Native.Nat.{ℕ, zero, suc, ◌+◌, ◌-◌, ◌*◌, ◌/◌, ◌^◌, ◌≤◌, ◌<◌}
+use Prim.Native.Nat.{ℕ, zero, suc, ◌+◌, ◌-◌, ◌*◌, ◌/◌, ◌≤◌, ◌<◌}
 use mathlib.Core.Path.{◌≡◌, refl, sym, ap, ◌∙◌}
-use mathlib.Core.List.{List, [], ◌∷◌, ◌++◌}
+use mathlib.Core.List.{List, [], ◌++◌}
 use mathlib.Core.Bool.{Bool, true, false, true≢false}
-use mathlib.Core.Logic.{◌⊎◌, inl, inr}
+use mathlib.Core.Logic.{◌⊎◌}
 use native.Mathlib.Decide.{dec_lt}
 use native.Mathlib.Numerals.{add-one}
 use native.Mathlib.Omega.{arith}
-use borrow.Author.Tests.{le-ltb, ltb-false, le-leb}
-use lib.Dec.{ltb, leb}
+use borrow.Author.Tests.{ltb-false, le-leb}
 use lib.ListN.{length, take, drop}
 use lib.Seq.{length-sets, length-take-le, take-append-add}
-use Rattle.facts.specs.Findings.{Test, first_found, NoneFound}
+use Rattle.facts.specs.Findings.{NoneFound}
 use Rattle.facts.proofs.Findings.{AllSay, in_range, none_exactly, none_apart, none_says_otherwise, otherwise_or_such}
 use Rattle.facts.proofs.Some.{each_fails}
 use Rattle.facts.proofs.Tests.{neither_holds}
-use Rattle.fields.specs.Fields.{byte, bytes_of, shorter}
+use Rattle.fields.specs.Fields.{bytes_of, shorter}
 use Rattle.fields.proofs.Numbers.{bytes_long, written_is_read, fields_are_numbers}
 use Rattle.trace.specs.Record.{record_of, with_record}
 use Rattle.trace.specs.Records.{past_record, place_of, first_place, slots_in, place_in}
@@ -27,9 +26,9 @@ use Rattle.trace.proofs.Agreeing.{agree_on, agree_back, front_agrees, front_stor
 use Rattle.summary.specs.Summary.{spacing, entry_size}
 use Rattle.cores.specs.Sets.{size}
 use Rattle.dispatcher.specs.declared.State.{State}
-use Rattle.dispatcher.specs.Slot.{picks_in, record_in, slot_tests, refusal}
+use Rattle.dispatcher.specs.Slot.{picks_in, slot_tests, refusal}
 use Rattle.dispatcher.proofs.Kept.{Goes, goes}
-use Rattle.keeper.specs.Adding.{is_cut, at_limit, not_at_end, is_due, no_entry_room, own_tests, add_tests, add_refusal, with_slot, used_after, trace_after}
+use Rattle.keeper.specs.Adding.{at_limit, is_due, own_tests, add_tests, add_refusal, with_slot, used_after, trace_after}
 
 -- What is known where nothing refuses an added slot.
 pub record Adds (s : State) (free : List Bool) (buffer : List ℕ) (used : ℕ) (summary : List ℕ) : Type 0 where

@@ -1,29 +1,25 @@
 -- Adding a slot at an end that was kept is adding it with a walk. Assumes nothing.
-use Prim.Native.Nat.{ℕ, zero, suc, ◌+◌, ◌≤◌, ◌<◌, min}
-use mathlib.Core.Path.{◌≡◌, refl, sym, ap, ap₂, ◌∙◌, subst}
-use mathlib.Core.List.{List, [], ◌∷◌}
-use mathlib.Core.Bool.{Bool, true, false, cond, not, ◌||◌}
+use Prim.Native.Nat.{ℕ, zero, suc, ◌+◌, ◌≤◌}
+use mathlib.Core.Path.{◌≡◌, refl, sym, ap, ap₂, ◌∙◌}
+use mathlib.Core.List.{List}
+use mathlib.Core.Bool.{Bool, false}
 use native.Mathlib.Omega.{arith}
 use borrow.Author.Tests.{le-ltb, ltb-false}
 use lib.Dec.{ltb}
-use lib.ListN.{length, get_or, take}
-use lib.Seq.{length-take-le, ext_get_or}
-use Rattle.facts.specs.Findings.{Finding, Test, first_found, NoneFound}
+use lib.ListN.{length, take}
+use lib.Seq.{length-take-le}
+use Rattle.facts.specs.Findings.{first_found, NoneFound}
 use Rattle.facts.specs.Zero.{if0}
 use Rattle.facts.proofs.Findings.{Alike, alike_in_turn, none_says_otherwise}
-use Rattle.facts.proofs.Counting.{counted_one_more}
 use Rattle.facts.proofs.Some.{none_if, each_fails}
 use Rattle.facts.proofs.Tests.{neither_holds}
 use Rattle.fields.specs.Fields.{shorter}
-use Rattle.table.specs.Limits.{row_limit}
 use Rattle.trace.specs.Raising.{raised}
-use Rattle.trace.specs.Records.{rows_at, past_record, place_of, first_place, slots_in, place_in, names, named_in, times_named}
-use Rattle.trace.specs.Shape.{slot_limit}
+use Rattle.trace.specs.Records.{rows_at, past_record, place_of, first_place, slots_in, place_in}
 use Rattle.trace.proofs.Records.{ends_before}
 use Rattle.trace.proofs.Agree.{rows_agree, rows_written}
 use Rattle.summary.specs.Summary.{counts_at, entry_bytes, entry_of}
 use Rattle.summary.specs.Question.{some_outside}
-use Rattle.summary.proofs.Summary.{counts_long, count_at}
 use Rattle.summary.proofs.Alike.{same_counts}
 use Rattle.summary.proofs.Raised.{raised_is_next}
 use Rattle.cores.specs.Sets.{size}
@@ -31,9 +27,9 @@ use Rattle.dispatcher.specs.declared.State.{State}
 use Rattle.dispatcher.specs.Slot.{picks_in, slot_tests, refusal}
 use Rattle.dispatcher.proofs.Kept.{goes}
 use Rattle.keeper.specs.declared.End.{End}
-use Rattle.keeper.specs.Adding.{is_cut, own_tests, add_tests, add_refusal, used_after, trace_after, added_reply, refused_reply, add_of}
-use Rattle.keeper.specs.End.{end_in, EndIs}
-use Rattle.keeper.specs.AddingAt.{own_tests_at, add_tests_at, end_after, add_at_refusal, added_reply_at, add_at_of, SameAsAdded, KeptEndAdds}
+use Rattle.keeper.specs.Adding.{is_cut, own_tests, add_refusal, used_after, trace_after, added_reply, refused_reply}
+use Rattle.keeper.specs.End.{EndIs}
+use Rattle.keeper.specs.AddingAt.{own_tests_at, end_after, add_at_refusal, added_reply_at, add_at_of, SameAsAdded, KeptEndAdds}
 use Rattle.keeper.proofs.Adding.{Adds, adds, end_inside, written, fits, four, place_was, new_long, new_agrees, old_agrees, place_stays, count_raised, past_written, place_last}
 use Rattle.keeper.proofs.Grown.{is_added, is_refused, added_number, added_is_not_refused}
 

@@ -1,7 +1,7 @@
 -- Adding a slot gives what building afresh gives. Assumes nothing.
 -- Every older entry is as it was, since the longer trace agrees with the old one; and the one entry that may be due is that of the longer trace.
-use Prim.Native.Nat.{ℕ, zero, suc, ◌+◌, ◌-◌, ◌*◌, ◌/◌, ◌%◌, ◌≤◌, ◌<◌}
-use mathlib.Core.Path.{◌≡◌, refl, sym, ap, ◌∙◌, subst}
+use Prim.Native.Nat.{ℕ, zero, suc, ◌+◌, ◌*◌, ◌/◌, ◌%◌, ◌≤◌, ◌<◌}
+use mathlib.Core.Path.{◌≡◌, refl, sym, ap, ◌∙◌}
 use mathlib.Core.List.{List, ◌++◌, append_assoc}
 use mathlib.Core.Bool.{Bool, true, false}
 use mathlib.Core.Logic.{◌↔◌, ◌⊎◌, inl, inr}
@@ -15,13 +15,11 @@ use lib.Seq.{take_at, take-append_seam, length-take-le, drop-drop}
 use Rattle.facts.specs.Findings.{first_found}
 use Rattle.facts.proofs.Findings.{said_exactly}
 use Rattle.facts.specs.Zero.{if0}
-use Rattle.fields.specs.Fields.{shorter}
 use Rattle.pd2.specs.Order.{before}
 use Rattle.pd2.specs.Picks.{picked}
 use Rattle.pd2.specs.Choice.{ready_in, goes_before_by}
-use Rattle.table.specs.Value.{rows_of}
 use Rattle.trace.specs.Record.{with_front, with_record}
-use Rattle.trace.specs.Records.{free_at, picked_at, past_record, first_place, slots_in, place_in}
+use Rattle.trace.specs.Records.{past_record, first_place, slots_in, place_in}
 use Rattle.trace.specs.Shape.{slot_limit, bad_rows, SoundRecord}
 use Rattle.trace.proofs.Records.{stand_from, ends_before}
 use Rattle.trace.proofs.Agree.{free_written, count_written, rows_written}
@@ -29,7 +27,7 @@ use Rattle.trace.proofs.Agreeing.{sound_too}
 use Rattle.trace.proofs.Rising.{listed_not_bad}
 use Rattle.summary.specs.Summary.{spacing, entry_size, entry_of, entries_of, entries_in, summary_of}
 use Rattle.summary.specs.Right.{WellFormedOver}
-use Rattle.summary.specs.Building.{ill_formed, build_number, build_of, built_in}
+use Rattle.summary.specs.Building.{build_of, built_in}
 use Rattle.summary.proofs.Summary.{entry_long, entries_long}
 use Rattle.summary.proofs.Alike.{same_entries}
 use Rattle.summary.proofs.Building.{ill_formed_exactly}
@@ -37,12 +35,12 @@ use Rattle.cores.specs.Sets.{size}
 use Rattle.cores.proofs.Sets.{size_within}
 use Rattle.dispatcher.specs.declared.State.{State}
 use Rattle.dispatcher.specs.State.{rows_in, quanta_in, time_of}
-use Rattle.dispatcher.specs.Slot.{favoured_in, picks_in, late_in, after_slot, done_reply, refusal, slot_of}
+use Rattle.dispatcher.specs.Slot.{favoured_in, picks_in, late_in, after_slot}
 use Rattle.dispatcher.proofs.Kept.{done_number, goes_back, slot_done}
 use Rattle.dispatcher.proofs.Placing.{picks_are_few}
-use Rattle.keeper.specs.Adding.{is_due, AddReply, add_tests, add_refusal, used_after, trace_after, with_due, added_reply, refused_reply, add_of}
+use Rattle.keeper.specs.Adding.{is_due, add_tests, add_refusal, used_after, trace_after, with_due, added_reply, refused_reply, add_of}
 use Rattle.keeper.specs.Grown.{Holds, AddedIsAfresh, AddedIsSlot, AddRefusalsAreFirstCauses, AddRefusalChangesNothing}
-use Rattle.keeper.proofs.Adding.{Adds, adds, IsAddRefusal, add_refusal_numbers, written, fits, was_long, four, place_was, written_long, new_long, new_agrees, old_agrees, places_in, place_stays, count_raised, past_written, place_last}
+use Rattle.keeper.proofs.Adding.{Adds, adds, IsAddRefusal, add_refusal_numbers, written, fits, four, place_was, written_long, new_long, new_agrees, old_agrees, places_in, place_stays, count_raised, past_written, place_last}
 
 module _ (s : State) (free : List Bool) (buffer : List ℕ) (used : ℕ) (summary : List ℕ) (A : Adds s free buffer used summary) where
   abbrev was : List ℕ

@@ -4,7 +4,7 @@ use Rattle.std.specs.Prelude.{ℕ, ◌+◌, ◌*◌, ◌/◌, ◌%◌, List, [],
 use Rattle.std.proofs.lemmas.List.Edits.{sets}
 use Rattle.facts.specs.Findings.{Test, ◌says◌, ◌then◌, first_found}
 use Rattle.facts.specs.Zero.{if0}
-use Rattle.fields.specs.Fields.{bytes_of, shorter}
+use Rattle.fields.specs.Fields.{bytes_of}
 use Rattle.trace.specs.Record.{with_record}
 use Rattle.trace.specs.Records.{first_place, slots_in}
 use Rattle.trace.specs.Said.{Said, bare}

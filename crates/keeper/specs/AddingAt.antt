@@ -1,6 +1,6 @@
 -- Adding a slot at the end of a trace that is handed in: whatever end that is, the trace itself is not looked at, and of its bytes only the record and the count are
 -- written. What this is with the end of another trace follows from the definition; with the end of this trace it is adding with a walk.
-use Rattle.std.specs.Prelude.{ℕ, ◌+◌, ◌/◌, ◌<◌, ◌≡◌, List, [], ◌∷◌, Bool, not, ◌||◌, ltb, eqb, length, take}
+use Rattle.std.specs.Prelude.{ℕ, ◌+◌, ◌<◌, ◌≡◌, List, [], ◌∷◌, Bool, not, ◌||◌, ltb, eqb, take}
 use Rattle.facts.specs.Findings.{Test, ◌says◌, ◌then◌, first_found}
 use Rattle.facts.specs.Zero.{if0}
 use Rattle.trace.specs.Raising.{raised}

@@ -1,7 +1,8 @@
 // Whoever keeps a trace: adds a slot to it and to its summary.
+#![tactic(auto)]
 
 // The end of a trace: how many slots it has, where its records end, and how many of them name each row. Only this crate makes one.
-#[derive(Drop)]
+#[derive(Clone, Copy)]
 pub struct End {
     slots: u32,
     place: usize,
@@ -9,7 +10,7 @@ pub struct End {
 }
 
 // The end of a trace, or that the trace is cut.
-#[derive(Drop)]
+#[derive(Clone, Copy)]
 pub struct Ended {
     pub cut: bool,
     pub end: End,

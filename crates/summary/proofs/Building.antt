@@ -1,20 +1,17 @@
 -- When a trace is not well formed, as one test. Assumes nothing.
-use Prim.Native.Nat.{ℕ, ◌<◌}
-use mathlib.Core.Path.{◌≡◌, ap}
+use Prim.Native.Nat.{ℕ}
+use mathlib.Core.Path.{◌≡◌}
 use mathlib.Core.List.{List}
-use mathlib.Core.Bool.{Bool, true, false, not, ◌||◌}
-use mathlib.Core.Logic.{◌↔◌}
+use mathlib.Core.Bool.{false, not}
 use borrow.Author.Tests.{eqb-true, eq-eqb, not-false}
 use lib.Dec.{eqb}
 use lib.ListN.{length}
 use Rattle.facts.specs.Counting.{some}
 use Rattle.facts.proofs.Some.{none_if, each_fails}
 use Rattle.facts.proofs.Tests.{neither_holds}
-use Rattle.table.specs.declared.Table.{Table}
 use Rattle.table.specs.Value.{fault_of, rows_of}
 use Rattle.trace.specs.Records.{slots_in, place_in}
 use Rattle.trace.specs.Shape.{slot_count_cut, too_long, head_cut, too_many_cores, too_many_rows, rows_cut, bad_row, extra, SoundRecord, WellFormedFor}
-use Rattle.summary.specs.Right.{WellFormedOver}
 use Rattle.summary.specs.Building.{bad_record, bad_trace, IllFormedExactly}
 
 -- for callers

@@ -1,6 +1,6 @@
 -- With a right summary a question is answered by what counting from slot 0 gives. Assumes nothing.
-use Prim.Native.Nat.{ℕ, zero, suc, ◌+◌, ◌*◌, ◌/◌, ◌%◌, ◌≤◌, ◌<◌, min}
-use mathlib.Core.Path.{◌≡◌, refl, sym, ap, ◌∙◌}
+use Prim.Native.Nat.{ℕ, ◌+◌, ◌*◌, ◌≤◌, ◌<◌, min}
+use mathlib.Core.Path.{◌≡◌, sym, ap, ◌∙◌}
 use mathlib.Core.List.{List}
 use mathlib.Core.Bool.{false}
 use native.Mathlib.Nat.{div-add-mod}
@@ -8,7 +8,6 @@ use native.Mathlib.Omega.{arith}
 use borrow.Author.Tests.{lt-ltb, le-ltb}
 use lib.ListN.{length}
 use Rattle.facts.specs.Findings.{first_found}
-use Rattle.facts.specs.Zero.{if0}
 use Rattle.facts.proofs.Findings.{said_exactly}
 use Rattle.facts.proofs.Some.{none_if}
 use Rattle.fields.specs.Fields.{shorter}

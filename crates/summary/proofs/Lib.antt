@@ -5,3 +5,4 @@ pub mod Raised
 pub mod FromZero
 pub mod Building
 pub mod Walking
+pub mod Determined

@@ -1,5 +1,5 @@
 -- The summary that a well-formed trace yields, and that there is no other. Assumes nothing.
-use Prim.Native.Nat.{ℕ, zero, suc, ◌+◌, ◌*◌, ◌/◌, ◌≤◌, ◌<◌}
+use Prim.Native.Nat.{ℕ, zero, suc, ◌+◌, ◌*◌, ◌≤◌, ◌<◌}
 use mathlib.Core.Path.{◌≡◌, refl, sym, ap, ap₂, ◌∙◌}
 use mathlib.Core.List.{List, ◌++◌, map, flat_map}
 use mathlib.Core.Bool.{true}
@@ -21,7 +21,7 @@ use Rattle.table.specs.Value.{rows_of}
 use Rattle.table.proofs.Taken.{sizes_are_within}
 use Rattle.trace.specs.Records.{free_at, picked_at, first_place, slots_in, place_of, place_in, times_named, named_in}
 use Rattle.trace.specs.Shape.{slot_limit}
-use Rattle.summary.specs.Summary.{spacing, entry_size, counts_at, entry_bytes, entry_of, entries_of, entries_in, summary_of, IsSummary}
+use Rattle.summary.specs.Summary.{spacing, entry_size, counts_at, entry_bytes, entry_of, entries_of, entries_in, IsSummary}
 use Rattle.summary.specs.Right.{WellFormedOver, YieldedIsSummary, NoOtherIsSummary}
 use Rattle.summary.proofs.Summary.{counts_long, count_at, entries_long, place_is_said, quanta_are_said}
 

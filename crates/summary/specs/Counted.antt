@@ -1,5 +1,4 @@
 -- What the question answers (02, Ten): 02's number for each case, and the quanta.
-use Rattle.std.specs.Prelude.{ℕ}
 use Rattle.summary.specs.declared.Counted.{Counted}
 use Rattle.summary.specs.declared.Counted.TheVariants.{Given, NoRow, PastCount, NoEntry}
 use Rattle.summary.specs.Question.{Reply}

@@ -1,5 +1,5 @@
 -- The question for row and time (02, Ten): "A question for row and time counts on from the last entry at or before that time."
-use Rattle.std.specs.Prelude.{ℕ, zero, suc, ◌+◌, ◌*◌, ◌/◌, ◌%◌, min, List, [], ◌∷◌, Bool, not, ◌||◌, ltb}
+use Rattle.std.specs.Prelude.{ℕ, ◌+◌, ◌*◌, ◌/◌, ◌%◌, min, List, [], ◌∷◌, Bool, not, ◌||◌, ltb}
 use Rattle.facts.specs.Counting.{some}
 use Rattle.facts.specs.Findings.{Test, ◌says◌, first_found}
 use Rattle.facts.specs.Zero.{if0}

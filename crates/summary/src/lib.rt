@@ -1,5 +1,7 @@
 // The summary of a trace: the question for a row's quanta before a time. An entry for each multiple of 1,024 slots says where the
 // next record begins and how often each row was named before, so that a question reads one entry and at most 1,023 records.
+#![tactic(auto)]
+
 mod question;
 
 ghost use Rattle.std.specs.Prelude.{◌≡◌};
@@ -9,7 +11,7 @@ ghost use Rattle.summary.specs.Counted.{reply_of};
 use counts::{Quanta, Slot};
 
 // What the question answers.
-#[derive(Drop)]
+#[derive(Clone, Copy)]
 pub enum Counted {
     Given(Quanta),
     NoRow,
@@ -18,7 +20,7 @@ pub enum Counted {
 }
 
 // Whether a summary was built, and how many entries it has.
-#[derive(Drop)]
+#[derive(Clone, Copy)]
 pub enum Built {
     Entries(u32),
     NotWellFormed,
@@ -26,7 +28,7 @@ pub enum Built {
 }
 
 // What a walk over records answers: how many of them name a row, or that one is not inside the trace.
-#[derive(Drop)]
+#[derive(Clone, Copy)]
 enum Walk {
     Times(u64),
     Outside,
