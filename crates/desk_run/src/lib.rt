@@ -1,5 +1,7 @@
-// What the desk's command for people links: many slots in one call, each with its own number of free cores, and the trace check with the row and the time
-// that it names.
+// What the desk's command for people links, by the crate desk_run_c: many slots in one call, each with its own number of free cores, and the trace check
+// with the row and the time that it names.
+#![tactic(auto)]
+
 mod entry;
 mod naming;
 
@@ -15,7 +17,7 @@ use dispatcher::State;
 const ENTRY_LENGTH: usize = 20;
 
 // The row and the time that an answer names; 0 where it names none.
-#[derive(Drop)]
+#[derive(Clone, Copy)]
 struct Named {
     row: u8,
     time: u64,
@@ -24,8 +26,7 @@ struct Named {
 // As many slots as the list has numbers and the buffer has room for, from a fresh state over the table on, entry i with the first list[i] cores free; the
 // time at the end. Each slot's entry stands behind the one before, and what is past the last entry stays as it was. A slot that is refused leaves the
 // state as it is, and the next entry is tried from there.
-#[unsafe(no_mangle)]
-pub extern "C" fn zb_run(table: &[u8], list: &[u8], entries: &mut [u8]) -> u64
+pub fn zb_run(table: &[u8], list: &[u8], entries: &mut [u8]) -> u64
     ensures value { result ≡ time_of (ran table.now list.now entries.old).state }
     ensures entries_after { entries.new ≡ (ran table.now list.now entries.old).bytes }
 {
@@ -50,8 +51,7 @@ fn least(a: usize, b: usize) -> usize
 
 // The trace check's number, with the row and the time that it names in the lent buffer: the row at place 0, the time in the eight bytes from place 1 on. What does
 // not fit is not written.
-#[unsafe(no_mangle)]
-pub extern "C" fn zb_judge(table: &[u8], trace: &[u8], place: &mut [u8]) -> u8
+pub fn zb_judge(table: &[u8], trace: &[u8], place: &mut [u8]) -> u8
     ensures value { result ≡ (check_of table.now trace.now).number }
     ensures place_after { place.new ≡ place_of (check_of table.now trace.now) place.old }
 {

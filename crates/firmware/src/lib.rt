@@ -1,11 +1,12 @@
-// What the board's C firmware calls: byte slices in, 01's number out. host/c/zbrojomir.h declares it for C.
+// What the board's C firmware calls, by the crate firmware_c: byte slices in, 01's number out. host/c/zbrojomir.h declares it for C.
+#![tactic(auto)]
+
 ghost use Rattle.std.specs.Prelude.{◌≡◌};
 ghost use Rattle.table.specs.Bytes.{table_number};
 ghost use Rattle.checker.specs.Check.{check_of};
 
 // 0 if these bytes are a table that is taken, else the number of the first fault met.
-#[unsafe(no_mangle)]
-pub extern "C" fn zb_table_check(table: &[u8]) -> u8
+pub fn zb_table_check(table: &[u8]) -> u8
     ensures { result ≡ table_number table.now }
 {
     let got = table::read(table);
@@ -13,8 +14,7 @@ pub extern "C" fn zb_table_check(table: &[u8]) -> u8
 }
 
 // 0 if the trace passes for the table, else the number of the table's refusal, or of what was first found in the trace.
-#[unsafe(no_mangle)]
-pub extern "C" fn zb_trace_check(table: &[u8], trace: &[u8]) -> u8
+pub fn zb_trace_check(table: &[u8], trace: &[u8]) -> u8
     ensures { result ≡ (check_of table.now trace.now).number }
 {
     let answer = checker::check(table, trace);

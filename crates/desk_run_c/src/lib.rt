@@ -1,0 +1,29 @@
+// The library that host/desk/run.c links: the functions of the crate desk_run under the same names.
+#![tactic(auto)]
+
+ghost use Rattle.std.specs.Prelude.{◌≡◌};
+ghost use Rattle.dispatcher.specs.State.{time_of};
+ghost use Rattle.checker.specs.Check.{check_of};
+ghost use Rattle.desk_run.specs.Run.{ran};
+ghost use Rattle.desk_run.specs.Judged.{place_of};
+
+// As many slots as the list has numbers and the buffer has room for, from a fresh state over the table on, entry i with the first list[i] cores free; the
+// time at the end. Each slot's entry stands behind the one before, and what is past the last entry stays as it was. A slot that is refused leaves the
+// state as it is, and the next entry is tried from there.
+#[unsafe(no_mangle)]
+pub extern "C" fn zb_run(table: &[u8], list: &[u8], entries: &mut [u8]) -> u64
+    ensures value { result ≡ time_of (ran table.now list.now entries.old).state }
+    ensures entries_after { entries.new ≡ (ran table.now list.now entries.old).bytes }
+{
+    desk_run::zb_run(table, list, entries)
+}
+
+// The trace check's number, with the row and the time that it names in the lent buffer: the row at place 0, the time in the eight bytes from place 1 on. What does
+// not fit is not written.
+#[unsafe(no_mangle)]
+pub extern "C" fn zb_judge(table: &[u8], trace: &[u8], place: &mut [u8]) -> u8
+    ensures value { result ≡ (check_of table.now trace.now).number }
+    ensures place_after { place.new ≡ place_of (check_of table.now trace.now) place.old }
+{
+    desk_run::zb_judge(table, trace, place)
+}
