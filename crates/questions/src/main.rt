@@ -31,24 +31,28 @@
 // | O: k (1), 32 marks, the length (4) of a part, | number (1: 0 written, 34 no room), and the part: with 0 the record of the    |
 // |    and its bytes                              | slot (k, how many rows are marked, their numbers rising) stands at its front |
 // |                                               | and every other byte is as before; with 34 it is as it came                  |
+#![tactic(auto)]
+
 mod answers;
 mod put;
 mod read;
 
-ghost use Rattle.std.specs.Prelude.{◌≡◌, ◌≤◌, min, length};
+ghost use Rattle.std.specs.Prelude.{◌≡◌, ◌≤◌, min, length, IfOk};
 
-use libc::{STDIN_FILENO, STDOUT_FILENO};
+use std::io;
+use std::io::Read;
 
 const INPUT_LIMIT: usize = 1_048_576;
 
-fn main() {
+fn main(rt: HostRuntime) -> io::Result<()> {
     let mut input = room();
-    let given = io::read_full(STDIN_FILENO, &mut input);
+    let given = read_full(&mut rt.reader(), &mut input)?;
     let within = least(given, INPUT_LIMIT);
-    let answered = answer_all(&mut input[..within]);
+    let answered = answer_all(&rt, &mut input[..within])?;
     if answered < given {
-        io::write_all(STDOUT_FILENO, &[255]);
+        rt.write_all(&[255])?;
     }
+    Ok(())
 }
 
 // One byte more than an input may have, so that a longer one is noticed.
@@ -58,40 +62,57 @@ fn room() -> [u8; INPUT_LIMIT + 1]
     [0; INPUT_LIMIT + 1]
 }
 
+// Reads until the buffer is full or the input ends, and says how many bytes stand at the front of the buffer. The only errors are those of a read:
+// the front of the buffer may then hold some of the input.
+fn read_full(input: &mut impl Read, buffer: &mut [u8]) -> io::Result<usize>
+    ensures { IfOk result (λ n. n ≤ length buffer.new) }
+{
+    let mut done: usize = 0;
+    while done < buffer.len() {
+        let got = input.read(&mut buffer[done..])?;
+        if got == 0 {
+            break;
+        }
+        done += got;
+    }
+    Ok(done)
+}
+
 fn least(a: usize, b: usize) -> usize
     ensures { result ≡ min a b }
 {
     if a < b { a } else { b }
 }
 
-// Answers the requests from the front on, and says where the first stands that is unknown or cut: at the end, if there is none.
-fn answer_all(requests: &mut [u8]) -> usize
-    ensures { result ≤ length requests.old }
+// Answers the requests from the front on, and says where the first stands that is unknown or cut: at the end, if there is none. The only errors are
+// those of a write to standard output, which ends the run.
+fn answer_all(rt: &impl Print, requests: &mut [u8]) -> io::Result<usize>
+    ensures { IfOk result (λ n. n ≤ length requests.old) }
 {
     let mut at: usize = 0;
     while at < requests.len() {
-        let length = answer(&mut requests[at..]);
+        let length = answer(rt, &mut requests[at..])?;
         if length == 0 {
-            return at;
+            return Ok(at);
         }
         at += length;
     }
-    at
+    Ok(at)
 }
 
-// Answers the request at the front, and says how many bytes it has: 0 if it is unknown or cut.
-fn answer(requests: &mut [u8]) -> usize
-    ensures { result ≤ length requests.old }
+// Answers the request at the front, and says how many bytes it has: 0 if it is unknown or cut. The only errors are those of a write.
+fn answer(rt: &impl Print, requests: &mut [u8]) -> io::Result<usize>
+    ensures { IfOk result (λ n. n ≤ length requests.old) }
 {
     let letter = fields::byte(requests, 0);
     match letter {
-        b'F' => answers::fresh(requests),
-        b'N' => answers::next(requests),
-        b'A' => answers::row(requests),
-        b'P' => answers::picks(requests),
-        b'L' => answers::late(requests),
-        b'G' => answers::give(requests),
-        b'O' => answers::record(requests),
-        _ => 0,
+        b'F' => answers::fresh(rt, requests),
+        b'N' => answers::next(rt, requests),
+        b'A' => answers::row(rt, requests),
+        b'P' => answers::picks(rt, requests),
+        b'L' => answers::late(rt, requests),
+        b'G' => answers::give(rt, requests),
+        b'O' => answers::record(rt, requests),
+        _ => Ok(0),
     }
 }

@@ -4,19 +4,19 @@ ghost use Rattle.std.specs.Prelude.{◌+◌, ◌≤◌};
 use cores::Placement;
 use counts::Quanta;
 use dispatcher::State;
-use libc::STDOUT_FILENO;
 use pd2::Verdict;
+use std::io;
 use table::{Row, Table};
 use windows::{Due, Moment};
 
 // How long the longest answer is: a state.
 pub(crate) const LONGEST: usize = 585;
 
-// Writes an answer that is so many bytes long.
-pub(crate) fn out(answer: [u8; LONGEST], length: usize)
+// Writes an answer that is so many bytes long. The only errors are those of the write: some of it may then be there.
+pub(crate) fn out(rt: &impl Print, answer: [u8; LONGEST], length: usize) -> io::Result<()>
     requires { length ≤ 585 }
 {
-    io::write_all(STDOUT_FILENO, &answer[..length]);
+    rt.write_all(&answer[..length])
 }
 
 // The lowest bytes of a number, little-endian, from place `at` on. It asks for room, so that none of them is lost.
