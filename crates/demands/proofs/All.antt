@@ -19,7 +19,7 @@ use Rattle.demands.proofs.WritingTables.{writing_tables}
 use Rattle.demands.proofs.WholeCore.{whole_core}
 use Rattle.demands.proofs.ShorterSlots.{shorter_slots}
 use Rattle.demands.proofs.KindTies.{kind_ties}
-use Rattle.demands.proofs.HeldBack.{held_back}
+use Rattle.demands.proofs.HeldBack.{one_core_held_back}
 
 pub all : All
 all =
@@ -43,5 +43,5 @@ all =
       whole_core = whole_core;
       shorter_slots = shorter_slots;
       kind_ties = kind_ties;
-      held_back = held_back;
+      held_back = one_core_held_back;
     }

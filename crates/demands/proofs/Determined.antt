@@ -2,13 +2,14 @@
 use Prim.Native.Nat.{min}
 use lib.ListN.{take}
 use mathlib.Core.Path.{sym, ◌∙◌}
-use Rattle.facts.proofs.Determined.{by_value, both_by_value}
+use Rattle.facts.proofs.Determined.{by_meaning, by_value, both_by_value}
 use Rattle.counts.proofs.Determined.{slot_is_determined, quanta_is_determined, subtask_is_determined}
 use Rattle.windows.proofs.Question.{window_is_determined}
 use Rattle.windows.proofs.Next.{next_due_is_determined}
 use Rattle.pd2.specs.Ready.{origin_of}
 use Rattle.pd2.proofs.Rows.{give_is_determined, lowest_late_is_determined}
-use Rattle.trace.proofs.Determined.{write_is_determined, record_is_determined_but_for_its_name}
+use Rattle.trace.proofs.Determined.{write_is_determined, reference_is_determined, shape_is_determined}
+use Rattle.summary.proofs.Determined.{question_is_determined}
 use Rattle.counts.specs.Numbers.{numbers_of}
 use Rattle.choice.specs.Choice.{favours_marked, chosen}
 use Rattle.choice.specs.Keys.{key_in}
@@ -38,6 +39,7 @@ every_promise_determines =
       fields_byte = λ s at. by_value;
       fields_half = λ s at. by_value;
       fields_word = λ s at. by_value;
+      fields_long = λ s at. by_value;
       fields_put = λ s at width number. both_by_value;
       windows_window = λ e p f i. window_is_determined e p f i.0;
       windows_window_by_walk = λ e p f i. window_is_determined e p f i.0;
@@ -56,8 +58,12 @@ every_promise_determines =
       pd2_give = λ quanta marks. give_is_determined marks quanta;
       pd2_lowest_late = λ rows quanta n time. lowest_late_is_determined rows quanta (min n 32) time.0;
       trace_write = λ part free marks. write_is_determined part free marks;
-      trace_record_but_for_its_name = λ trace at slot name. record_is_determined_but_for_its_name (record { ref_ptr = at; now = trace }) slot.0 name;
+      trace_record = λ trace at slot. reference_is_determined (record { ref_ptr = at; now = trace }) slot.0;
       trace_begins = λ trace slot. by_value;
+      trace_length_inside = λ trace start. by_value;
+      trace_shape = λ cores n trace at. shape_is_determined cores n trace at;
+      trace_raise = λ trace place counts. by_value;
+      summary_quanta_before = λ n trace summary row time. question_is_determined n trace summary row time.0;
       choice_picks = λ rows quanta favoured n time k. picks_are_determined (chosen (take n rows) (numbers_of quanta) (favours_marked favoured) time.0 (min k 8));
       choice_first_left = λ keys n k. first_left_is_determined (key_in keys) (min n 32) (min k 8);
       cores_placement_nobody = by_value;
@@ -73,6 +79,7 @@ every_promise_determines =
       dispatcher_state_favoured = λ self. by_value;
       dispatcher_state_slot = λ self free buffer place a b p q.
           dispatcher.slot_is_determined self free buffer place a b (p.0, (p.1, (p.2, p.3))) (q.0, (q.1, (q.2, q.3)));
+      dispatcher_state_refusal = λ self free buffer place. by_meaning dispatcher.answers_tell_apart;
       why_answer_told = λ self. by_value;
       why_of_row = λ state k row. by_value;
       checker_check = λ table trace. check_is_determined table trace;

@@ -258,8 +258,8 @@ printers_shut_out =
           omega (arith, ap (λ text. get_or text 0 0) (sym unlisted_is_printed ∙ same));
     }
 
-pub held_back : HeldBack
-held_back =
+pub one_core_held_back : HeldBack
+one_core_held_back =
     record {
       uses = uses;
       full_list = full_list_prints_as_before;

@@ -102,7 +102,7 @@ module _ (table : Table) (c : ℕ) (sound : fault_of table ≡ 0) where
   from_fresh _ (WithAtMost.step s x buffer place from most not_late) = FromFresh.step s x buffer place (from_fresh s from) not_late
 
   -- After F slots every row has begun. K cycles later each must have had K times its quanta of a cycle, which is K·(c·L + 1) together at least, and c cores have given
-  -- c·(F + L-as-K). That is too little once K is above c·F.
+  -- c·(F + L·K). That is too little once K is above c·F.
   module _ (F : ℕ) (full : c * table.cycle < load table.cycle (rows_of table)) (begun : (i : ℕ) → i < n → (row_at (rows_of table) i).phase ≤ F) where
     abbrev K : ℕ
     K = c * F + 1

@@ -1,5 +1,5 @@
 -- Laws of the cores (02, One): part of specs/Laws.antt.
-use Rattle.std.specs.Prelude.{ℕ, List, [], ◌∷◌, ◌++◌, true, false, replicate}
+use Rattle.std.specs.Prelude.{ℕ, List, [], ◌∷◌, true, false, replicate}
 use Rattle.table.specs.declared.Table.{Table}
 use Rattle.trace.specs.Said.{bare, named}
 use Rattle.cores.specs.declared.Placement.{Placement}

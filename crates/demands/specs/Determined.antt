@@ -1,5 +1,5 @@
 -- Any two results that a promise allows are equal (01, "What the statements must say"): state, buffer and refused answers included.
-use Rattle.std.specs.Prelude.{ℕ, ◌≡◌, List, Bool}
+use Rattle.std.specs.Prelude.{ℕ, List, Bool}
 use Rattle.facts.specs.Determined.{Determined}
 use Rattle.counts.specs.declared.Slot.{Slot}
 use Rattle.counts.specs.declared.Quanta.{Quanta}
@@ -16,7 +16,7 @@ use Rattle.dispatcher.specs.declared.Outcome.{Outcome}
 use Rattle.why.specs.declared.Answer.{Answer as WhyAnswer}
 use Rattle.checker.specs.declared.Answer.{Answer as Checked}
 use Rattle.printer.specs.declared.Printed.{Printed}
-use Rattle.demands.specs.Promises.{counts·Slot·at, counts·Slot·time, counts·Slot·later, counts·Slot·before, counts·Slot·since, counts·Quanta·of, counts·Quanta·count, counts·Quanta·one_more, counts·Quanta·next_subtask, counts·Subtask·numbered, counts·Subtask·number, counts·Subtask·next, counts·Subtask·quanta_before, fields·byte, fields·half, fields·word, fields·put, windows·window, windows·window_by_walk, windows·next_due, windows·next_start, windows·next_job_start, windows·next_group_deadline, table·read, table·fault, table·write, pd2·Verdict·is_yes, pd2·origin, pd2·ready, pd2·late, pd2·within, pd2·give, pd2·lowest_late, trace·write, trace·record, trace·begins, choice·picks, choice·first_left, cores·Placement·nobody, cores·Placement·is_faulty, cores·Placement·ran, cores·how_many, cores·names_past, cores·first, cores·place, dispatcher·Answer·told, dispatcher·State·fresh, dispatcher·State·is_broken, dispatcher·State·favoured, dispatcher·State·slot, why·Answer·told, why·of_row, checker·check, checker·number, firmware·zb_table_check, firmware·zb_trace_check, printer·Printed·length, printer·print, slots_run·zb_slots, desk_run·zb_run, desk_run·zb_judge}
+use Rattle.demands.specs.Promises.{counts·Slot·at, counts·Slot·time, counts·Slot·later, counts·Slot·before, counts·Slot·since, counts·Quanta·of, counts·Quanta·count, counts·Quanta·one_more, counts·Quanta·next_subtask, counts·Subtask·numbered, counts·Subtask·number, counts·Subtask·next, counts·Subtask·quanta_before, fields·byte, fields·half, fields·word, fields·long, fields·put, windows·window, windows·window_by_walk, windows·next_due, windows·next_start, windows·next_job_start, windows·next_group_deadline, table·read, table·fault, table·write, pd2·Verdict·is_yes, pd2·origin, pd2·ready, pd2·late, pd2·within, pd2·give, pd2·lowest_late, trace·write, trace·record, trace·begins, trace·length_inside, trace·shape, trace·raise, summary·quanta_before, choice·picks, choice·first_left, cores·Placement·nobody, cores·Placement·is_faulty, cores·Placement·ran, cores·how_many, cores·names_past, cores·first, cores·place, dispatcher·Answer·told, dispatcher·State·fresh, dispatcher·State·is_broken, dispatcher·State·favoured, dispatcher·State·slot, dispatcher·State·refusal, why·Answer·told, why·of_row, checker·check, checker·number, firmware·zb_table_check, firmware·zb_trace_check, printer·Printed·length, printer·print, slots_run·zb_slots, desk_run·zb_run, desk_run·zb_judge}
 
 pub record EveryPromiseDetermines : Type 0 where
   pub counts_slot_at : (time : ℕ) → Determined (counts·Slot·at time)
@@ -35,6 +35,7 @@ pub record EveryPromiseDetermines : Type 0 where
   pub fields_byte : (s : List ℕ) (at : ℕ) → Determined (fields·byte s at)
   pub fields_half : (s : List ℕ) (at : ℕ) → Determined (fields·half s at)
   pub fields_word : (s : List ℕ) (at : ℕ) → Determined (fields·word s at)
+  pub fields_long : (s : List ℕ) (at : ℕ) → Determined (fields·long s at)
   pub fields_put : (s : List ℕ) (at width number : ℕ) → Determined {R = ℕ × List ℕ} (λ r. fields·put s at width number r.0 r.1)
   pub windows_window : (e p f : ℕ) (i : Subtask) → Determined (windows·window e p f i)
   pub windows_window_by_walk : (e p f : ℕ) (i : Subtask) → Determined (windows·window_by_walk e p f i)
@@ -53,9 +54,12 @@ pub record EveryPromiseDetermines : Type 0 where
   pub pd2_give : (quanta : List Quanta) (marks : List Bool) → Determined (pd2·give quanta marks)
   pub pd2_lowest_late : (rows : List Row) (quanta : List Quanta) (n : ℕ) (time : Slot) → Determined (pd2·lowest_late rows quanta n time)
   pub trace_write : (part : List ℕ) (free : ℕ) (marks : List Bool) → Determined {R = Stored × List ℕ} (λ r. trace·write part free marks r.0 r.1)
-  -- the one exception: a reference has a name in the proofs, which no program sees and no equation can say; with that given it is determined
-  pub trace_record_but_for_its_name : (trace : List ℕ) (trace_ptr : ℕ × ℕ) (slot : Slot) (name : ℕ) → Determined (λ r. (r.name ≡ name) × trace·record trace trace_ptr slot r)
+  pub trace_record : (trace : List ℕ) (trace_ptr : ℕ × ℕ) (slot : Slot) → Determined (trace·record trace trace_ptr slot)
   pub trace_begins : (trace : List ℕ) (slot : Slot) → Determined (trace·begins trace slot)
+  pub trace_length_inside : (trace : List ℕ) (start : ℕ) → Determined (trace·length_inside trace start)
+  pub trace_shape : (cores n : ℕ) (trace : List ℕ) (at : ℕ) → Determined (trace·shape cores n trace at)
+  pub trace_raise : (trace : List ℕ) (place : ℕ) (counts : List ℕ) → Determined (trace·raise trace place counts)
+  pub summary_quanta_before : (n : ℕ) (trace summary : List ℕ) (row : ℕ) (time : Slot) → Determined (summary·quanta_before n trace summary row time)
   pub choice_picks : (rows : List Row) (quanta : List Quanta) (favoured : List Bool) (n : ℕ) (time : Slot) (k : ℕ) → Determined (choice·picks rows quanta favoured n time k)
   pub choice_first_left : (keys : List ℕ) (n k : ℕ) → Determined (choice·first_left keys n k)
   pub cores_placement_nobody : Determined cores·Placement·nobody
@@ -70,6 +74,7 @@ pub record EveryPromiseDetermines : Type 0 where
   pub dispatcher_state_is_broken : (self : State) → Determined (dispatcher·State·is_broken self)
   pub dispatcher_state_favoured : (self : State) → Determined (dispatcher·State·favoured self)
   pub dispatcher_state_slot : (self : State) (free : List Bool) (buffer : List ℕ) (place : ℕ) → Determined {R = Outcome × List ℕ} (λ r. dispatcher·State·slot self free buffer place r.0 r.1)
+  pub dispatcher_state_refusal : (self : State) (free : List Bool) (buffer : List ℕ) (place : ℕ) → Determined (dispatcher·State·refusal self free buffer place)
   pub why_answer_told : (self : WhyAnswer) → Determined (why·Answer·told self)
   pub why_of_row : (state : State) (k row : ℕ) → Determined (why·of_row state k row)
   pub checker_check : (table trace : List ℕ) → Determined (checker·check table trace)

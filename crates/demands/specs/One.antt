@@ -9,7 +9,6 @@ use Rattle.windows.specs.declared.Due.TheVariants as due
 use Rattle.windows.specs.declared.Moment.TheVariants as moment
 use Rattle.windows.specs.Next.{next_due, next}
 use Rattle.table.specs.declared.Row.{Row}
-use Rattle.table.specs.declared.Table.{Table}
 use Rattle.table.specs.Value.{fault_of}
 use Rattle.table.specs.Bytes.{table_number, table_in, reading}
 use Rattle.table.specs.Taken.{NumbersAreFirstCauses, NumbersAre10To22, TakenWhereNoCause, PastIsZero}

@@ -1,5 +1,5 @@
 -- The promise of every public function, crate by crate, as its contract says it: which results it allows. A slice that is lent stands for the bytes
--- it holds at the call; where a function writes, `-after` has those it holds afterwards. The gate compares each with the contract in the source.
+-- it holds at the call; where a function writes, `_new` has those it holds afterwards. The gate compares each with the contract in the source.
 use Rattle.std.specs.Prelude.{ℕ, ◌+◌, ◌-◌, ◌≤◌, min, ◌≡◌, List, Bool, length, take}
 use Rattle.std.proofs.lemmas.List.Edits.{sets}
 use Rattle.std.specs.Borrow.{Bor}
@@ -9,7 +9,7 @@ use Rattle.counts.specs.declared.Quanta.{Quanta}
 use Rattle.counts.specs.declared.Subtask.{Subtask}
 use Rattle.counts.specs.Limits.{kept}
 use Rattle.counts.specs.Numbers.{numbers_of}
-use Rattle.fields.specs.Fields.{byte, half, word, bytes_of}
+use Rattle.fields.specs.Fields.{byte, half, word, bytes_of, number_at}
 use Rattle.windows.specs.declared.Answer.{Answer as Window}
 use Rattle.windows.specs.declared.Due.{Due}
 use Rattle.windows.specs.declared.Moment.{Moment}
@@ -30,8 +30,17 @@ use Rattle.pd2.specs.Share.{within}
 use Rattle.pd2.specs.Verdict.{is_yes, answered, verdict}
 use Rattle.pd2.specs.Rows.{GaveMarked, says_late_in}
 use Rattle.trace.specs.declared.Stored.{Stored}
+use Rattle.trace.specs.declared.Shaped.{Shaped}
+use Rattle.trace.specs.Said.{bare}
+use Rattle.trace.specs.Records.{rows_at}
+use Rattle.trace.specs.Search.{length_inside}
+use Rattle.trace.specs.Shaped.{shaped_of, shape_of}
+use Rattle.trace.specs.Raising.{raised}
 use Rattle.trace.specs.Record.{record_of, marked, stored_number, write_number, part_after}
 use Rattle.trace.specs.Found.{part_found, part_begins}
+use Rattle.summary.specs.declared.Counted.{Counted}
+use Rattle.summary.specs.Counted.{reply_of as quanta_reply_of}
+use Rattle.summary.specs.Question.{reply_to}
 use Rattle.choice.specs.Choice.{favours_marked, chosen}
 use Rattle.choice.specs.Keys.{key_in, FirstLeft}
 use Rattle.cores.specs.declared.Placement.{Placement}
@@ -45,7 +54,7 @@ use Rattle.dispatcher.specs.declared.Told.{Told}
 use Rattle.dispatcher.specs.declared.Outcome.{Outcome}
 use Rattle.dispatcher.specs.State.{time_of, fresh_of}
 use Rattle.dispatcher.specs.Answer.{said_of, said_by}
-use Rattle.dispatcher.specs.Slot.{slot_of}
+use Rattle.dispatcher.specs.Slot.{slot_of, refusal}
 use Rattle.dispatcher.specs.Favoured.{favoured_marks}
 use Rattle.dispatcher.specs.Broken.{broken}
 use Rattle.why.specs.declared.Answer.{Answer as WhyAnswer}
@@ -127,6 +136,10 @@ fields·half s at r = r ≡ half s at
 abbrev pub fields·word : List ℕ → ℕ → ℕ → Type 0
 fields·word s at r = r ≡ word s at
 
+-- fields::long
+abbrev pub fields·long : List ℕ → ℕ → ℕ → Type 0
+fields·long s at r = r ≡ number_at 8 s at
+
 -- fields::put
 abbrev pub fields·put : List ℕ → ℕ → ℕ → ℕ → ℕ → List ℕ → Type 0
 fields·put s at width number r s_new = (r ≡ min width (length s - at)) × (s_new ≡ sets s at (bytes_of width number))
@@ -199,13 +212,29 @@ pd2·lowest_late rows quanta n time r = Lowest (says_late_in rows (numbers_of qu
 abbrev pub trace·write : List ℕ → ℕ → List Bool → Stored → List ℕ → Type 0
 trace·write part free marks r part_new = (stored_number r ≡ write_number part (record_of free (marked marks))) × (part_new ≡ part_after part (record_of free (marked marks)))
 
--- trace::record; `trace-ptr` is where the lent trace lies: a block of memory, and a place in it
+-- trace::record; `trace_ptr` is where the lent trace lies: a block of memory, and a place in it
 abbrev pub trace·record : List ℕ → ℕ × ℕ → Slot → Bor (List ℕ) → Type 0
 trace·record trace trace_ptr slot r = (r.now ≡ part_found trace slot.0) × ((r.ref_ptr.0 ≡ trace_ptr.0) × (r.ref_ptr.1 ≡ trace_ptr.1 + part_begins trace slot.0))
 
 -- trace::begins
 abbrev pub trace·begins : List ℕ → Slot → ℕ → Type 0
 trace·begins trace slot r = r ≡ part_begins trace slot.0
+
+-- trace::length_inside
+abbrev pub trace·length_inside : List ℕ → ℕ → ℕ → Type 0
+trace·length_inside trace start r = r ≡ length_inside trace start
+
+-- trace::shape
+abbrev pub trace·shape : ℕ → ℕ → List ℕ → ℕ → Shaped → Type 0
+trace·shape cores n trace at r = shaped_of r ≡ shape_of cores n trace at
+
+-- trace::raise
+abbrev pub trace·raise : List ℕ → ℕ → List ℕ → List ℕ → Type 0
+trace·raise trace place counts counts_new = counts_new ≡ raised (rows_at trace place) 0 counts
+
+-- summary::quanta_before
+abbrev pub summary·quanta_before : ℕ → List ℕ → List ℕ → ℕ → Slot → Counted → Type 0
+summary·quanta_before n trace summary row time r = quanta_reply_of r ≡ reply_to n trace summary row time.0
 
 -- choice::picks
 abbrev pub choice·picks : List Row → List Quanta → List Bool → ℕ → Slot → ℕ → List Bool → Type 0
@@ -268,6 +297,10 @@ dispatcher·State·slot self free buffer place r buffer_new =
     × (r.state ≡ (slot_of self free buffer place).state)
     × (buffer_new ≡ (slot_of self free buffer place).bytes)
 
+-- dispatcher::State::refusal
+abbrev pub dispatcher·State·refusal : State → List Bool → List ℕ → ℕ → Answer → Type 0
+dispatcher·State·refusal self free buffer place r = said_of r ≡ bare (refusal self free buffer place)
+
 -- why::Answer::told
 abbrev pub why·Answer·told : WhyAnswer → ToldWhy → Type 0
 why·Answer·told self r = r ≡ told_of self
@@ -312,4 +345,4 @@ desk_run·zb_run table list entries r entries_new = (r ≡ time_of (ran table li
 
 -- desk_run::zb_judge
 abbrev pub desk_run·zb_judge : List ℕ → List ℕ → List ℕ → ℕ → List ℕ → Type 0
-desk_run·zb_judge table trace place r place_after = (r ≡ (check_of table trace).number) × (place_after ≡ place_of (check_of table trace) place)
+desk_run·zb_judge table trace place r place_new = (r ≡ (check_of table trace).number) × (place_new ≡ place_of (check_of table trace) place)
