@@ -1,7 +1,7 @@
 /*
  * zbrojomir.h: the proved checks, for the board's C firmware.
  *
- * Link libfirmware.a, which `rt staticlib firmware` makes for x86-64. Its code is proved: for every input each function answers what
+ * Link libfirmware.a, which `host/build firmware` makes for x86-64. Its code is proved: for every input each function answers what
  * its comment says. It calls nothing of yours, and nothing of the C library but memcpy, memmove, memset and memcmp.
  *
  * What holds for every function here:

@@ -70,8 +70,10 @@ class Page(unittest.TestCase):
     here, later = PAGE.split("\n## Not here yet\n")
 
     def test_numbers_are_those_of_the_definitions(self) -> None:
-        specs = "\n".join(path.read_text(encoding="utf-8") for path in sorted((ROOT / "crates").glob("*/specs/*.antt")) if "demands" not in path.parts)
-        forms = [r"\bsays ([0-9]+)", r"\b(?:bare|named) ([0-9]+)", r"\bfaultNumber [A-Za-z]+ = ([0-9]+)", r"\bnumber = ([0-9]+)", r"= told ([0-9]+)"]
+        # the numbers of summary and keeper are of a later request: no command answers them yet
+        others = {"demands", "summary", "keeper"}
+        specs = "\n".join(path.read_text(encoding="utf-8") for path in sorted((ROOT / "crates").glob("*/specs/*.antt")) if not others & {*path.parts})
+        forms = [r"\bsays ([0-9]+)", r"\b(?:bare|named) ([0-9]+)", r"\bfault_number [A-Za-z]+ = ([0-9]+)", r"\bnumber = ([0-9]+)", r"= told ([0-9]+)"]
         defined = {int(number) for form in forms for number in re.findall(form, specs)}
         self.assertEqual(page_numbers(self.here), defined)
 
@@ -102,7 +104,7 @@ class Page(unittest.TestCase):
         self.assertEqual((words.of_number(99), words.answer(99)), ("99", "99"))
 
 
-@unittest.skipUnless((ROOT / "target" / "bin" / "probe").exists(), "target/bin/probe is not built: rt check probe")
+@unittest.skipUnless((ROOT / "target" / "bin" / "probe").exists(), "target/bin/probe is not built: host/build probe")
 class AgainstProbe(unittest.TestCase):
     def answered(self, request: bytes) -> int:
         return subprocess.run(RUN, input=request, capture_output=True, check=True).stdout[0]
