@@ -4,20 +4,13 @@ use borrow.Author.Rules.{rules}
 use lib.ListN.{length}
 use Rattle.pd2.proofs.Rows.{giving_begins, gives_marked, gives_no_unmarked, all_gone_through}
 use Rattle.pd2.proofs.give.Goals as goal
-use Rattle.pd2.proofs.give.Goals.{then-marks-i, else-marks-i}
 
 pub loop-i-init : goal.loop-i-init
 loop-i-init c = (giving_begins _ _, omega arith)
 
+-- (a marked place and one that is not: the search takes each branch and its lemma)
 pub loop-i-preserved : goal.loop-i-preserved
-loop-i-preserved c =
-    let so = c.loop-i.invariant.0 in
-    let l = c.loop-i-test.true in
-    let long : length c.args.quanta ≡ 32 = search rules in
-    elim c.if-marks-i.branch [
-      | then-marks-i w ↦ rw w.quanta-is (gives_marked _ _ so (omega (arith, l, long)) w.if-marks-i.true _ _ w.one_more.ensures (omega (arith, l, long, so.places)), omega (arith, l))
-      | else-marks-i w ↦ rw w.quanta-is (gives_no_unmarked _ _ so w.if-marks-i.false, omega (arith, l))
-    ]
+loop-i-preserved c = search (rules, gives_marked, gives_no_unmarked)
 
 pub returns : goal.returns
 returns c =
