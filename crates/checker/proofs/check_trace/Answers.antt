@@ -21,7 +21,8 @@ begin-requires c = (c.requires, (length-replicate {A = ℕ} 32 0, length-replica
 
 pub loop-slot-init : goal.loop-slot-init
 loop-slot-init c =
-    let come : Come c.args.table c.args.trace.now c.word-slots.result 0 4 c.begin.new.starts c.begin.new.rests c.begin.new.dues = check_begins c.args.table c.args.trace.now c.if-trace-lt4.false c.word-slots.ensures c.if-slots-gt-SLOT_LIMIT.false c.begin.ensures in
+    let come : Come c.args.table c.args.trace.now c.word-slots.result 0 4 c.begin.new.starts c.begin.new.rests c.begin.new.dues =
+    check_begins c.args.table c.args.trace.now c.if-trace-lt4.false c.word-slots.ensures c.if-slots-gt-SLOT_LIMIT.false c.begin.ensures in
     record {
       come = come;
       left = bytes_are_left c.args.table c.args.trace.now come;
