@@ -18,3 +18,4 @@ pub mod Places
 pub mod RunKept
 pub mod Written
 pub mod Determined
+pub mod Due

@@ -126,6 +126,7 @@ impl State {
     }
 
     // The rows that go first among full ties, as marks: in format 2 those that ran in the slot before, in format 1 none.
+    #[tactic(auto, using(crate::proofs::Favoured::kind_marks, crate::proofs::Favoured::no_marks))]
     pub fn favoured(self) -> [bool; 32]
         ensures { result ≡ favoured_marks self }
     {

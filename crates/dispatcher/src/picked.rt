@@ -46,6 +46,7 @@ fn put_rows(part: &mut [u8], keys: &[u64; 32], found: usize, first: u64)
 
 // The lowest row that is late after the slot, or n where none is: a row that is left out and due at the slot's end. If the first that is left out is due later, so
 // are all.
+#[tactic(auto, using(crate::proofs::Due::all_later_then))]
 pub(crate) fn lowest_late(keys: &[u64; 32], found: usize, first: u64, slot: Slot, n: u8) -> u8
     requires { (found ≤ 32) × (slot.0 ≤ time_limit) }
     ensures { LateRow keys.now found first (later_keys slot.0) n result }

@@ -120,6 +120,7 @@ fn find(trace: &[u8], slot: u64) -> Place
 }
 
 // Walks from record to record, and ends at the slot's own or at one that is cut.
+#[tactic(auto, using(crate::proofs::Search::walk_cut))]
 fn walk(trace: &[u8], slot: u64) -> Place
     ensures { result ≡ place_inside trace.now slot }
 {
