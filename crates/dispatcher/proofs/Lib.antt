@@ -19,3 +19,4 @@ pub mod RunKept
 pub mod Written
 pub mod Determined
 pub mod Due
+pub mod Judging

@@ -169,6 +169,7 @@ impl State {
     }
 
     // The refusal that is met, for a buffer of so many bytes; Done where none is, with the keys of the rows that are ready.
+    #[tactic(auto, using(crate::proofs::Judging::at_limit_then))]
     fn cause(self, free: [bool; 32], len: usize, place: usize, ready: &mut [u64; 32]) -> Cause
         requires { length ready.old ≡ 32 }
         ensures { CauseIs self free len place result.answer ready.new result.found }
