@@ -66,46 +66,46 @@ returns-in_default c =
     record { answer_value = all_hold.0; placed_value = all_hold.1.0; state_value = all_hold.1.1.0; buffer_after = all_hold.1.1.1 }
 
 pub slice_bounds-put_record-count : goal.slice_bounds-put_record-count
-slice_bounds-put_record-count c = (admitted c.cause-cause.ensures c.in-Done.is).inside
+slice_bounds-put_record-count c = (admitted c.cause-cause.ensures (search rules)).inside
 
 pub put_record-requires : goal.put_record-requires
 put_record-requires c =
     let a = c.args in
-    let so = admitted c.cause-cause.ensures c.in-Done.is in
-    let ready = keys_ready c.cause-cause.ensures c.in-Done.is in
+    let so = admitted c.cause-cause.ensures (search rules) in
+    let ready = keys_ready c.cause-cause.ensures (search rules) in
     let all = c.how_many-k.ensures.0 in
-    let first = first_left a.self a.free a.buffer.now a.place c.cause-cause.ensures c.in-Done.is all c.first_left-first.ensures in
+    let first = first_left a.self a.free a.buffer.now a.place c.cause-cause.ensures (search rules) all c.first_left-first.ensures in
     let room = has_room a.self a.free a.buffer.now a.place so ready all first c.picked_of-picked.ensures in
     (ready.few, as_many_picked a.self a.free a.buffer.now a.place so ready all first c.picked_of-picked.ensures, rw (lent_from a.buffer.now a.place, length-drop a.place a.buffer.now) room)
 
 pub lowest_late-late-requires : goal.lowest_late-late-requires
-lowest_late-late-requires c = ((keys_ready c.cause-cause.ensures c.in-Done.is).few, omega (arith, (admitted c.cause-cause.ensures c.in-Done.is).slot_left))
+lowest_late-late-requires c = ((keys_ready c.cause-cause.ensures (search rules)).few, omega (arith, (admitted c.cause-cause.ensures (search rules)).slot_left))
 
 pub cores_for-placed-requires : goal.cores_for-placed-requires
 cores_for-placed-requires c =
     let a = c.args in
-    let so = admitted c.cause-cause.ensures c.in-Done.is in
+    let so = admitted c.cause-cause.ensures (search rules) in
     record_inside a.self a.free a.buffer.now a.place (goes_on a.self a.free a.buffer.now a.place so)
-    (stands a.self a.free a.buffer.now a.place c.cause-cause.ensures c.in-Done.is c.how_many-k.ensures.0 c.first_left-first.ensures c.put_record.ensures)
+    (stands a.self a.free a.buffer.now a.place c.cause-cause.ensures (search rules) c.how_many-k.ensures.0 c.first_left-first.ensures c.put_record.ensures)
 
 pub one_on-requires : goal.one_on-requires
 one_on-requires c =
     let a = c.args in
-    let so = admitted c.cause-cause.ensures c.in-Done.is in
+    let so = admitted c.cause-cause.ensures (search rules) in
     let all = c.how_many-k.ensures.0 in
     let w = is_whole _ so.whole in
     let usable = is_usable a.self w (in_place a.self w.table (search rules) (search rules)) in
-    can_step a.self a.free a.buffer.now a.place so (keys_ready c.cause-cause.ensures c.in-Done.is) all
-    (first_left a.self a.free a.buffer.now a.place c.cause-cause.ensures c.in-Done.is all c.first_left-first.ensures)
+    can_step a.self a.free a.buffer.now a.place so (keys_ready c.cause-cause.ensures (search rules)) all
+    (first_left a.self a.free a.buffer.now a.place c.cause-cause.ensures (search rules) all c.first_left-first.ensures)
     usable
-    (stands a.self a.free a.buffer.now a.place c.cause-cause.ensures c.in-Done.is all c.first_left-first.ensures c.put_record.ensures)
+    (stands a.self a.free a.buffer.now a.place c.cause-cause.ensures (search rules) all c.first_left-first.ensures c.put_record.ensures)
     c.lowest_late-late.ensures
 
 pub returns : goal.returns
 returns c =
     let a = c.args in
-    let so = admitted c.cause-cause.ensures c.in-Done.is in
-    let stands = stands a.self a.free a.buffer.now a.place c.cause-cause.ensures c.in-Done.is c.how_many-k.ensures.0 c.first_left-first.ensures c.put_record.ensures in
+    let so = admitted c.cause-cause.ensures (search rules) in
+    let stands = stands a.self a.free a.buffer.now a.place c.cause-cause.ensures (search rules) c.how_many-k.ensures.0 c.first_left-first.ensures c.put_record.ensures in
     let rows = record_names_picks a.self a.free a.buffer.now a.place (goes_on a.self a.free a.buffer.now a.place so) stands in
     let all_hold = let cores = c.cores_for-placed.ensures ∙ ap (placed_for a.self.last (marked a.free)) rows in
     done_gives a.self a.free a.buffer.now a.place (not_refused a.self a.free a.buffer.now a.place so) (ap₂ (stepped a.self) rows cores) c.one_on.result c.one_on.ensures stands in
