@@ -14,25 +14,11 @@ ghost use Rattle.pd2.specs.Rows.{GaveMarked, says_late_in};
 use counts::{Quanta, Slot};
 use table::Row;
 
-// The answer to a question about one row.
-#[derive(Clone, Copy)]
-pub enum Verdict {
-    Yes,
-    No,
-    Unanswered,
-}
-
-impl Verdict {
-    // Whether the answer is yes.
-    pub fn is_yes(self) -> bool
-        ensures { result ≡ is_yes self }
-    {
-        match self {
-            Verdict::Yes => true,
-            Verdict::No => false,
-            Verdict::Unanswered => false,
-        }
-    }
+// Whether the answer to a question about one row is yes; None is no answer.
+pub fn is_yes(verdict: Option<bool>) -> bool
+    ensures { result ≡ is_yes verdict }
+{
+    verdict.unwrap_or(false)
 }
 
 // The time from which a row's windows are counted.
@@ -43,42 +29,36 @@ pub fn origin(row: Row) -> Slot
 }
 
 // Whether a row with these quanta is ready in this slot: whether one quantum more would be within its upper limit at the slot's end.
-pub fn ready(row: Row, given: Quanta, slot: Slot) -> Verdict
+pub fn ready(row: Row, given: Quanta, slot: Slot) -> Option<bool>
     ensures { result ≡ verdict (answered row given.0 slot.0) (ready row given.0 slot.0) }
 {
     if !is_answered(row, given, slot) {
-        return Verdict::Unanswered;
+        return None;
     }
-    said(is_under_upper(row, given.one_more(), slot.later(1)))
+    Some(is_under_upper(row, given.one_more(), slot.later(1)))
 }
 
 // Whether a row with these quanta is late at this time: whether it is below its lower limit.
-pub fn late(row: Row, given: Quanta, time: Slot) -> Verdict
+pub fn late(row: Row, given: Quanta, time: Slot) -> Option<bool>
     ensures { result ≡ verdict (answered row given.0 time.0) (late row given.0 time.0) }
 {
     if !is_answered(row, given, time) {
-        return Verdict::Unanswered;
+        return None;
     }
-    said(!reaches_lower(row, given, time))
+    Some(!reaches_lower(row, given, time))
 }
 
 // Whether a row with these quanta is inside its share at this time.
-pub fn within(row: Row, given: Quanta, time: Slot) -> Verdict
+pub fn within(row: Row, given: Quanta, time: Slot) -> Option<bool>
     ensures { result ≡ verdict (answered row given.0 time.0) (within row given.0 time.0) }
 {
     if !is_answered(row, given, time) {
-        return Verdict::Unanswered;
+        return None;
     }
     if !reaches_lower(row, given, time) {
-        return Verdict::No;
+        return Some(false);
     }
-    said(is_under_upper(row, given, time))
-}
-
-fn said(holds: bool) -> Verdict
-    ensures { result ≡ verdict true holds }
-{
-    if holds { Verdict::Yes } else { Verdict::No }
+    Some(is_under_upper(row, given, time))
 }
 
 // Whether quanta and time are within reach, so that no number on the way passes 64 bits.
@@ -172,8 +152,7 @@ pub fn lowest_late(rows: [Row; 32], quanta: [Quanta; 32], n: usize, time: Slot) 
     while i < last {
         let row = rows[i];
         let given = quanta[i];
-        let verdict = late(row, given, time);
-        if verdict.is_yes() {
+        if is_yes(late(row, given, time)) {
             return i;
         }
         i += 1;

@@ -15,4 +15,4 @@ reaches_lower-requires c =
 pub returns : goal.returns
 returns c =
     let is-answered : let x = c.args in answered x.row x.given.0 x.time.0 ≡ true = sym c.is_answered.ensures ∙ c.if-not-is_answered.false in
-    c.said.ensures ∙ late_is_said _ _ _ is-answered c.reaches_lower.ensures
+    late_is_said _ _ _ is-answered c.reaches_lower.ensures

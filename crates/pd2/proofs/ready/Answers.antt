@@ -15,4 +15,4 @@ is_under_upper-requires c =
 pub returns : goal.returns
 returns c =
     let is-answered : let x = c.args in answered x.row x.given.0 x.slot.0 ≡ true = sym c.is_answered.ensures ∙ c.if-not-is_answered.false in
-    c.said.ensures ∙ ready_is_said _ _ _ is-answered c.one_more.ensures c.later.ensures c.is_under_upper.ensures
+    ready_is_said _ _ _ is-answered c.one_more.ensures c.later.ensures c.is_under_upper.ensures

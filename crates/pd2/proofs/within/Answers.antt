@@ -25,4 +25,4 @@ is_under_upper-requires c =
 pub returns : goal.returns
 returns c =
     let is-answered : let x = c.args in answered x.row x.given.0 x.time.0 ≡ true = sym c.is_answered.ensures ∙ c.if-not-is_answered.false in
-    c.said.ensures ∙ within_is_said _ _ _ is-answered c.reaches_lower.ensures c.if-not-reaches_lower.false c.is_under_upper.ensures
+    within_is_said _ _ _ is-answered c.reaches_lower.ensures c.if-not-reaches_lower.false c.is_under_upper.ensures
