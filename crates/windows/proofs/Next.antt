@@ -1,4 +1,5 @@
 -- What the answers about a next window mean. Assumes nothing.
+use Rattle.std.specs.Prelude.{Option, Some, None}
 use mathlib.Core.Path.{◌≡◌, ap, ◌∙◌}
 use mathlib.Core.Bool.{Bool, true, false, ◌&&◌}
 use Prim.Native.Nat.{ℕ, ◌+◌, ◌<◌}
@@ -10,10 +11,7 @@ use Rattle.facts.proofs.Tests.{both}
 use Rattle.facts.proofs.Determined.{by_value}
 use Rattle.counts.specs.Limits.{kept}
 use Rattle.counts.specs.declared.Slot.{Slot}
-use Rattle.windows.specs.declared.Due.{Due}
-use Rattle.windows.specs.declared.Due.TheVariants as due
-use Rattle.windows.specs.declared.Moment.{Moment}
-use Rattle.windows.specs.declared.Moment.TheVariants as moment
+use Rattle.windows.specs.declared.times.Due.{Due}
 use Rattle.windows.specs.Fits.{Fits, CanWalk}
 use Rattle.windows.specs.Windows.{deadline, bit}
 use Rattle.windows.specs.Next.{reach, next_answered, next_due, next}
@@ -39,35 +37,35 @@ answered_is_in_reach e p o q y =
 -- for callers
 
 -- A question within reach is answered, with the time of the next subtask,
-pub next_in_reach : (time : ℕ → ℕ → ℕ → ℕ → ℕ) {e p o q : ℕ} → InReach e p o q → next time e p o q ≡ moment.At (record { 0 = time e p o (q + 1) })
+pub next_in_reach : (time : ℕ → ℕ → ℕ → ℕ → ℕ) {e p o q : ℕ} → InReach e p o q → next time e p o q ≡ Some (record { 0 = time e p o (q + 1) })
 unfolding next
 next_in_reach time r = rw (in_reach_is_answered r)
 
 -- or with its deadline and bit.
-pub due_in_reach : {e p o q : ℕ} → InReach e p o q → next_due e p o q ≡ due.By (record { 0 = deadline e p o (q + 1) }) (bit e p (q + 1))
+pub due_in_reach : {e p o q : ℕ} → InReach e p o q → next_due e p o q ≡ Some (record { deadline = record { 0 = deadline e p o (q + 1) }; bit = bit e p (q + 1) })
 unfolding next_due
 due_in_reach r = rw (in_reach_is_answered r)
 
 -- What an answer holds.
-abbrev pub due_time : Due → ℕ
-due_time (due.By deadline bit) = deadline.0
-due_time due.Unanswered = 0
+abbrev pub due_time : Option Due → ℕ
+due_time (Some due) = due.deadline.0
+due_time None = 0
 
-abbrev pub due_bit : Due → ℕ
-due_bit (due.By deadline bit) = bit
-due_bit due.Unanswered = 0
+abbrev pub due_bit : Option Due → ℕ
+due_bit (Some due) = due.bit
+due_bit None = 0
 
-abbrev pub is_due : Due → Bool
-is_due (due.By deadline bit) = true
-is_due due.Unanswered = false
+abbrev pub is_due : Option Due → Bool
+is_due (Some due) = true
+is_due None = false
 
-abbrev pub moment_time : Moment → ℕ
-moment_time (moment.At time) = time.0
-moment_time moment.Unanswered = 0
+abbrev pub moment_time : Option Slot → ℕ
+moment_time (Some time) = time.0
+moment_time None = 0
 
-abbrev pub is_moment : Moment → Bool
-is_moment (moment.At time) = true
-is_moment moment.Unanswered = false
+abbrev pub is_moment : Option Slot → Bool
+is_moment (Some time) = true
+is_moment None = false
 
 -- for the functions: i is the number that the code makes of q
 module _ (e p o q i : ℕ) (number : i ≡ kept (q + 1)) (y : next_answered e p o q ≡ true) where
@@ -94,30 +92,30 @@ module _ (e p o q i : ℕ) (number : i ≡ kept (q + 1)) (y : next_answered e p 
   next_can_walk small = record { fits = next_fits small; near = omega (arith, is_next, in_reach.quanta) }
 
   -- And what they give is the answer.
-  pub answers : (time : ℕ → ℕ → ℕ → ℕ → ℕ) {s : Slot} → s.0 ≡ time e p o i → moment.At s ≡ next time e p o q
+  pub answers : (time : ℕ → ℕ → ℕ → ℕ → ℕ) {s : Slot} → s.0 ≡ time e p o i → Some s ≡ next time e p o q
   unfolding next
-  answers time h = rw y (λ k. moment.At (record { 0 = (h ∙ ap (time e p o) is_next) k }))
+  answers time h = rw y (λ k. Some (record { 0 = (h ∙ ap (time e p o) is_next) k }))
 
-  pub answers_due : {s : Slot} {b : ℕ} → s.0 ≡ deadline e p o i → b ≡ bit e p i → due.By s b ≡ next_due e p o q
+  pub answers_due : {due : Due} → due.deadline.0 ≡ deadline e p o i → due.bit ≡ bit e p i → Some due ≡ next_due e p o q
   unfolding next_due
   answers_due h g =
       rw y
-      (λ k. due.By (record { 0 = (h ∙ ap (deadline e p o) is_next) k }) ((g ∙ ap (bit e p) is_next) k))
+      (λ k. Some (record { deadline = record { 0 = (h ∙ ap (deadline e p o) is_next) k }; bit = (g ∙ ap (bit e p) is_next) k }))
 
 -- A question that is not answered is answered so.
 module _ (e p o q : ℕ) (n : next_answered e p o q ≡ false) where
-  pub answers_not : (time : ℕ → ℕ → ℕ → ℕ → ℕ) → moment.Unanswered ≡ next time e p o q
+  pub answers_not : (time : ℕ → ℕ → ℕ → ℕ → ℕ) → None ≡ next time e p o q
   unfolding next
   answers_not time = rw n
 
-  pub answers_not_due : due.Unanswered ≡ next_due e p o q
+  pub answers_not_due : None ≡ next_due e p o q
   unfolding next_due
   answers_not_due = rw n
 
 -- The promises of the functions give the answer itself, so they determine it.
-pub next_due_is_determined : (e p o q : ℕ) → Determined {R = Due} (λ r. r ≡ next_due e p o q)
+pub next_due_is_determined : (e p o q : ℕ) → Determined {R = Option Due} (λ r. r ≡ next_due e p o q)
 next_due_is_determined e p o q = by_value
 
 -- For next_start, next_job_start and next_group_deadline.
-pub next_is_determined : (time : ℕ → ℕ → ℕ → ℕ → ℕ) (e p o q : ℕ) → Determined {R = Moment} (λ r. r ≡ next time e p o q)
+pub next_is_determined : (time : ℕ → ℕ → ℕ → ℕ → ℕ) (e p o q : ℕ) → Determined {R = Option Slot} (λ r. r ≡ next time e p o q)
 next_is_determined time e p o q = by_value

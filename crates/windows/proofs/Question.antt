@@ -1,4 +1,5 @@
 -- The window question's answer: its meaning tells all answers apart, and what is taken or refused. Assumes nothing.
+use Rattle.std.specs.Prelude.{Option, Some, None}
 use mathlib.Core.Path.{◌≡◌, refl, sym, ap, ◌∙◌}
 use mathlib.Core.Bool.{Bool, true, false, not, ◌&&◌, ◌||◌, true≢false}
 use Prim.Native.Nat.{ℕ, ◌≤◌, ◌<◌}
@@ -11,8 +12,7 @@ use Rattle.facts.proofs.Tests.{both, neither_holds, below_is_not}
 use Rattle.facts.specs.Determined.{Determined, TellsApart}
 use Rattle.facts.proofs.Determined.{by_meaning}
 use Rattle.counts.specs.declared.Slot.{Slot}
-use Rattle.windows.specs.declared.Answer.{Answer}
-use Rattle.windows.specs.declared.Answer.TheVariants.{Window, Refused}
+use Rattle.windows.specs.declared.times.Window.{Window}
 use Rattle.windows.specs.Windows.{start, deadline, bit}
 use Rattle.windows.specs.Group.{group_deadline}
 use Rattle.windows.specs.Fits.{CanWalk}
@@ -20,14 +20,14 @@ use Rattle.windows.specs.Question.{reply_of, last_subtask, refused, window_reply
 
 -- Two answers with one reply are one answer.
 pub replies_tell_apart : TellsApart reply_of
-replies_tell_apart (Window r d b D) (Window r' d' b' D') q =
-    λ k. Window (record { 0 = (q k).r }) (record { 0 = (q k).d }) (q k).b (record { 0 = (q k).D })
-replies_tell_apart (Window r d b D) Refused q = let z : ◌≡◌ {A = ℕ} 0 50 = ap (λ x. x.number) q in absurd (omega arith)
-replies_tell_apart Refused (Window r d b D) q = let z : ◌≡◌ {A = ℕ} 50 0 = ap (λ x. x.number) q in absurd (omega arith)
-replies_tell_apart Refused Refused q = refl
+replies_tell_apart (Some w) (Some v) q =
+    λ k. Some (record { start = record { 0 = (q k).r }; deadline = record { 0 = (q k).d }; bit = (q k).b; group = record { 0 = (q k).D } })
+replies_tell_apart (Some w) None q = let z : ◌≡◌ {A = ℕ} 0 50 = ap (λ x. x.number) q in absurd (omega arith)
+replies_tell_apart None (Some w) q = let z : ◌≡◌ {A = ℕ} 50 0 = ap (λ x. x.number) q in absurd (omega arith)
+replies_tell_apart None None q = refl
 
 -- The promise of `window` determines its answer.
-pub window_is_determined : (e p f i : ℕ) → Determined {R = Answer} (λ r. reply_of r ≡ window_reply e p f i)
+pub window_is_determined : (e p f i : ℕ) → Determined {R = Option Window} (λ r. reply_of r ≡ window_reply e p f i)
 window_is_determined e p f i = by_meaning replies_tell_apart
 
 -- for the functions
@@ -62,7 +62,7 @@ accepted_can_walk e p f i h period phase same =
     }
 
 -- A refused question gets the refused reply.
-pub is_refused : (e p f i : ℕ) → refused e p i ≡ true → reply_of Refused ≡ window_reply e p f i
+pub is_refused : (e p f i : ℕ) → refused e p i ≡ true → reply_of None ≡ window_reply e p f i
 unfolding window_reply
 is_refused e p f i h = rw h
 
@@ -73,9 +73,9 @@ unfolding window_reply
 accepted_is_answered e p f i h = rw h
 
 -- what the code found.
-pub is_taken : (e p f i : ℕ) → refused e p i ≡ false → {o : ℕ} → o ≡ f → {r d D : Slot} {b : ℕ} →
-    r.0 ≡ start e p o i → d.0 ≡ deadline e p o i → b ≡ bit e p i → D.0 ≡ group_deadline e p o i →
-    reply_of (Window r d b D) ≡ window_reply e p f i
+pub is_taken : (e p f i : ℕ) → refused e p i ≡ false → {o : ℕ} → o ≡ f → {w : Window} →
+    w.start.0 ≡ start e p o i → w.deadline.0 ≡ deadline e p o i → w.bit ≡ bit e p i → w.group.0 ≡ group_deadline e p o i →
+    reply_of (Some w) ≡ window_reply e p f i
 is_taken e p f i h same pr pd pb p_d =
     let r = pr ∙ ap (λ x. start e p x i) same in
     let d = pd ∙ ap (λ x. deadline e p x i) same in
@@ -83,7 +83,7 @@ is_taken e p f i h same pr pd pb p_d =
     (λ k. record { number = 0; r = r k; d = d k; b = pb k; D = D k }) ∙ sym (accepted_is_answered e p f i h)
 
 -- One that gets a window is not refused,
-pub window_is_accepted : (e p f i : ℕ) {r d D : Slot} {b : ℕ} → reply_of (Window r d b D) ≡ window_reply e p f i → refused e p i ≡ false
+pub window_is_accepted : (e p f i : ℕ) {w : Window} → reply_of (Some w) ≡ window_reply e p f i → refused e p i ≡ false
 window_is_accepted e p f i q = go (refused e p i) refl
   where
     go : (x : Bool) → refused e p i ≡ x → refused e p i ≡ false
@@ -91,8 +91,9 @@ window_is_accepted e p f i q = go (refused e p i) refl
     go false h = h
 
 -- and the window stays the same with the group deadline found once more.
-pub found_once_more : (e p f i : ℕ) {r d D : Slot} {b : ℕ} → reply_of (Window r d b D) ≡ window_reply e p f i →
-    {o : ℕ} → o ≡ f → {again : Slot} → again.0 ≡ group_deadline e p o i → reply_of (Window r d b again) ≡ window_reply e p f i
+pub found_once_more : (e p f i : ℕ) {w : Window} → reply_of (Some w) ≡ window_reply e p f i →
+    {o : ℕ} → o ≡ f → {again : Slot} → again.0 ≡ group_deadline e p o i →
+    reply_of (Some (record { start = w.start; deadline = w.deadline; bit = w.bit; group = again })) ≡ window_reply e p f i
 found_once_more e p f i q same is =
     let accepted = window_is_accepted e p f i q in
     let whole = q ∙ accepted_is_answered e p f i accepted in

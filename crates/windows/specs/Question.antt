@@ -1,8 +1,7 @@
 -- The window question (01, "Windows"): "A window may be asked for alone, by e, p, f (each 0 to 65,535) and i."
-use Rattle.std.specs.Prelude.{ℕ, ◌+◌, ◌<◌, ◌≡◌, Bool, cond, not, ◌&&◌, ◌||◌, ltb, leb, eqb}
+use Rattle.std.specs.Prelude.{ℕ, ◌+◌, ◌<◌, ◌≡◌, Bool, cond, not, ◌&&◌, ◌||◌, ltb, leb, eqb, Option, Some, None}
 use Rattle.counts.specs.Limits.{time_limit}
-use Rattle.windows.specs.declared.Answer.{Answer}
-use Rattle.windows.specs.declared.Answer.TheVariants.{Window, Refused}
+use Rattle.windows.specs.declared.times.Window.{Window}
 use Rattle.windows.specs.Windows.{start, deadline, bit}
 use Rattle.windows.specs.Group.{group_deadline}
 
@@ -19,9 +18,9 @@ abbrev pub refused_reply : Reply
 refused_reply = record { number = 50; r = 0; d = 0; b = 0; D = 0 }
 
 -- What each case of the answer stands for.
-abbrev pub reply_of : Answer → Reply
-reply_of (Window r d b D) = record { number = 0; r = r.0; d = d.0; b = b; D = D.0 }
-reply_of Refused = refused_reply
+abbrev pub reply_of : Option Window → Reply
+reply_of (Some w) = record { number = 0; r = w.start.0; d = w.deadline.0; b = w.bit; D = w.group.0 }
+reply_of None = refused_reply
 
 -- "the window question takes subtasks up to one past that", the time limit (02, Seven)
 abbrev pub last_subtask : ℕ

@@ -12,9 +12,9 @@ returns-then-not-is_answered c = answers_not _ _ _ _ (sym c.is_answered.ensures 
 pub window_start-requires : goal.window_start-requires
 window_start-requires c =
     let is-answered : let x = c.args in next_answered x.e x.p x.origin.0 x.given.0 ≡ true = sym c.is_answered.ensures ∙ c.if-not-is_answered.false in
-    next_fits _ _ _ _ _ c.next_subtask-i.ensures is-answered (omega arith)
+    next_fits _ _ _ _ _ c.next_subtask.ensures is-answered (omega arith)
 
 pub returns : goal.returns
 returns c =
     let is-answered : let x = c.args in next_answered x.e x.p x.origin.0 x.given.0 ≡ true = sym c.is_answered.ensures ∙ c.if-not-is_answered.false in
-    answers _ _ _ _ _ c.next_subtask-i.ensures is-answered start c.window_start.ensures
+    answers _ _ _ _ _ c.next_subtask.ensures is-answered start c.window_start.ensures

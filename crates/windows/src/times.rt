@@ -1,0 +1,19 @@
+// What the questions about windows are answered with.
+
+use counts::Slot;
+
+// A window, with its group deadline.
+#[derive(Clone, Copy)]
+pub struct Window {
+    pub start: Slot,
+    pub deadline: Slot,
+    pub bit: u8,
+    pub group: Slot,
+}
+
+// A window's end: when a quantum is due, and the bit.
+#[derive(Clone, Copy)]
+pub struct Due {
+    pub deadline: Slot,
+    pub bit: u8,
+}
