@@ -4,7 +4,6 @@ use Rattle.std.specs.Prelude.{ℕ, ◌≡◌, Bool, true, false}
 use Rattle.counts.specs.declared.Slot.{Slot}
 use Rattle.windows.specs.declared.Answer.TheVariants.{Window, Refused}
 use Rattle.windows.specs.Question.{reply_of}
-use Rattle.pd2.specs.declared.Verdict.TheVariants.{Yes, No, Unanswered}
 use Rattle.pd2.specs.Verdict.{is_yes, verdict}
 use Rattle.trace.specs.declared.Stored.TheVariants as stored
 use Rattle.trace.specs.Record.{stored_number}
@@ -92,12 +91,12 @@ pub record CheckCases : Type 0 where
 
 -- and those of our own that are no answers of 01: what is said of one row, and how long a text is. (The cases of `Due` and `Moment` stand in `next_is` of demand 1.)
 pub record OwnCases : Type 0 where
-  pub yes : verdict true true ≡ Yes
-  pub no : verdict true false ≡ No
-  pub unanswered : (holds : Bool) → verdict false holds ≡ Unanswered
-  pub yes_is : is_yes Yes ≡ true
-  pub no_is : is_yes No ≡ false
-  pub unanswered_is : is_yes Unanswered ≡ false
+  pub yes : verdict true true ≡ Some true
+  pub no : verdict true false ≡ Some false
+  pub unanswered : (holds : Bool) → verdict false holds ≡ None
+  pub yes_is : is_yes (Some true) ≡ true
+  pub no_is : is_yes (Some false) ≡ false
+  pub unanswered_is : is_yes None ≡ false
   pub text : (length : ℕ) → length_of (Text length) ≡ length
   pub too_short : length_of TooShort ≡ 0
 

@@ -1,5 +1,5 @@
 -- Any two results that a promise allows are equal (01, "What the statements must say"): state, buffer and refused answers included.
-use Rattle.std.specs.Prelude.{ℕ, List, Bool}
+use Rattle.std.specs.Prelude.{ℕ, List, Bool, Option}
 use Rattle.facts.specs.Determined.{Determined}
 use Rattle.counts.specs.declared.Slot.{Slot}
 use Rattle.counts.specs.declared.Quanta.{Quanta}
@@ -7,7 +7,6 @@ use Rattle.counts.specs.declared.Subtask.{Subtask}
 use Rattle.table.specs.declared.Row.{Row}
 use Rattle.table.specs.declared.Table.{Table}
 use Rattle.table.specs.declared.Writing.{Writing}
-use Rattle.pd2.specs.declared.Verdict.{Verdict}
 use Rattle.trace.specs.declared.Stored.{Stored}
 use Rattle.cores.specs.declared.Placement.{Placement}
 use Rattle.dispatcher.specs.declared.State.{State}
@@ -16,7 +15,7 @@ use Rattle.dispatcher.specs.declared.Outcome.{Outcome}
 use Rattle.why.specs.declared.Answer.{Answer as WhyAnswer}
 use Rattle.checker.specs.declared.Answer.{Answer as Checked}
 use Rattle.printer.specs.declared.Printed.{Printed}
-use Rattle.demands.specs.Promises.{counts·Slot·at, counts·Slot·time, counts·Slot·later, counts·Slot·before, counts·Slot·since, counts·Quanta·of, counts·Quanta·count, counts·Quanta·one_more, counts·Quanta·next_subtask, counts·Subtask·numbered, counts·Subtask·number, counts·Subtask·next, counts·Subtask·quanta_before, fields·byte, fields·half, fields·word, fields·long, fields·put, windows·window, windows·window_by_walk, windows·next_due, windows·next_start, windows·next_job_start, windows·next_group_deadline, table·read, table·fault, table·write, pd2·Verdict·is_yes, pd2·origin, pd2·ready, pd2·late, pd2·within, pd2·give, pd2·lowest_late, trace·write, trace·record, trace·begins, trace·length_inside, trace·shape, trace·raise, summary·quanta_before, choice·picks, choice·first_left, cores·Placement·nobody, cores·Placement·is_faulty, cores·Placement·ran, cores·how_many, cores·names_past, cores·first, cores·place, dispatcher·Answer·told, dispatcher·State·fresh, dispatcher·State·is_broken, dispatcher·State·favoured, dispatcher·State·slot, dispatcher·State·refusal, why·Answer·told, why·of_row, checker·check, checker·number, firmware·zb_table_check, firmware·zb_trace_check, printer·Printed·length, printer·print, slots_run·zb_slots, desk_run·zb_run, desk_run·zb_judge}
+use Rattle.demands.specs.Promises.{counts·Slot·at, counts·Slot·time, counts·Slot·later, counts·Slot·before, counts·Slot·since, counts·Quanta·of, counts·Quanta·count, counts·Quanta·one_more, counts·Quanta·next_subtask, counts·Subtask·numbered, counts·Subtask·number, counts·Subtask·next, counts·Subtask·quanta_before, fields·byte, fields·half, fields·word, fields·long, fields·put, windows·window, windows·window_by_walk, windows·next_due, windows·next_start, windows·next_job_start, windows·next_group_deadline, table·read, table·fault, table·write, pd2·is_yes, pd2·origin, pd2·ready, pd2·late, pd2·within, pd2·give, pd2·lowest_late, trace·write, trace·record, trace·begins, trace·length_inside, trace·shape, trace·raise, summary·quanta_before, choice·picks, choice·first_left, cores·Placement·nobody, cores·Placement·is_faulty, cores·Placement·ran, cores·how_many, cores·names_past, cores·first, cores·place, dispatcher·Answer·told, dispatcher·State·fresh, dispatcher·State·is_broken, dispatcher·State·favoured, dispatcher·State·slot, dispatcher·State·refusal, why·Answer·told, why·of_row, checker·check, checker·number, firmware·zb_table_check, firmware·zb_trace_check, printer·Printed·length, printer·print, slots_run·zb_slots, desk_run·zb_run, desk_run·zb_judge}
 
 pub record EveryPromiseDetermines : Type 0 where
   pub counts_slot_at : (time : ℕ) → Determined (counts·Slot·at time)
@@ -46,7 +45,7 @@ pub record EveryPromiseDetermines : Type 0 where
   pub table_read : (bytes : List ℕ) → Determined (table·read bytes)
   pub table_fault : (table : Table) → Determined (table·fault table)
   pub table_write : (table : Table) (buffer : List ℕ) → Determined {R = Writing × List ℕ} (λ r. table·write table buffer r.0 r.1)
-  pub pd2_verdict_is_yes : (self : Verdict) → Determined (pd2·Verdict·is_yes self)
+  pub pd2_is_yes : (verdict : Option Bool) → Determined (pd2·is_yes verdict)
   pub pd2_origin : (row : Row) → Determined (pd2·origin row)
   pub pd2_ready : (row : Row) (given : Quanta) (slot : Slot) → Determined (pd2·ready row given slot)
   pub pd2_late : (row : Row) (given : Quanta) (time : Slot) → Determined (pd2·late row given time)

@@ -39,7 +39,7 @@ pub record Windows : Type 0 where
   pub group : WalkGivesLeastTime
   pub light : LightHasNone
 
--- of the questions about one row that our own functions answer and 01 does not name (`windows::next_due` and its like, `pd2::ready`, `late`, `within`): they say `Unanswered` to
+-- of the questions about one row that our own functions answer and 01 does not name (`windows::next_due` and its like, `pd2::ready`, `late`, `within`): they say `None` to
 -- wild numbers, but never within the limits of 01 and of 02, Seven, and one past them. A time of the next subtask (`of` is `start`, `job_start` or
 -- `group_deadline`), or its deadline and bit, is that of subtask q + 1;
 pub record NextIs (e p f q : ℕ) : Type 0 where

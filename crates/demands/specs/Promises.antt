@@ -1,6 +1,6 @@
 -- The promise of every public function, crate by crate, as its contract says it: which results it allows. A slice that is lent stands for the bytes
 -- it holds at the call; where a function writes, `_new` has those it holds afterwards. The gate compares each with the contract in the source.
-use Rattle.std.specs.Prelude.{ℕ, ◌+◌, ◌-◌, ◌≤◌, min, ◌≡◌, List, Bool, length, take}
+use Rattle.std.specs.Prelude.{ℕ, ◌+◌, ◌-◌, ◌≤◌, min, ◌≡◌, List, Bool, Option, length, take}
 use Rattle.std.proofs.lemmas.List.Edits.{sets}
 use Rattle.std.specs.Borrow.{Bor}
 use Rattle.facts.specs.First.{Lowest}
@@ -24,7 +24,6 @@ use Rattle.table.specs.declared.Writing.{Writing}
 use Rattle.table.specs.Bytes.{table_number, reading}
 use Rattle.table.specs.Value.{fault_of}
 use Rattle.table.specs.Writing.{writing, buffer_after}
-use Rattle.pd2.specs.declared.Verdict.{Verdict}
 use Rattle.pd2.specs.Ready.{origin_of, ready, late}
 use Rattle.pd2.specs.Share.{within}
 use Rattle.pd2.specs.Verdict.{is_yes, answered, verdict}
@@ -180,24 +179,24 @@ table·fault table r = r ≡ fault_of table
 abbrev pub table·write : Table → List ℕ → Writing → List ℕ → Type 0
 table·write table buffer r buffer_new = (r ≡ writing table buffer) × (buffer_new ≡ buffer_after table buffer)
 
--- pd2::Verdict::is_yes
-abbrev pub pd2·Verdict·is_yes : Verdict → Bool → Type 0
-pd2·Verdict·is_yes self r = r ≡ is_yes self
+-- pd2::is_yes
+abbrev pub pd2·is_yes : Option Bool → Bool → Type 0
+pd2·is_yes verdict r = r ≡ is_yes verdict
 
 -- pd2::origin
 abbrev pub pd2·origin : Row → Slot → Type 0
 pd2·origin row r = r.0 ≡ origin_of row
 
 -- pd2::ready
-abbrev pub pd2·ready : Row → Quanta → Slot → Verdict → Type 0
+abbrev pub pd2·ready : Row → Quanta → Slot → Option Bool → Type 0
 pd2·ready row given slot r = r ≡ verdict (answered row given.0 slot.0) (ready row given.0 slot.0)
 
 -- pd2::late
-abbrev pub pd2·late : Row → Quanta → Slot → Verdict → Type 0
+abbrev pub pd2·late : Row → Quanta → Slot → Option Bool → Type 0
 pd2·late row given time r = r ≡ verdict (answered row given.0 time.0) (late row given.0 time.0)
 
 -- pd2::within
-abbrev pub pd2·within : Row → Quanta → Slot → Verdict → Type 0
+abbrev pub pd2·within : Row → Quanta → Slot → Option Bool → Type 0
 pd2·within row given time r = r ≡ verdict (answered row given.0 time.0) (within row given.0 time.0)
 
 -- pd2::give
