@@ -1,8 +1,7 @@
 -- "For every answer that is an enum, a definition states this paper's number and values for each of the enum's cases" (01, "Our forms for each place"):
 -- what each case says, written out. (The row that is read is an enum inside `table`: table/specs/RowRead.antt.)
-use Rattle.std.specs.Prelude.{ℕ, ◌≡◌, Bool, true, false}
+use Rattle.std.specs.Prelude.{ℕ, ◌≡◌, Bool, true, false, Option, Some, None}
 use Rattle.counts.specs.declared.Slot.{Slot}
-use Rattle.windows.specs.declared.Answer.TheVariants.{Window, Refused}
 use Rattle.windows.specs.Question.{reply_of}
 use Rattle.pd2.specs.Verdict.{is_yes, verdict}
 use Rattle.trace.specs.declared.Stored.TheVariants as stored
@@ -23,8 +22,8 @@ use Rattle.printer.specs.Buffer.{length_of}
 
 -- a window
 pub record WindowCases : Type 0 where
-  pub window : (r d D : Slot) (b : ℕ) → reply_of (Window r d b D) ≡ record { number = 0; r = r.0; d = d.0; b = b; D = D.0 }
-  pub refused : reply_of Refused ≡ record { number = 50; r = 0; d = 0; b = 0; D = 0 }
+  pub window : (r d D : Slot) (b : ℕ) → reply_of (Some (record { start = r; deadline = d; bit = b; group = D })) ≡ record { number = 0; r = r.0; d = d.0; b = b; D = D.0 }
+  pub refused : reply_of None ≡ record { number = 50; r = 0; d = 0; b = 0; D = 0 }
 
 -- the writer of a record
 pub record StoredCases : Type 0 where

@@ -1,12 +1,10 @@
 -- Demand 1: "Every table, trace, state or number that comes in is answered, with a result or with one of the refusals in document 01, given exactly
 -- when that paper says. A refusal hands back the state as it came and writes no byte. Nobody has to check anything before calling."
-use Rattle.std.specs.Prelude.{ℕ, ◌+◌, ◌≤◌, ◌<◌, ◌≡◌, List, [], ◌↔◌, ◌⊎◌, Bool, true, false, length, get_or, replicate}
+use Rattle.std.specs.Prelude.{ℕ, ◌+◌, ◌≤◌, ◌<◌, ◌≡◌, List, [], ◌↔◌, ◌⊎◌, Bool, true, false, length, get_or, replicate, Some}
 use Rattle.facts.specs.Findings.{FirstFound}
 use Rattle.windows.specs.Question.{WindowsAreAnswered}
 use Rattle.windows.specs.Windows.{deadline, bit, NextStartIsDLessB}
 use Rattle.windows.specs.LeastTime.{WalkGivesLeastTime, LightHasNone}
-use Rattle.windows.specs.declared.Due.TheVariants as due
-use Rattle.windows.specs.declared.Moment.TheVariants as moment
 use Rattle.windows.specs.Next.{next_due, next}
 use Rattle.table.specs.declared.Row.{Row}
 use Rattle.table.specs.Value.{fault_of}
@@ -43,8 +41,8 @@ pub record Windows : Type 0 where
 -- wild numbers, but never within the limits of 01 and of 02, Seven, and one past them. A time of the next subtask (`of` is `start`, `job_start` or
 -- `group_deadline`), or its deadline and bit, is that of subtask q + 1;
 pub record NextIs (e p f q : ℕ) : Type 0 where
-  pub time : (of : ℕ → ℕ → ℕ → ℕ → ℕ) → next of e p f q ≡ moment.At (record { 0 = of e p f (q + 1) })
-  pub due : next_due e p f q ≡ due.By (record { 0 = deadline e p f (q + 1) }) (bit e p (q + 1))
+  pub time : (of : ℕ → ℕ → ℕ → ℕ → ℕ) → next of e p f q ≡ Some (record { 0 = of e p f (q + 1) })
+  pub due : next_due e p f q ≡ Some (record { deadline = record { 0 = deadline e p f (q + 1) }; bit = bit e p (q + 1) })
 
 pub record Questions : Type 0 where
   pub row : (row : Row) (q t : ℕ) → 0 < row.cost → row.cost ≤ row.period → q ≤ 1_000_000_000_001 → t ≤ 1_000_000_000_001 → answered row q t ≡ true

@@ -10,9 +10,8 @@ use Rattle.counts.specs.declared.Subtask.{Subtask}
 use Rattle.counts.specs.Limits.{kept}
 use Rattle.counts.specs.Numbers.{numbers_of}
 use Rattle.fields.specs.Fields.{byte, half, word, bytes_of, number_at}
-use Rattle.windows.specs.declared.Answer.{Answer as Window}
+use Rattle.windows.specs.declared.Bounds.{Bounds}
 use Rattle.windows.specs.declared.Due.{Due}
-use Rattle.windows.specs.declared.Moment.{Moment}
 use Rattle.windows.specs.Windows.{start, job_start}
 use Rattle.windows.specs.Group.{group_deadline}
 use Rattle.windows.specs.Question.{reply_of, window_reply}
@@ -144,27 +143,27 @@ abbrev pub fields·put : List ℕ → ℕ → ℕ → ℕ → ℕ → List ℕ �
 fields·put s at width number r s_new = (r ≡ min width (length s - at)) × (s_new ≡ sets s at (bytes_of width number))
 
 -- windows::window
-abbrev pub windows·window : ℕ → ℕ → ℕ → Subtask → Window → Type 0
+abbrev pub windows·window : ℕ → ℕ → ℕ → Subtask → Option Bounds → Type 0
 windows·window e p f i r = reply_of r ≡ window_reply e p f i.0
 
 -- windows::window_by_walk
-abbrev pub windows·window_by_walk : ℕ → ℕ → ℕ → Subtask → Window → Type 0
+abbrev pub windows·window_by_walk : ℕ → ℕ → ℕ → Subtask → Option Bounds → Type 0
 windows·window_by_walk e p f i r = reply_of r ≡ window_reply e p f i.0
 
 -- windows::next_due
-abbrev pub windows·next_due : ℕ → ℕ → Slot → Quanta → Due → Type 0
+abbrev pub windows·next_due : ℕ → ℕ → Slot → Quanta → Option Due → Type 0
 windows·next_due e p origin given r = r ≡ next_due e p origin.0 given.0
 
 -- windows::next_start
-abbrev pub windows·next_start : ℕ → ℕ → Slot → Quanta → Moment → Type 0
+abbrev pub windows·next_start : ℕ → ℕ → Slot → Quanta → Option Slot → Type 0
 windows·next_start e p origin given r = r ≡ next start e p origin.0 given.0
 
 -- windows::next_job_start
-abbrev pub windows·next_job_start : ℕ → ℕ → Slot → Quanta → Moment → Type 0
+abbrev pub windows·next_job_start : ℕ → ℕ → Slot → Quanta → Option Slot → Type 0
 windows·next_job_start e p origin given r = r ≡ next job_start e p origin.0 given.0
 
 -- windows::next_group_deadline
-abbrev pub windows·next_group_deadline : ℕ → ℕ → Slot → Quanta → Moment → Type 0
+abbrev pub windows·next_group_deadline : ℕ → ℕ → Slot → Quanta → Option Slot → Type 0
 windows·next_group_deadline e p origin given r = r ≡ next group_deadline e p origin.0 given.0
 
 -- table::read

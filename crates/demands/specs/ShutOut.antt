@@ -1,11 +1,11 @@
 -- What must be shut out (01, "What the statements must say"): no function that keeps the promise is so. A function is asked to keep its promise, and is
 -- said to be wrong, only on what it can be called with (specs/Inputs.antt): so one that is wrong on all of that is shut out, whatever it does elsewhere.
 -- (Those that mistake a limit stand in specs/ShorterSlots.antt.)
-use Rattle.std.specs.Prelude.{ℕ, ◌+◌, ◌-◌, ◌*◌, ◌/◌, ◌≤◌, ◌<◌, ◌≡◌, List, [], Bool, true, false, cond, ◌&&◌, length, get_or, take}
+use Rattle.std.specs.Prelude.{ℕ, ◌+◌, ◌-◌, ◌*◌, ◌/◌, ◌≤◌, ◌<◌, ◌≡◌, List, [], Bool, true, false, cond, ◌&&◌, length, get_or, take, Option}
 use Rattle.facts.specs.Counting.{some}
 use Rattle.counts.specs.declared.Slot.{Slot}
 use Rattle.counts.specs.declared.Subtask.{Subtask}
-use Rattle.windows.specs.declared.Answer.{Answer as Window}
+use Rattle.windows.specs.declared.Bounds.{Bounds}
 use Rattle.windows.specs.Question.{Reply, reply_of}
 use Rattle.windows.specs.Formula.{formula}
 use Rattle.table.specs.declared.Table.{Table}
@@ -173,7 +173,7 @@ pub record ShutOutOfWhy (explain : Explainer) : Type 0 where
 -- one half (02, Three). Of heavy rows below weight one (02, Four) so are one that puts d into the formula as it is, not counted from the phase, one that rounds the formula's
 -- divisions down, and one whose walk stops at the window of i itself if that is 3 slots long. Where e = p (02, Six), so are one that refuses, and one that answers D 0.
 abbrev pub Answerer : Type 0
-Answerer = ℕ → ℕ → ℕ → Subtask → Window
+Answerer = ℕ → ℕ → ℕ → Subtask → Option Bounds
 
 abbrev pub IsAnswerer : Answerer → Type 0
 IsAnswerer window = (e p f : ℕ) (i : Subtask) → CanAskWindow e p f i → windows·window e p f i (window e p f i)
