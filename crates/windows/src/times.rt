@@ -3,7 +3,7 @@
 use counts::Slot;
 
 // A window, with its group deadline.
-#[derive(Clone, Copy)]
+#[derive(Clone, Copy, PartialEq, Eq)]
 pub struct Window {
     pub start: Slot,
     pub deadline: Slot,
@@ -12,7 +12,7 @@ pub struct Window {
 }
 
 // A window's end: when a quantum is due, and the bit.
-#[derive(Clone, Copy)]
+#[derive(Clone, Copy, PartialEq, Eq)]
 pub struct Due {
     pub deadline: Slot,
     pub bit: u8,
