@@ -1,4 +1,3 @@
-use Prim.Native.Nat.{◌-◌}
 use Rattle.facts.proofs.Some.{NoneYet}
 use Rattle.counts.specs.Numbers.{numbers_of}
 use Rattle.pd2.specs.Rows.{says_late_in}
@@ -6,6 +5,3 @@ use Rattle.pd2.proofs.lowest_late.Given as goal
 
 abbrev pub invariant-loop-i : goal.invariant-loop-i
 invariant-loop-i l = NoneYet (says_late_in l.rows (numbers_of l.quanta) l.time.0) l.last l.i
-
-abbrev pub decreases-loop-i : goal.decreases-loop-i
-decreases-loop-i l = l.last - l.i
