@@ -5,8 +5,8 @@ use mathlib.Core.List.{List, [], ◌∷◌}
 use mathlib.Core.Bool.{Bool, true, false, cond}
 use native.Mathlib.Decide.{ℕ_discrete, dec_lt}
 use native.Mathlib.Omega.{arith}
-use lib.ListN.{length, get_or, set, take, drop, replicate, length-set, length-drop, length-replicate, get_or-replicate, drop_of_length-le, get_or-eq_default}
-use lib.Seq.{take_all, take-nil, ext_get_or, get_or-set_same, get_or-set_other, set_out, set-get_or}
+use lib.ListN.{length, get_or, set, take, drop, replicate, length-set, length-drop, length-replicate, get_or-replicate, drop_of_length-le}
+use lib.Seq.{take_all, take-nil, ext_get_or, get_or-set_same, get_or-set_other}
 use Rattle.trace.specs.Records.{picked_at, rows_at, names}
 use Rattle.trace.specs.Raising.{raised_if, raised}
 use Rattle.trace.proofs.Names.{names_nothing, own_named, other_named}
@@ -43,20 +43,6 @@ none_raised counts = are_raised [] counts refl (λ i l. sym (ap (λ named. raise
 abbrev pub Once : ℕ → List Bool → List ℕ → List Bool → List ℕ → Type 0
 Once row counted counts counted' counts' =
     (counted' ≡ set counted row true) × (counts' ≡ cond (get_or counted row false) counts (set counts row (raised_if true (get_or counts row 0))))
-
-module _ (row : ℕ) (counted : List Bool) (counts : List ℕ) where
-  -- A number that has no count leaves all as it is,
-  pub has_no_count : length counted ≤ row → length counts ≤ row → Once row counted counts counted counts
-  has_no_count h k =
-      (sym (set_out counted row true h), rw (get_or-eq_default counted false {n = row} h) (sym (set_out counts row (raised_if true (get_or counts row 0)) k)))
-
-  -- so does one that was counted,
-  pub was_counted : get_or counted row false ≡ true → Once row counted counts counted counts
-  was_counted e = (sym (ap (set counted row) (sym e) ∙ set-get_or counted row false), rw e refl)
-
-  -- and else its count rises.
-  pub is_counted : get_or counted row false ≡ false → {more : ℕ} → more ≡ raised_if true (get_or counts row 0) → Once row counted counts (set counted row true) (set counts row more)
-  is_counted e m = (refl, rw (e, m) refl)
 
 -- For the loop: the first j of the rows have been gone through.
 pub record RaisedBy (rows counts₀ : List ℕ) (counted : List Bool) (counts : List ℕ) (j : ℕ) : Type 0 where

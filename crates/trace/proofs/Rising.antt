@@ -3,17 +3,17 @@ use Prim.Native.Nat.{ℕ, zero, suc, ◌+◌, ◌≤◌, ◌<◌}
 use mathlib.Core.Path.{◌≡◌, refl, sym, ap, ◌∙◌}
 use mathlib.Core.List.{List, [], ◌∷◌}
 use mathlib.Core.Bool.{Bool, true, false, not, ◌||◌, or-false}
+use mathlib.Core.Logic.{◌⊎◌, inl, inr}
 use native.Mathlib.Decide.{dec_lt}
 use native.Mathlib.Numerals.{add-one}
 use native.Mathlib.Omega.{arith}
 use borrow.Author.Tests.{ltb-true, ltb-false, lt-ltb, le-ltb, not-false}
 use lib.Dec.{ltb}
-use lib.ListN.{length, get_or, take, drop, length-take, length-drop, take-append-drop, drop_of_length-le}
+use lib.ListN.{length, get_or, take, drop, length-drop, take-append-drop, drop_of_length-le}
 use lib.Seq.{drop-cons, length-take-le, get_or-take, get_or-drop}
 use Rattle.facts.specs.Counting.{those}
 use Rattle.facts.proofs.Tests.{neither_holds}
 use Rattle.facts.proofs.Listing.{listed_pass, listed_rise}
-use Rattle.fields.specs.Fields.{byte}
 use Rattle.trace.specs.Records.{names}
 use Rattle.trace.specs.Shape.{bad_rows, RisingExactly}
 use Rattle.trace.proofs.Names.{names_either, not_named}
@@ -100,13 +100,6 @@ module _ (rows : List ℕ) (n : ℕ) (rise : bad_rows n 0 rows ≡ false) where
           let b : k < j = omega (arith, length-take-le j rows (omega arith)) in
           omega (arith, get_or-take j rows k 0 b, ((rising_exactly n rows).0 rise).1 k j b l)
 
--- the c numbers from a place on, and the j-th of them
-pub how_many_rows : (s : List ℕ) (first c : ℕ) → first + c ≤ length s → length (take c (drop first s)) ≡ c
-how_many_rows s first c h = length-take c (drop first s) ∙ omega (arith, length-drop first s)
-
-pub row_at_is : (s : List ℕ) (first c j : ℕ) → j < c → byte s (first + j) ≡ get_or (take c (drop first s)) j 0
-row_at_is s first c j l = sym (get_or-take c (drop first s) j 0 l ∙ get_or-drop first s j 0)
-
 -- For the loop that looks for a bad number: of the first j none is, so what is left tells.
 pub record NoneBadYet (rows : List ℕ) (n least j : ℕ) : Type 0 where
   pub within : j ≤ length rows
@@ -121,15 +114,11 @@ module _ (rows : List ℕ) (n : ℕ) where
     next : drop j rows ≡ row ∷ drop (j + 1) rows
     next = drop-cons rows j 0 l ∙ rw (here, add-one j) refl
 
-    -- a number that is not below n is bad,
-    pub bad_not_below : n ≤ row → true ≡ bad_rows n 0 rows
+    -- a number that is not below n, or does not rise, is bad,
+    pub is_bad : (n ≤ row) ⊎ ((row < n) × (row < least)) → true ≡ bad_rows n 0 rows
     unfolding bad_rows
-    bad_not_below h = sym (so.rest ∙ rw (next, le-ltb row n h) refl)
-
-    -- so is one that does not rise,
-    pub bad_not_rising : row < n → row < least → true ≡ bad_rows n 0 rows
-    unfolding bad_rows
-    bad_not_rising b h = sym (so.rest ∙ rw (next, lt-ltb row n b, lt-ltb row least h) refl)
+    is_bad (inl h) = sym (so.rest ∙ rw (next, le-ltb row n h) refl)
+    is_bad (inr h) = sym (so.rest ∙ rw (next, lt-ltb row n h.0, lt-ltb row least h.1) refl)
 
     -- and else the loop goes on.
     pub rises_on : row < n → least ≤ row → NoneBadYet rows n (row + 1) (j + 1)

@@ -7,7 +7,7 @@ use mathlib.Core.Logic.{◌↔◌, ◌⊎◌, inl, inr}
 use native.Mathlib.Omega.{arith}
 use borrow.Author.Tests.{lt-ltb, le-ltb, ltb-false}
 use lib.Dec.{ltb}
-use lib.ListN.{length}
+use lib.ListN.{length, take, drop}
 use Rattle.facts.specs.Zero.{if0}
 use Rattle.facts.specs.Findings.{first_found, FirstFound, NoneFound}
 use Rattle.facts.proofs.Zero.{if0_other}
@@ -138,9 +138,12 @@ module _ (M n : ℕ) (s : List ℕ) (place : ℕ) where
             found_is_answered 40 (omega arith)
             (FirstFound.later head_there (FirstFound.later enough (FirstFound.later fit (FirstFound.here (lt-ltb (length s) (past_record s place) h)))))
 
-        module _ (rows : past_record s place ≤ length s) {bad : Bool} (named : bad ≡ bad_row n s place) where
+        module _ (rows : past_record s place ≤ length s) {c : ℕ} (all : c ≡ picked_at s place) {bad : Bool} (as_judged : bad ≡ bad_rows n 0 (take c (drop (place + 2) s))) where
           there : ltb (length s) (past_record s place) ≡ false
           there = le-ltb (length s) (past_record s place) rows
+
+          named : bad ≡ bad_row n s place
+          named = as_judged ∙ ap (λ k. bad_rows n 0 (take k (drop (place + 2) s))) all
 
           -- or they are named wrongly;
           pub rows_are_bad : bad ≡ true → record { number = 43; next = 0 } ≡ shape_of M n s place

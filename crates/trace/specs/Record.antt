@@ -1,8 +1,7 @@
 -- The record of a slot (01, "The trace, in bytes"), and a buffer in which it stands.
-use Rattle.std.specs.Prelude.{ℕ, List, ◌∷◌, ◌++◌, Bool, false, cond, leb, length, get_or, take, drop}
+use Rattle.std.specs.Prelude.{ℕ, List, ◌∷◌, ◌++◌, Bool, false, cond, Result, Ok, Err, leb, length, get_or, take, drop}
 use Rattle.facts.specs.Counting.{those}
-use Rattle.trace.specs.declared.Stored.{Stored}
-use Rattle.trace.specs.declared.Stored.TheVariants.{Written, NoRoom}
+use Rattle.trace.specs.declared.NoRoom.{NoRoom}
 
 -- "one record a slot: cores free k (1), rows picked c (1), and c row numbers rising strictly (1 each)"
 abbrev pub record_of : ℕ → List ℕ → List ℕ
@@ -25,9 +24,9 @@ unfoldable pub with_record : List ℕ → ℕ → List ℕ → List ℕ
 with_record buffer place entry = take place buffer ++ with_front (drop place buffer) entry
 
 -- 01's number for each case of the writer's answer: 0, "done", and 34, "fewer than 2 + c bytes remain after it". It names nothing else.
-abbrev pub stored_number : Stored → ℕ
-stored_number Written = 0
-stored_number NoRoom = 34
+abbrev pub stored_number : Result (Unit {0}) NoRoom → ℕ
+stored_number (Ok done) = 0
+stored_number (Err no_room) = 34
 
 -- What the writer answers, by that number, and what it leaves.
 abbrev pub write_number : List ℕ → List ℕ → ℕ

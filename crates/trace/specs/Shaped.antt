@@ -1,9 +1,9 @@
 -- What is answered of the shape of a record: the place behind it, or what is found in it first.
-use Rattle.std.specs.Prelude.{ℕ, List}
+use Rattle.std.specs.Prelude.{ℕ, List, Result, Ok, Err}
 use Rattle.facts.specs.Zero.{if0}
 use Rattle.facts.specs.Findings.{first_found}
-use Rattle.trace.specs.declared.Shaped.{Shaped}
-use Rattle.trace.specs.declared.Shaped.TheVariants.{Sound, Cut, TooManyCores, TooManyRows, BadRow}
+use Rattle.trace.specs.declared.Misshape.{Misshape}
+use Rattle.trace.specs.declared.Misshape.TheVariants.{Cut, TooManyCores, TooManyRows, BadRow}
 use Rattle.trace.specs.Records.{past_record}
 use Rattle.trace.specs.Said.{bare}
 use Rattle.trace.specs.Shape.{shape_at}
@@ -14,12 +14,12 @@ pub record ShapeReply : Type 0 where
   pub next : ℕ
 
 -- 01's number for each answer
-abbrev pub shaped_of : Shaped → ShapeReply
-shaped_of (Sound next) = record { number = 0; next = next }
-shaped_of Cut = record { number = 40; next = 0 }
-shaped_of TooManyCores = record { number = 41; next = 0 }
-shaped_of TooManyRows = record { number = 42; next = 0 }
-shaped_of BadRow = record { number = 43; next = 0 }
+abbrev pub shaped_of : Result ℕ Misshape → ShapeReply
+shaped_of (Ok next) = record { number = 0; next = next }
+shaped_of (Err Cut) = record { number = 40; next = 0 }
+shaped_of (Err TooManyCores) = record { number = 41; next = 0 }
+shaped_of (Err TooManyRows) = record { number = 42; next = 0 }
+shaped_of (Err BadRow) = record { number = 43; next = 0 }
 
 -- "for each record 40 (its first two bytes), 41, 42, 40 (its rows), 43": the first that is found in the record at a place, 0 if none is
 abbrev pub shape_number : ℕ → ℕ → List ℕ → ℕ → ℕ

@@ -4,37 +4,34 @@
 mod counting;
 mod rows;
 
-ghost use Rattle.std.specs.Prelude.{◌≡◌, ◌+◌, ◌-◌, ◌≤◌, min, length};
+ghost use Rattle.std.specs.Prelude.{◌≡◌, ◌+◌, ◌≤◌, length};
 ghost use Rattle.trace.specs.Record.{record_of, marked, with_front, stored_number, write_number, part_after};
 ghost use Rattle.trace.specs.Records.{rows_at};
 ghost use Rattle.trace.specs.Raising.{raised};
 ghost use Rattle.trace.specs.Found.{part_found, part_begins};
-ghost use Rattle.trace.specs.Search.{length_inside, place_inside, place_found};
+ghost use Rattle.trace.specs.Search.{length_inside, some_length, place_inside, place_found};
 ghost use Rattle.trace.specs.Shaped.{shaped_of, shape_of};
 
 use counts::Slot;
 
-// Whether the record was written.
-#[derive(Clone, Copy)]
-pub enum Stored {
-    Written,
-    NoRoom,
-}
+// A record has no room in the part.
+#[derive(Clone, Copy, PartialEq, Eq)]
+pub struct NoRoom;
 
 // Writes the record of a slot to the front of the lent part: cores free, rows picked and their numbers. Mark i says that row i was picked.
-pub fn write(part: &mut [u8], free: u8, marks: [bool; 32]) -> Stored
+pub fn write(part: &mut [u8], free: u8, marks: [bool; 32]) -> Result<(), NoRoom>
     ensures result_value { stored_number result ≡ write_number part.old (record_of free (marked marks)) }
     ensures part_after { part.new ≡ part_after part.old (record_of free (marked marks)) }
 {
-    let picked = how_many(marks);
+    let picked = how_many(&marks);
     let length = record_length(picked);
     if part.len() < length {
-        return Stored::NoRoom;
+        return Err(NoRoom);
     }
     part[0] = free;
     part[1] = picked;
-    put_rows(&mut part[2..], marks);
-    Stored::Written
+    put_rows(&mut part[2..], &marks);
+    Ok(())
 }
 
 // How many bytes a record of so many rows has.
@@ -45,41 +42,25 @@ fn record_length(picked: u8) -> usize
 }
 
 // How many marks are set.
-fn how_many(marks: [bool; 32]) -> u8
-    ensures { (result ≡ length (marked marks)) × (result ≤ 32) }
+#[tactic(auto, using(crate::proofs::Writing::all_counted))]
+fn how_many(marks: &[bool; 32]) -> u8
+    ensures { result ≡ length (marked marks.now) }
 {
-    let mut count: u8 = 0;
-    let mut i: usize = 0;
-    while i < 32 {
-        if marks[i] {
-            count += 1;
-        }
-        i += 1;
-    }
-    count
+    marks.iter().filter(|mark| **mark).count() as u8
 }
 
 // Writes the numbers of the marked rows to the front of the part.
-fn put_rows(part: &mut [u8], marks: [bool; 32])
-    requires { length (marked marks) ≤ length part.old }
-    ensures { part.new ≡ with_front part.old (marked marks) }
+fn put_rows(part: &mut [u8], marks: &[bool; 32])
+    requires { length (marked marks.now) ≤ length part.old }
+    ensures { part.new ≡ with_front part.old (marked marks.now) }
 {
     let mut at: usize = 0;
-    let mut i: usize = 0;
-    while i < 32 {
-        if marks[i] {
+    for (i, &is_marked) in marks.iter().enumerate() {
+        if is_marked {
             part[at] = i as u8;
             at += 1;
         }
-        i += 1;
     }
-}
-
-// Where the record of a slot lies.
-#[derive(Clone, Copy)]
-enum Place {
-    Between(usize, usize),
-    Nowhere,
 }
 
 // The record of a slot, the very bytes inside the lent trace: if it is not found, the part of length 0 at 0. What it says is not judged.
@@ -87,139 +68,106 @@ pub fn record(trace: &[u8], slot: Slot) -> &[u8]
     ensures content { result.now ≡ part_found trace.now slot.0 }
     ensures place { (result.ref_ptr.0 ≡ trace.entry.ref_ptr.0) × (result.ref_ptr.1 ≡ trace.entry.ref_ptr.1 + part_begins trace.now slot.0) }
 {
-    let place = find(trace, slot.time());
-    let Place::Between(start, end) = place else {
-        return &trace[..0];
-    };
-    &trace[start..end]
+    match find(trace, slot.time()) {
+        Some((start, end)) => &trace[start..end],
+        None => &trace[..0],
+    }
 }
 
 // Where the part that `record` hands back begins in the trace: 0 if it is not found.
 pub fn begins(trace: &[u8], slot: Slot) -> usize
     ensures { result ≡ part_begins trace.now slot.0 }
 {
-    let place = find(trace, slot.time());
-    let Place::Between(start, _) = place else {
-        return 0;
-    };
-    start
+    match find(trace, slot.time()) {
+        Some((start, _)) => start,
+        None => 0,
+    }
 }
 
-// Looks for a record only if the count says that there is one.
-fn find(trace: &[u8], slot: u64) -> Place
+// Where the record of a slot begins and ends. Looks for it only if the count says that there is one.
+fn find(trace: &[u8], slot: u64) -> Option<(usize, usize)>
     ensures { result ≡ place_found trace.now slot }
 {
     if trace.len() < 4 {
-        return Place::Nowhere;
+        return None;
     }
     let slots = fields::word(trace, 0) as u64;
     if slots <= slot {
-        return Place::Nowhere;
+        return None;
     }
     walk(trace, slot)
 }
 
-// Walks from record to record, and ends at the slot's own or at one that is cut.
-#[tactic(auto, using(crate::proofs::Search::walk_cut))]
-fn walk(trace: &[u8], slot: u64) -> Place
+// Walks from record to record up to the slot's own, or to one that is cut.
+fn walk(trace: &[u8], slot: u64) -> Option<(usize, usize)>
     ensures { result ≡ place_inside trace.now slot }
 {
     let mut start: usize = 4;
-    let mut i: u64 = 0;
-    loop {
-        let length = length_inside(trace, start);
-        if length == 0 {
-            return Place::Nowhere;
-        }
-        let end = start + length;
-        if i == slot {
-            return Place::Between(start, end);
-        }
-        start = end;
-        i += 1;
+    for _ in 0..slot {
+        start += length_inside(trace, start)?;
     }
+    let length = length_inside(trace, start)?;
+    Some((start, start + length))
 }
 
-// How many bytes the record that begins at `start` has: 0 if it does not lie wholly inside the trace.
-pub fn length_inside(trace: &[u8], start: usize) -> usize
-    ensures { result ≡ length_inside trace.now start }
+// How many bytes the record that begins at `start` has, if it lies wholly inside the trace.
+#[tactic(auto, using(crate::proofs::Search::is_cut, crate::proofs::Search::is_whole))]
+pub fn length_inside(trace: &[u8], start: usize) -> Option<usize>
+    ensures { result ≡ some_length (length_inside trace.now start) }
 {
-    if trace.len() <= start {
-        return 0;
-    }
-    let rest = trace.len() - start;
+    let rest = trace.len().saturating_sub(start);
     if rest < 2 {
-        return 0;
+        return None;
     }
-    let picked = trace[start + 1];
-    let whole = record_length(picked);
-    if rest < whole { 0 } else { whole }
+    let whole = record_length(trace[start + 1]);
+    if whole <= rest { Some(whole) } else { None }
 }
 
-// What the shape of a record leads to: the place behind it, or what is found in it first.
-#[derive(Clone, Copy)]
-pub enum Shaped {
-    Sound(usize),
+// What is found in the shape of a record.
+#[derive(Clone, Copy, PartialEq, Eq)]
+pub enum Misshape {
     Cut,
     TooManyCores,
     TooManyRows,
     BadRow,
 }
 
-// Judges the shape of the record at a place, for a table of so many cores and of n rows. A place past the end is one where the trace is cut.
-pub fn shape(cores: u8, n: u8, trace: &[u8], at: usize) -> Shaped
+// Judges the shape of the record at a place, for a table of so many cores and of n rows, and gives the place behind it.
+// A place past the end is one where the trace is cut.
+pub fn shape(cores: u8, n: u8, trace: &[u8], at: usize) -> Result<usize, Misshape>
     ensures { shaped_of result ≡ shape_of cores n trace.now at }
 {
-    let rest = left_from(trace, at);
+    let rest = trace.len().saturating_sub(at);
     if rest < 2 {
-        return Shaped::Cut;
+        return Err(Misshape::Cut);
     }
     let free = trace[at];
     let picked = trace[at + 1];
     if cores < free {
-        return Shaped::TooManyCores;
+        return Err(Misshape::TooManyCores);
     }
     if free < picked {
-        return Shaped::TooManyRows;
+        return Err(Misshape::TooManyRows);
     }
     let long = record_length(picked);
     if rest < long {
-        return Shaped::Cut;
-    }
-    let first = at + 2;
-    let c = picked as usize;
-    if rows::are_bad(trace, first, c, n) {
-        return Shaped::BadRow;
+        return Err(Misshape::Cut);
     }
     let next = at + long;
-    Shaped::Sound(next)
-}
-
-// How many bytes there are from a place on: 0 past the end.
-fn left_from(trace: &[u8], at: usize) -> usize
-    ensures { result ≡ length trace.now - at }
-{
-    if trace.len() <= at {
-        return 0;
+    if rows::are_bad(&trace[at + 2..next], n) {
+        return Err(Misshape::BadRow);
     }
-    trace.len() - at
+    Ok(next)
 }
 
 // Raises the count of each row below 32 that the record at a place names, by one however often it does. Rows past the trace's end are not there.
 pub fn raise(trace: &[u8], place: usize, counts: &mut [u32; 32])
     ensures { counts.new ≡ raised (rows_at trace.now place) 0 counts.old }
 {
-    let rest = left_from(trace, place);
+    let rest = trace.len().saturating_sub(place);
     if rest < 2 {
         return;
     }
-    let picked = trace[place + 1];
-    let there = least(record_length(picked), rest);
-    counting::raise_named(trace, place + 2, there - 2, counts);
-}
-
-fn least(a: usize, b: usize) -> usize
-    ensures { result ≡ min a b }
-{
-    if a < b { a } else { b }
+    let there = record_length(trace[place + 1]).min(rest);
+    counting::raise_named(&trace[place + 2..place + there], counts);
 }

@@ -1,24 +1,28 @@
-use mathlib.Core.Path.{◌≡◌}
-use native.Mathlib.Omega.{arith}
-use borrow.Author.Rules.{rules}
-use Rattle.trace.proofs.Search.{walk_begins, walk_inside, walk_ends, walk_on}
+use Rattle.std.proofs.Common.{arith, rules}
+use Rattle.trace.proofs.Search.{walk_begins, walk_cut, walk_inside, walk_ends, walk_on}
 use Rattle.trace.proofs.walk.Goals as goal
 
-pub loop-slot-init : goal.loop-slot-init
-loop-slot-init c = walk_begins _ _
+pub loop-init : goal.loop-init
+loop-init c = walk_begins _ _
 
-pub overflow_add-end : goal.overflow_add-end
-overflow_add-end c =
-    let some : c.length_inside-length.result ≡ 0 → ⊥ = λ e. omega (arith, e) in
-    let inside = walk_inside _ _ c.loop-slot.invariant c.length_inside-length.ensures some in
+pub returns-in_err-start : goal.returns-in_err-start
+returns-in_err-start c = rw c.from_residual.ensures (walk_cut _ _ c.loop.invariant c.in_err-start.ensures)
+
+pub overflow_add-start : goal.overflow_add-start
+overflow_add-start c =
+    let inside = walk_inside _ _ c.loop.invariant c.in_ok-start.ensures in
     search rules
 
-pub returns-then-i-slot : goal.returns-then-i-slot
-returns-then-i-slot c =
-    let some : c.length_inside-length.result ≡ 0 → ⊥ = λ e. omega (arith, e) in
-    walk_ends _ _ c.loop-slot.invariant c.length_inside-length.ensures some c.if-i-slot.true
+pub loop-preserved : goal.loop-preserved
+loop-preserved c = walk_on _ _ c.loop.invariant c.in_ok-start.ensures c.loop-test.true
 
-pub loop-slot-preserved : goal.loop-slot-preserved
-loop-slot-preserved c =
-    let some : c.length_inside-length.result ≡ 0 → ⊥ = λ e. omega (arith, e) in
-    walk_on _ _ c.loop-slot.invariant c.length_inside-length.ensures some c.if-i-slot.false
+pub returns-in_err-length : goal.returns-in_err-length
+returns-in_err-length c = rw c.from_residual-in_err-length.ensures (walk_cut _ _ c.loop.invariant c.in_err-length.ensures)
+
+pub overflow_add-result : goal.overflow_add-result
+overflow_add-result c =
+    let inside = walk_inside _ _ c.loop.invariant c.in_ok-length.ensures in
+    search rules
+
+pub returns : goal.returns
+returns c = walk_ends _ _ c.loop.invariant c.in_ok-length.ensures (omega (arith, c.loop.invariant.within, c.loop-test.false))
