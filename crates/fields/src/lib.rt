@@ -1,7 +1,7 @@
 // Fields in bytes, little-endian. A byte past the end counts as 0 and is not written, so every place may be asked for.
 #![tactic(auto)]
 
-ghost use Rattle.std.specs.Prelude.{◌≡◌, ◌-◌, min, length};
+ghost use Rattle.std.specs.Prelude.{◌≡◌, ◌-◌, ◌^◌, ◌<◌, ◌≤◌, min, length};
 ghost use Rattle.std.proofs.lemmas.List.Edits.{sets};
 ghost use Rattle.fields.specs.Fields.{byte, half, word, bytes_of, number_at};
 
@@ -9,43 +9,44 @@ ghost use Rattle.fields.specs.Fields.{byte, half, word, bytes_of, number_at};
 pub fn byte(s: &[u8], at: usize) -> u8
     ensures { result ≡ byte s.now at }
 {
-    if at < s.len() { s[at] } else { 0 }
+    s.get(at).copied().unwrap_or(0)
 }
 
 // The number in the two bytes from place `at` on.
 pub fn half(s: &[u8], at: usize) -> u16
     ensures { result ≡ half s.now at }
 {
-    if s.len() <= at {
-        return 0;
-    }
-    let low = byte(s, at) as u16;
-    let high = byte(s, at + 1) as u16;
-    low + 256 * high
+    number::<2>(s, at) as u16
 }
 
 // The number in the four bytes from place `at` on.
 pub fn word(s: &[u8], at: usize) -> u32
     ensures { result ≡ word s.now at }
 {
-    if s.len() <= at {
-        return 0;
-    }
-    let low = half(s, at) as u32;
-    let high = half(s, at + 2) as u32;
-    low + 65536 * high
+    number::<4>(s, at) as u32
 }
 
 // The number in the eight bytes from place `at` on.
 pub fn long(s: &[u8], at: usize) -> u64
     ensures { result ≡ number_at 8 s.now at }
 {
+    number::<8>(s, at)
+}
+
+// The number in WIDTH bytes from place `at` on: from the last byte, the highest, down.
+fn number<const WIDTH: usize>(s: &[u8], at: usize) -> u64
+    requires { WIDTH ≤ 8 }
+    ensures value { result ≡ number_at WIDTH s.now at }
+    ensures fits { result < 256 ^ WIDTH }
+{
     if s.len() <= at {
         return 0;
     }
-    let low = word(s, at) as u64;
-    let high = word(s, at + 4) as u64;
-    low + 4294967296 * high
+    let mut number = 0;
+    for i in (0..WIDTH).rev() {
+        number = 256 * number + u64::from(byte(s, at + i));
+    }
+    number
 }
 
 // Writes a number into so many bytes from place `at` on. Of the number what does not fit into them is left out, and of the bytes those past the end; where
@@ -57,19 +58,11 @@ pub fn put(s: &mut [u8], at: usize, width: usize, number: u64) -> usize
     if s.len() <= at {
         return 0;
     }
-    let inside = least(width, s.len() - at);
+    let inside = width.min(s.len() - at);
     let mut left = number;
-    let mut i: usize = 0;
-    while i < inside {
+    for i in 0..inside {
         s[at + i] = (left % 256) as u8;
         left /= 256;
-        i += 1;
     }
     inside
-}
-
-fn least(a: usize, b: usize) -> usize
-    ensures { result ≡ min a b }
-{
-    if a < b { a } else { b }
 }

@@ -1,9 +1,5 @@
-use Prim.Native.Nat.{◌-◌, ◌≤◌}
 use Rattle.fields.proofs.Putting.{Put}
 use Rattle.fields.proofs.put.Given as goal
 
 abbrev pub invariant-loop-i : goal.invariant-loop-i
-invariant-loop-i l = (l.i ≤ l.inside) × Put l.initial.s l.at l.width l.number l.s l.left l.i
-
-abbrev pub decreases-loop-i : goal.decreases-loop-i
-decreases-loop-i l = l.inside - l.i
+invariant-loop-i l = Put l.initial.s l.at l.width l.number l.s l.left l.i

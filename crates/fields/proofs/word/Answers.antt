@@ -1,6 +1,6 @@
-use mathlib.Core.Path.{sym}
-use Rattle.fields.proofs.Fields.{no_word}
+use mathlib.Core.Path.{sym, ◌∙◌}
+use Rattle.fields.proofs.Numbers.{fields_are_numbers}
 use Rattle.fields.proofs.word.Goals as goal
 
-pub returns-then-s-at : goal.returns-then-s-at
-returns-then-s-at c = sym (no_word c.args.s.now c.if-s-at.true)
+pub returns : goal.returns
+returns c = c.number.ensures.value ∙ sym (fields_are_numbers.four c.args.s.now c.args.at)
