@@ -1,10 +1,10 @@
 -- "For every answer that is an enum, a definition states this paper's number and values for each of the enum's cases" (01, "Our forms for each place"):
 -- what each case says, written out. (The row that is read is an enum inside `table`: table/specs/RowRead.antt.)
-use Rattle.std.specs.Prelude.{ℕ, ◌≡◌, Bool, true, false, Option, Some, None}
+use Rattle.std.specs.Prelude.{ℕ, ◌≡◌, Bool, true, false, Option, Some, None, Result, Ok, Err}
 use Rattle.counts.specs.declared.Slot.{Slot}
 use Rattle.windows.specs.Question.{reply_of}
 use Rattle.pd2.specs.Verdict.{is_yes, verdict}
-use Rattle.trace.specs.declared.Stored.TheVariants as stored
+use Rattle.trace.specs.declared.NoRoom.{NoRoom}
 use Rattle.trace.specs.Record.{stored_number}
 use Rattle.trace.specs.Said.{bare, named}
 use Rattle.dispatcher.specs.declared.Answer.TheVariants as slot
@@ -27,8 +27,8 @@ pub record WindowCases : Type 0 where
 
 -- the writer of a record
 pub record StoredCases : Type 0 where
-  pub written : stored_number stored.Written ≡ 0
-  pub no_room : stored_number stored.NoRoom ≡ 34
+  pub written : stored_number (Ok tt) ≡ 0
+  pub no_room : (reason : NoRoom) → stored_number (Err reason) ≡ 34
 
 -- a slot: "names the lowest such row and that time"
 pub record SlotCases : Type 0 where

@@ -1,5 +1,5 @@
 -- Any two results that a promise allows are equal (01, "What the statements must say"): state, buffer and refused answers included.
-use Rattle.std.specs.Prelude.{ℕ, List, Bool, Option}
+use Rattle.std.specs.Prelude.{ℕ, Unit, List, Bool, Option, Result}
 use Rattle.facts.specs.Determined.{Determined}
 use Rattle.counts.specs.declared.Slot.{Slot}
 use Rattle.counts.specs.declared.Quanta.{Quanta}
@@ -7,7 +7,7 @@ use Rattle.counts.specs.declared.Subtask.{Subtask}
 use Rattle.table.specs.declared.Row.{Row}
 use Rattle.table.specs.declared.Table.{Table}
 use Rattle.table.specs.declared.Writing.{Writing}
-use Rattle.trace.specs.declared.Stored.{Stored}
+use Rattle.trace.specs.declared.NoRoom.{NoRoom}
 use Rattle.cores.specs.declared.Placement.{Placement}
 use Rattle.dispatcher.specs.declared.State.{State}
 use Rattle.dispatcher.specs.declared.Answer.{Answer}
@@ -15,7 +15,7 @@ use Rattle.dispatcher.specs.declared.Outcome.{Outcome}
 use Rattle.why.specs.declared.Answer.{Answer as WhyAnswer}
 use Rattle.checker.specs.declared.Answer.{Answer as Checked}
 use Rattle.printer.specs.declared.Printed.{Printed}
-use Rattle.demands.specs.Promises.{counts·Slot·at, counts·Slot·time, counts·Slot·later, counts·Slot·before, counts·Slot·since, counts·Quanta·of, counts·Quanta·count, counts·Quanta·one_more, counts·Quanta·next_subtask, counts·Subtask·numbered, counts·Subtask·number, counts·Subtask·next, counts·Subtask·quanta_before, fields·byte, fields·half, fields·word, fields·long, fields·put, windows·window, windows·window_by_walk, windows·next_due, windows·next_start, windows·next_job_start, windows·next_group_deadline, table·read, table·fault, table·write, pd2·is_yes, pd2·origin, pd2·ready, pd2·late, pd2·within, pd2·give, pd2·lowest_late, trace·write, trace·record, trace·begins, trace·length_inside, trace·shape, trace·raise, summary·quanta_before, choice·picks, choice·first_left, cores·Placement·nobody, cores·Placement·is_faulty, cores·Placement·ran, cores·how_many, cores·names_past, cores·first, cores·place, dispatcher·Answer·told, dispatcher·State·fresh, dispatcher·State·is_broken, dispatcher·State·favoured, dispatcher·State·slot, dispatcher·State·refusal, why·Answer·told, why·of_row, checker·check, checker·number, firmware·zb_table_check, firmware·zb_trace_check, printer·Printed·length, printer·print, slots_run·zb_slots, desk_run·zb_run, desk_run·zb_judge}
+use Rattle.demands.specs.Promises.{counts·Slot·at, counts·Slot·time, counts·Slot·later, counts·Slot·before, counts·Slot·since, counts·Quanta·of, counts·Quanta·count, counts·Quanta·one_more, counts·Quanta·next_subtask, counts·Subtask·numbered, counts·Subtask·number, counts·Subtask·next, counts·Subtask·quanta_before, fields·byte, fields·half, fields·word, fields·long, fields·put, windows·window, windows·window_by_walk, windows·next_due, windows·next_start, windows·next_job_start, windows·next_group_deadline, table·read, table·fault, table·write, pd2·is_yes, pd2·origin, pd2·ready, pd2·late, pd2·within, pd2·give, pd2·lowest_late, trace·write, trace·record, trace·begins, trace·length_inside, trace·shape, trace·raise, summary·quanta_before, choice·picks, choice·first_left, cores·Placement·nobody, cores·Placement·is_faulty, cores·Placement·ran, cores·how_many, cores·names_past, cores·first, cores·place, dispatcher·Answer·told, dispatcher·State·fresh, dispatcher·State·is_broken, dispatcher·State·favoured, dispatcher·State·slot, dispatcher·State·refusal, why·Answer·told, why·of_row, checker·check, checker·number, values·row, values·rows, values·quanta, values·table, values·state, values·put_quanta, values·put_table, values·put_placement, values·put_state, firmware·zb_table_check, firmware·zb_trace_check, printer·Printed·length, printer·print, slots_run·zb_slots, desk_run·zb_run, desk_run·zb_judge}
 
 pub record EveryPromiseDetermines : Type 0 where
   pub counts_slot_at : (time : ℕ) → Determined (counts·Slot·at time)
@@ -52,7 +52,7 @@ pub record EveryPromiseDetermines : Type 0 where
   pub pd2_within : (row : Row) (given : Quanta) (time : Slot) → Determined (pd2·within row given time)
   pub pd2_give : (quanta : List Quanta) (marks : List Bool) → Determined (pd2·give quanta marks)
   pub pd2_lowest_late : (rows : List Row) (quanta : List Quanta) (n : ℕ) (time : Slot) → Determined (pd2·lowest_late rows quanta n time)
-  pub trace_write : (part : List ℕ) (free : ℕ) (marks : List Bool) → Determined {R = Stored × List ℕ} (λ r. trace·write part free marks r.0 r.1)
+  pub trace_write : (part : List ℕ) (free : ℕ) (marks : List Bool) → Determined {R = Result (Unit {0}) NoRoom × List ℕ} (λ r. trace·write part free marks r.0 r.1)
   pub trace_record : (trace : List ℕ) (trace_ptr : ℕ × ℕ) (slot : Slot) → Determined (trace·record trace trace_ptr slot)
   pub trace_begins : (trace : List ℕ) (slot : Slot) → Determined (trace·begins trace slot)
   pub trace_length_inside : (trace : List ℕ) (start : ℕ) → Determined (trace·length_inside trace start)
@@ -78,6 +78,15 @@ pub record EveryPromiseDetermines : Type 0 where
   pub why_of_row : (state : State) (k row : ℕ) → Determined (why·of_row state k row)
   pub checker_check : (table trace : List ℕ) → Determined (checker·check table trace)
   pub checker_number : (answer : Checked) → Determined (checker·number answer)
+  pub values_row : (bytes : List ℕ) → Determined (values·row bytes)
+  pub values_rows : (bytes : List ℕ) → Determined (values·rows bytes)
+  pub values_quanta : (bytes : List ℕ) → Determined (values·quanta bytes)
+  pub values_table : (bytes : List ℕ) → Determined (values·table bytes)
+  pub values_state : (bytes : List ℕ) → Determined (values·state bytes)
+  pub values_put_quanta : (bytes : List ℕ) (quanta : List Quanta) → Determined (values·put_quanta bytes quanta)
+  pub values_put_table : (bytes : List ℕ) (table : Table) → Determined (values·put_table bytes table)
+  pub values_put_placement : (bytes : List ℕ) (placed : Placement) → Determined (values·put_placement bytes placed)
+  pub values_put_state : (bytes : List ℕ) (state : State) → Determined (values·put_state bytes state)
   pub firmware_zb_table_check : (table : List ℕ) → Determined (firmware·zb_table_check table)
   pub firmware_zb_trace_check : (table trace : List ℕ) → Determined (firmware·zb_trace_check table trace)
   pub printer_printed_length : (self : Printed) → Determined (printer·Printed·length self)

@@ -1,6 +1,6 @@
 -- The promise of every public function, crate by crate, as its contract says it: which results it allows. A slice that is lent stands for the bytes
 -- it holds at the call; where a function writes, `_new` has those it holds afterwards. The gate compares each with the contract in the source.
-use Rattle.std.specs.Prelude.{ℕ, ◌+◌, ◌-◌, ◌≤◌, min, ◌≡◌, List, Bool, Option, length, take}
+use Rattle.std.specs.Prelude.{ℕ, ◌+◌, ◌-◌, ◌≤◌, min, ◌≡◌, Unit, List, Bool, Option, Result, length, take}
 use Rattle.std.proofs.lemmas.List.Edits.{sets}
 use Rattle.std.specs.Borrow.{Bor}
 use Rattle.facts.specs.First.{Lowest}
@@ -20,18 +20,18 @@ use Rattle.table.specs.declared.Row.{Row}
 use Rattle.table.specs.declared.Table.{Table}
 use Rattle.table.specs.declared.Reading.{Reading}
 use Rattle.table.specs.declared.Writing.{Writing}
-use Rattle.table.specs.Bytes.{table_number, reading}
+use Rattle.table.specs.Bytes.{table_number, reading, row_in_bytes}
 use Rattle.table.specs.Value.{fault_of}
 use Rattle.table.specs.Writing.{writing, buffer_after}
 use Rattle.pd2.specs.Ready.{origin_of, ready, late}
 use Rattle.pd2.specs.Share.{within}
 use Rattle.pd2.specs.Verdict.{is_yes, answered, verdict}
 use Rattle.pd2.specs.Rows.{GaveMarked, says_late_in}
-use Rattle.trace.specs.declared.Stored.{Stored}
-use Rattle.trace.specs.declared.Shaped.{Shaped}
+use Rattle.trace.specs.declared.NoRoom.{NoRoom}
+use Rattle.trace.specs.declared.Misshape.{Misshape}
 use Rattle.trace.specs.Said.{bare}
 use Rattle.trace.specs.Records.{rows_at}
-use Rattle.trace.specs.Search.{length_inside}
+use Rattle.trace.specs.Search.{length_inside, some_length}
 use Rattle.trace.specs.Shaped.{shaped_of, shape_of}
 use Rattle.trace.specs.Raising.{raised}
 use Rattle.trace.specs.Record.{record_of, marked, stored_number, write_number, part_after}
@@ -62,6 +62,7 @@ use Rattle.why.specs.Why.{why_of}
 use Rattle.checker.specs.declared.Answer.{Answer as Checked}
 use Rattle.checker.specs.Answer as checked
 use Rattle.checker.specs.Check.{check_of}
+use Rattle.values.specs.Values.{rows_in_bytes, quanta_in_bytes, value_in_bytes, state_in_bytes, bytes_of_quanta, bytes_of_value, bytes_of_placement, bytes_of_state}
 use Rattle.printer.specs.declared.Printed.{Printed}
 use Rattle.printer.specs.Limits.{text_limit}
 use Rattle.printer.specs.Text.{text_of}
@@ -207,7 +208,7 @@ abbrev pub pd2·lowest_late : List Row → List Quanta → ℕ → Slot → ℕ 
 pd2·lowest_late rows quanta n time r = Lowest (says_late_in rows (numbers_of quanta) time.0) (min n 32) r
 
 -- trace::write
-abbrev pub trace·write : List ℕ → ℕ → List Bool → Stored → List ℕ → Type 0
+abbrev pub trace·write : List ℕ → ℕ → List Bool → Result (Unit {0}) NoRoom → List ℕ → Type 0
 trace·write part free marks r part_new = (stored_number r ≡ write_number part (record_of free (marked marks))) × (part_new ≡ part_after part (record_of free (marked marks)))
 
 -- trace::record; `trace_ptr` is where the lent trace lies: a block of memory, and a place in it
@@ -219,11 +220,11 @@ abbrev pub trace·begins : List ℕ → Slot → ℕ → Type 0
 trace·begins trace slot r = r ≡ part_begins trace slot.0
 
 -- trace::length_inside
-abbrev pub trace·length_inside : List ℕ → ℕ → ℕ → Type 0
-trace·length_inside trace start r = r ≡ length_inside trace start
+abbrev pub trace·length_inside : List ℕ → ℕ → Option ℕ → Type 0
+trace·length_inside trace start r = r ≡ some_length (length_inside trace start)
 
 -- trace::shape
-abbrev pub trace·shape : ℕ → ℕ → List ℕ → ℕ → Shaped → Type 0
+abbrev pub trace·shape : ℕ → ℕ → List ℕ → ℕ → Result ℕ Misshape → Type 0
 trace·shape cores n trace at r = shaped_of r ≡ shape_of cores n trace at
 
 -- trace::raise
@@ -314,6 +315,42 @@ checker·check table trace r = checked.said_of r ≡ check_of table trace
 -- checker::number
 abbrev pub checker·number : Checked → ℕ → Type 0
 checker·number answer r = r ≡ (checked.said_of answer).number
+
+-- values::row
+abbrev pub values·row : List ℕ → Row → Type 0
+values·row bytes r = r ≡ row_in_bytes bytes 0
+
+-- values::rows
+abbrev pub values·rows : List ℕ → List Row → Type 0
+values·rows bytes r = r ≡ rows_in_bytes bytes 0
+
+-- values::quanta
+abbrev pub values·quanta : List ℕ → List Quanta → Type 0
+values·quanta bytes r = r ≡ quanta_in_bytes bytes 0
+
+-- values::table
+abbrev pub values·table : List ℕ → Table → Type 0
+values·table bytes r = r ≡ value_in_bytes bytes 0
+
+-- values::state
+abbrev pub values·state : List ℕ → State → Type 0
+values·state bytes r = r ≡ state_in_bytes bytes 0
+
+-- values::put_quanta
+abbrev pub values·put_quanta : List ℕ → List Quanta → List ℕ → Type 0
+values·put_quanta bytes quanta bytes_new = bytes_new ≡ sets bytes 0 (bytes_of_quanta quanta)
+
+-- values::put_table
+abbrev pub values·put_table : List ℕ → Table → List ℕ → Type 0
+values·put_table bytes table bytes_new = bytes_new ≡ sets bytes 0 (bytes_of_value table)
+
+-- values::put_placement
+abbrev pub values·put_placement : List ℕ → Placement → List ℕ → Type 0
+values·put_placement bytes placed bytes_new = bytes_new ≡ sets bytes 0 (bytes_of_placement placed)
+
+-- values::put_state
+abbrev pub values·put_state : List ℕ → State → List ℕ → Type 0
+values·put_state bytes state bytes_new = bytes_new ≡ sets bytes 0 (bytes_of_state state)
 
 -- firmware::zb_table_check
 abbrev pub firmware·zb_table_check : List ℕ → ℕ → Type 0

@@ -1,0 +1,8 @@
+use Rattle.std.proofs.Common.{◌≡◌, take}
+use mathlib.Core.List.{flat_map}
+use Rattle.std.proofs.lemmas.List.Edits.{sets}
+use Rattle.fields.specs.Fields.{bytes_of}
+use Rattle.values.proofs.write.eight.Given as goal
+
+abbrev pub invariant-loop-i : goal.invariant-loop-i
+invariant-loop-i l = l.bytes ≡ sets l.initial.bytes l.at (flat_map (bytes_of 1) (take l.i l.numbers))
