@@ -1,58 +1,33 @@
 -- The laws of the question's code: the loop over the rows of a record, the walk from record to record, and the tests around them. Assumes nothing.
 use Prim.Native.Nat.{ℕ, ◌+◌, ◌-◌, ◌*◌, ◌≤◌, ◌<◌, min}
 use mathlib.Core.Path.{◌≡◌, refl, sym, ap, ◌∙◌}
-use mathlib.Core.List.{List}
-use mathlib.Core.Bool.{Bool, true, false, cond, true≢false}
+use mathlib.Core.List.{List, [], ◌∷◌}
+use mathlib.Core.Bool.{Bool, true, false, cond, ◌||◌}
 use native.Mathlib.Numerals.{add-one}
 use native.Mathlib.Omega.{arith}
-use borrow.Author.Tests.{lt-ltb, le-ltb, eq-eqb}
+use borrow.Author.Tests.{lt-ltb, le-ltb}
+use Rattle.std.specs.Prelude.{Some, None}
+use Rattle.std.specs.List.{list_any}
 use lib.Dec.{eqb}
-use lib.ListN.{length, get_or, take, drop, length-drop}
-use lib.Seq.{length-take-le, get_or-take, get_or-drop}
+use lib.ListN.{length, take, drop}
 use Rattle.facts.specs.Findings.{first_found}
 use Rattle.facts.proofs.Counting.{Counted, counting_begins, counts_passed, skips_failed, counted_all, no_more_than_all}
 use Rattle.facts.proofs.Some.{NoneYet, looking_begins, looks_on, none_at_all, some_if}
-use Rattle.fields.specs.Fields.{byte, shorter}
+use Rattle.fields.specs.Fields.{shorter}
 use Rattle.table.specs.Limits.{row_limit}
 use Rattle.trace.specs.Records.{picked_at, rows_at, past_record, place_of, names, named_in, times_named_from}
-use Rattle.trace.specs.Search.{length_inside}
-use Rattle.trace.proofs.Names.{named_at, not_named}
+use Rattle.trace.specs.Search.{length_inside, some_length}
 use Rattle.trace.proofs.Records.{begins_at_first, ends_at_next}
 use Rattle.trace.proofs.Search.{cut_ends, whole_ends}
-use Rattle.summary.specs.declared.Walk.TheVariants.{Times, Outside}
 use Rattle.summary.specs.Summary.{spacing, entry_size, place_said, quanta_said}
 use Rattle.summary.specs.Question.{Reply, last_entry, since_entry, past_count, entry_missing, exceed_time, some_outside, counted_on, reply_to}
 use Rattle.summary.specs.Walking.{walk_of, on_reply}
 
--- The loop over the c rows from a place on, which looks for one.
-module _ (s : List ℕ) (first c row : ℕ) where
-  -- Row j of them is the one that is looked for.
-  abbrev pub is_row : ℕ → Bool
-  is_row j = eqb (byte s (first + j)) row
-
-  -- Row j of the list stands in byte j from the place on.
-  row_at_is : (j : ℕ) → j < c → get_or (take c (drop first s)) j 0 ≡ byte s (first + j)
-  row_at_is j l = get_or-take c (drop first s) j 0 l ∙ get_or-drop first s j 0
-
-  module _ (inside : first + c ≤ length s) where
-    -- The list has c rows.
-    how_many_rows : length (take c (drop first s)) ≡ c
-    how_many_rows = length-take-le c (drop first s) (omega (arith, length-drop first s))
-
-    -- A row that is met is named,
-    pub met_is_named : {j : ℕ} → j < c → byte s (first + j) ≡ row → true ≡ names (take c (drop first s)) row
-    met_is_named {j} l e =
-        let rows = take c (drop first s) in
-        sym (named_at rows j (omega (arith, how_many_rows))) ∙ ap (names rows) (row_at_is j l ∙ e)
-
-    -- and one that is met nowhere is not.
-    pub unmet_is_not_named : {j : ℕ} → NoneYet is_row c j → c ≤ j → false ≡ names (take c (drop first s)) row
-    unmet_is_not_named so h = sym (not_named (take c (drop first s)) row other)
-      where
-        other : (i : ℕ) → i < length (take c (drop first s)) → get_or (take c (drop first s)) i 0 ≡ row → ⊥
-        other i l e =
-            let b : i < c = omega (arith, how_many_rows) in
-            true≢false (sym (eq-eqb (byte s (first + i)) row (sym (row_at_is i b) ∙ e)) ∙ so.none i (omega arith))
+-- A row is among others exactly if they name it.
+pub is_named : (rows : List ℕ) (row : ℕ) → list_any (λ r. eqb r row) rows ≡ names rows row
+unfolding names
+is_named [] row = refl
+is_named (r ∷ rows) row = ap (λ b. eqb r row || b) (is_named rows row)
 
 -- The walk over m records from a place on, which counts those that name a row.
 module _ (s : List ℕ) (from row m : ℕ) where
@@ -71,27 +46,27 @@ module _ (s : List ℕ) (from row m : ℕ) where
   walk_begins = record { place = sym (begins_at_first s from); counted = counting_begins (named_in s from row) m; inside = looking_begins is_outside m }
 
   -- ends with the count of all,
-  pub walk_ends : {at times i : ℕ} → Walked at times i → m ≤ i → Times times ≡ walk_of s from row m
+  pub walk_ends : {at times i : ℕ} → Walked at times i → m ≤ i → Some times ≡ walk_of s from row m
   unfolding walk_of
-  walk_ends so h = rw (none_at_all is_outside m so.inside h) (ap Times (counted_all (named_in s from row) m so.counted h))
+  walk_ends so h = rw (none_at_all is_outside m so.inside h) (ap Some (counted_all (named_in s from row) m so.counted h))
 
-  module _ {at times i n : ℕ} (so : Walked at times i) (l : i < m) (e : n ≡ length_inside s at) where
+  module _ {at times i : ℕ} (so : Walked at times i) (l : i < m) where
     -- or where a record is not inside the trace.
-    pub walk_cut : n ≡ 0 → Outside ≡ walk_of s from row m
+    pub walk_cut : None ≡ some_length (length_inside s at) → None ≡ walk_of s from row m
     unfolding walk_of
-    walk_cut z =
-        let out : is_outside i ≡ true = rw (← so.place) (lt-ltb (length s) (past_record s at) (cut_ends s at (sym e ∙ z))) in
+    walk_cut cut =
+        let out : is_outside i ≡ true = rw (← so.place) (lt-ltb (length s) (past_record s at) (cut_ends s at cut)) in
         rw (some_if is_outside m i l out)
 
-    module _ (whole : n ≡ 0 → ⊥) where
+    module _ {n : ℕ} (whole : Some n ≡ some_length (length_inside s at)) where
       -- One that has a length ends inside, so many bytes on,
       pub ends_inside : (past_record s at ≡ at + n) × (at + n ≤ length s) × (2 ≤ n)
-      ends_inside = let h = whole_ends s at e whole in (h.0, h.1, omega (arith, h.0))
+      ends_inside = let h = whole_ends s at whole in (h.0, h.1, omega (arith, h.0))
 
       -- its rows stand behind its first two bytes,
-      these_rows : names (take (n - 2) (drop (at + 2) s)) row ≡ named_in s from row i
+      these_rows : names (take (at + n - (at + 2)) (drop (at + 2) s)) row ≡ named_in s from row i
       these_rows =
-          let c : n - 2 ≡ picked_at s at = omega (arith, ends_inside.0) in
+          let c : at + n - (at + 2) ≡ picked_at s at = omega (arith, ends_inside.0) in
           ap (λ k. names (take k (drop (at + 2) s)) row) c ∙ ap (λ p. names (rows_at s p) row) so.place
 
       -- the next begins where it ends,
@@ -99,48 +74,42 @@ module _ (s : List ℕ) (from row m : ℕ) where
       next_place =
           sym ends_inside.0 ∙ (ap (past_record s) so.place ∙ (ends_at_next s from i ∙ ap (place_of s from) (sym (add-one i))))
 
-      -- it is counted if it names the row,
-      counts_on : (b : Bool) {x : ℕ} → x ≡ cond b 1 0 → named_in s from row i ≡ b → Counted (named_in s from row) m (times + x) (i + 1)
-      counts_on true one named = rw one (counts_passed (named_in s from row) m so.counted l named)
-      counts_on false none named =
-          let same : times + 0 ≡ times = omega arith in
-          rw (none, same) (skips_failed (named_in s from row) m so.counted l named)
+      next_inside : NoneYet is_outside m (i + 1)
+      next_inside = looks_on is_outside m so.inside l (rw (← so.place) (le-ltb (length s) (past_record s at) (omega (arith, ends_inside))))
 
-      -- and the walk goes on behind it.
-      pub walk_on : {b : Bool} {x : ℕ} → b ≡ names (take (n - 2) (drop (at + 2) s)) row → x ≡ cond b 1 0 → Walked (at + n) (times + x) (i + 1)
-      walk_on {b} named one =
-          record {
-            place = next_place;
-            counted = counts_on b one (sym (named ∙ these_rows));
-            inside = looks_on is_outside m so.inside l (rw (← so.place) (le-ltb (length s) (past_record s at) (omega (arith, ends_inside))));
-          }
+      -- and the walk goes on behind it, with one more if it names the row.
+      pub walk_on_named : true ≡ names (take (at + n - (at + 2)) (drop (at + 2) s)) row → Walked (at + n) (times + 1) (i + 1)
+      walk_on_named named =
+          record { place = next_place; counted = counts_passed (named_in s from row) m so.counted l (sym (named ∙ these_rows)); inside = next_inside }
+
+      pub walk_on_other : false ≡ names (take (at + n - (at + 2)) (drop (at + 2) s)) row → Walked (at + n) times (i + 1)
+      walk_on_other other =
+          record { place = next_place; counted = skips_failed (named_in s from row) m so.counted l (sym (other ∙ these_rows)); inside = next_inside }
 
   -- If the walk tells a number, all records are inside, and so many of them name the row,
-  pub told_times : {x : ℕ} → Times x ≡ walk_of s from row m → (some_outside s from m ≡ false) × (x ≡ times_named_from s from row m) × (x ≤ m)
+  pub told_times : {x : ℕ} → Some x ≡ walk_of s from row m → (some_outside s from m ≡ false) × (x ≡ times_named_from s from row m) × (x ≤ m)
   unfolding walk_of
   told_times {x} e = go (some_outside s from m) refl
     where
       go : (b : Bool) → some_outside s from m ≡ b → (some_outside s from m ≡ false) × (x ≡ times_named_from s from row m) × (x ≤ m)
       go true h =
-          let found : Times x ≡ Outside = e ∙ ap (λ b. cond b Outside (Times (times_named_from s from row m))) h in
-          let z : ◌≡◌ {A = ℕ} 0 1 = cc in
-          absurd (omega arith)
+          let found : Some x ≡ None = e ∙ ap (λ b. cond b None (Some (times_named_from s from row m))) h in
+          absurd cc
       go false h =
-          let found : Times x ≡ Times (times_named_from s from row m) = e ∙ ap (λ b. cond b Outside (Times (times_named_from s from row m))) h in
+          let found : Some x ≡ Some (times_named_from s from row m) = e ∙ ap (λ b. cond b None (Some (times_named_from s from row m))) h in
           let same : x ≡ times_named_from s from row m = cc found in
           (h, same, omega (arith, same, no_more_than_all (named_in s from row) m))
 
   -- and else one is not.
-  pub told_outside : Outside ≡ walk_of s from row m → some_outside s from m ≡ true
+  pub told_outside : None ≡ walk_of s from row m → some_outside s from m ≡ true
   unfolding walk_of
   told_outside e = go (some_outside s from m) refl
     where
       go : (b : Bool) → some_outside s from m ≡ b → some_outside s from m ≡ true
       go true h = h
       go false h =
-          let found : Outside ≡ Times (times_named_from s from row m) = e ∙ ap (λ b. cond b Outside (Times (times_named_from s from row m))) h in
-          let z : ◌≡◌ {A = ℕ} 0 1 = cc in
-          absurd (omega arith)
+          let found : None ≡ Some (times_named_from s from row m) = e ∙ ap (λ b. cond b None (Some (times_named_from s from row m))) h in
+          absurd cc
 
 -- What is answered once neither 36 nor 38 is.
 module _ (trace summary : List ℕ) (row t : ℕ) where

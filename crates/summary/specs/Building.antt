@@ -10,8 +10,6 @@ use Rattle.table.specs.Value.{fault_of, rows_of}
 use Rattle.trace.specs.Record.{with_front, with_record}
 use Rattle.trace.specs.Records.{slots_in, place_in}
 use Rattle.trace.specs.Shape.{slot_count_cut, too_long, head_cut, too_many_cores, too_many_rows, rows_cut, bad_row, extra}
-use Rattle.summary.specs.declared.Built.{Built}
-use Rattle.summary.specs.declared.Built.TheVariants.{Entries, NotWellFormed, NoRoom}
 use Rattle.summary.specs.Summary.{entry_size, entry_bytes, entries_in, summary_of}
 use Rattle.summary.specs.Question.{entry_missing}
 use Rattle.summary.specs.Right.{WellFormedOver}
@@ -42,11 +40,6 @@ build_tests table trace buffer =
 pub record BuildReply : Type 0 where
   pub number : ℕ
   pub entries : ℕ
-
-abbrev pub built_of : Built → BuildReply
-built_of (Entries entries) = record { number = 0; entries = entries }
-built_of NotWellFormed = record { number = 1; entries = 0 }
-built_of NoRoom = record { number = 2; entries = 0 }
 
 abbrev pub build_number : Table → List ℕ → List ℕ → ℕ
 build_number table trace buffer = first_found 0 (build_tests table trace buffer)

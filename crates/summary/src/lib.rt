@@ -10,28 +10,12 @@ ghost use Rattle.summary.specs.Counted.{reply_of};
 
 use counts::{Quanta, Slot};
 
-// What the question answers.
-#[derive(Clone, Copy)]
-pub enum Counted {
-    Given(Quanta),
+// Why the question has no answer.
+#[derive(Clone, Copy, PartialEq, Eq)]
+pub enum Unanswered {
     NoRow,
     PastCount,
     NoEntry,
-}
-
-// Whether a summary was built, and how many entries it has.
-#[derive(Clone, Copy)]
-pub enum Built {
-    Entries(u32),
-    NotWellFormed,
-    NoRoom,
-}
-
-// What a walk over records answers: how many of them name a row, or that one is not inside the trace.
-#[derive(Clone, Copy)]
-enum Walk {
-    Times(u64),
-    Outside,
 }
 
 // An entry stands for each multiple of so many slots.
@@ -41,17 +25,20 @@ const SPACING: u64 = 1_024;
 const ENTRY_SIZE: usize = 136;
 
 // The quanta of a row before a time: those of the last entry at or before it, and one for each record since that names the row.
-pub fn quanta_before(n: u8, trace: &[u8], summary: &[u8], row: u8, time: Slot) -> Counted
+pub fn quanta_before(
+    n: u8,
+    trace: &[u8],
+    summary: &[u8],
+    row: u8,
+    time: Slot,
+) -> Result<Quanta, Unanswered>
     ensures { reply_of result ≡ reply_to n trace.now summary.now row time.0 }
 {
-    if n <= row {
-        return Counted::NoRow;
-    }
-    if 32 <= row {
-        return Counted::NoRow;
+    if n.min(32) <= row {
+        return Err(Unanswered::NoRow);
     }
     if question::is_past(trace, time) {
-        return Counted::PastCount;
+        return Err(Unanswered::PastCount);
     }
     question::count_on(trace, summary, row, time.time())
 }

@@ -4,7 +4,7 @@ use native.Mathlib.Omega.{arith}
 use Rattle.fields.specs.Fields.{word}
 use mathlib.Core.List.{List}
 use Rattle.fields.proofs.Numbers.{fields_are_numbers}
-use Rattle.summary.specs.declared.Walk.{Walk}
+use Rattle.std.specs.Prelude.{Option}
 use Rattle.summary.specs.Summary.{entry_size, place_said, quanta_said}
 use Rattle.summary.specs.Question.{last_entry, since_entry}
 use Rattle.summary.specs.Walking.{walk_of}
@@ -16,7 +16,7 @@ quanta_read : (summary : List ℕ) (row t : ℕ) {q : ℕ} → q ≡ word summar
 quanta_read summary row t e = e ∙ fields_are_numbers.four summary (entry_size * last_entry t + 8 + 4 * row)
 
 -- the walk begins at the entry's place
-from_place : (trace summary : List ℕ) (row t : ℕ) {place : ℕ} {walk : Walk} → place ≡ place_said summary (last_entry t) → walk ≡ walk_of trace place row (since_entry t) →
+from_place : (trace summary : List ℕ) (row t : ℕ) {place : ℕ} {walk : Option ℕ} → place ≡ place_said summary (last_entry t) → walk ≡ walk_of trace place row (since_entry t) →
     walk ≡ walk_of trace (place_said summary (last_entry t)) row (since_entry t)
 from_place trace summary row t at e = e ∙ ap (λ p. walk_of trace p row (since_entry t)) at
 
@@ -31,18 +31,18 @@ returns-then-entry-before c =
 pub overflow_add-before : goal.overflow_add-before
 overflow_add-before c =
     let a = c.args in
-    let told = told_times _ _ _ _ (from_place a.trace.now a.summary.now a.row a.time c.long-place.ensures c.in-Times.ensures) in
+    let told = told_times _ _ _ _ (from_place a.trace.now a.summary.now a.row a.time c.long-place.ensures c.in-Some.ensures) in
     omega (arith, told.2, quanta_read a.summary.now a.row a.time c.word-before.ensures, c.if-entry-before.false, c.requires)
 
-pub returns-in-Times : goal.returns-in-Times
-returns-in-Times c =
+pub returns-in-Some : goal.returns-in-Some
+returns-in-Some c =
     let a = c.args in
     let said = quanta_read a.summary.now a.row a.time c.word-before.ensures in
-    let told = told_times _ _ _ _ (from_place a.trace.now a.summary.now a.row a.time c.long-place.ensures c.in-Times.ensures) in
+    let told = told_times _ _ _ _ (from_place a.trace.now a.summary.now a.row a.time c.long-place.ensures c.in-Some.ensures) in
     answered _ _ _ _ c.if-summary-at.false (omega (arith, c.if-entry-before.false, said)) told.0 (c.of.ensures ∙ omega (arith, told.1, said))
 
-pub returns-in-Outside : goal.returns-in-Outside
-returns-in-Outside c =
+pub returns-in-None : goal.returns-in-None
+returns-in-None c =
     let a = c.args in
     outside _ _ _ _ c.if-summary-at.false (omega (arith, c.if-entry-before.false, quanta_read a.summary.now a.row a.time c.word-before.ensures))
-    (told_outside _ _ _ _ (from_place a.trace.now a.summary.now a.row a.time c.long-place.ensures c.in-Outside.ensures))
+    (told_outside _ _ _ _ (from_place a.trace.now a.summary.now a.row a.time c.long-place.ensures c.in-None.ensures))
