@@ -8,10 +8,3 @@ pub struct End {
     place: usize,
     quanta: [u32; 32],
 }
-
-// The end of a trace, or that the trace is cut.
-#[derive(Clone, Copy)]
-pub struct Ended {
-    pub cut: bool,
-    pub end: End,
-}
