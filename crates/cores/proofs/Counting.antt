@@ -1,58 +1,63 @@
--- For the code: counting what passes from a number on. Assumes nothing.
-use Prim.Native.Nat.{ℕ, ◌+◌, ◌≤◌, ◌<◌}
-use mathlib.Core.Path.{◌≡◌, sym, ap, ◌∙◌}
+-- For the code: counting the marks of a list from a number on. Assumes nothing.
+use Prim.Native.Nat.{ℕ, zero, suc, ◌+◌, ◌-◌, ◌≤◌, ◌<◌}
+use mathlib.Core.Path.{◌≡◌, refl, sym, ap, ◌∙◌}
+use mathlib.Core.List.{List}
 use mathlib.Core.Bool.{Bool, true, false, ◌&&◌, and-false}
-use native.Mathlib.Decide.{dec_lt}
+use native.Mathlib.Nat.{add-zero}
+use native.Mathlib.Numerals.{add-one}
 use native.Mathlib.Omega.{arith}
 use borrow.Author.Tests.{le-leb, lt-leb}
 use lib.Dec.{leb}
+use lib.ListN.{length, get_or, take, drop, length-drop}
+use lib.Seq.{get_or-drop}
+use Rattle.std.specs.List.{count_by}
+use Rattle.std.proofs.lemmas.List.Sums.{count_by_more_yes, count_by_more_no}
 use Rattle.facts.specs.Counting.{how_many}
-use Rattle.facts.proofs.Counting.{counted_if_passed, uncounted_if_failed, same_count, how_many_never, no_more_than_all}
+use Rattle.facts.proofs.Counting.{counted_if_passed, uncounted_if_failed, same_count, how_many_never}
 use Rattle.facts.proofs.Tests.{hold_both}
 
--- What passes and is not below the least.
-abbrev pub from_least : (ℕ → Bool) → ℕ → ℕ → Bool
-from_least a least core = a core && leb least core
+-- What is marked and not below the least.
+abbrev pub from_least : List Bool → ℕ → ℕ → Bool
+from_least marks least i = get_or marks i false && leb least i
 
--- Of the numbers below n, those from the least to before this core have been counted; a least past n is where it ends.
-pub record CountedFrom (a : ℕ → Bool) (least n count core : ℕ) : Type 0 where
-  pub from : least ≤ core
-  pub within : n < core → core ≡ least
-  pub number : count ≡ how_many (from_least a least) core
-  pub few : count ≤ core
-
-module _ (a : ℕ → Bool) (least n : ℕ) where
+module _ (marks : List Bool) (least : ℕ) where
   -- below the least there are none
-  none_below : (m : ℕ) → m ≤ least → how_many (from_least a least) m ≡ 0
-  none_below m l =
-      same_count (from_least a least) (λ core. false) m (λ core h. ap (λ t. a core && t) (lt-leb least core (omega arith)) ∙ and-false (a core))
-      ∙ how_many_never m
+  none_below : how_many (from_least marks least) least ≡ 0
+  none_below =
+      same_count (from_least marks least) (λ i. false) least (λ i h. ap (λ t. get_or marks i false && t) (lt-leb least i h) ∙ and-false (get_or marks i false))
+      ∙ how_many_never least
 
-  -- It begins at the least,
-  pub counting_from : CountedFrom a least n 0 least
-  counting_from = record { from = omega arith; within = λ _. omega arith; number = sym (none_below least (omega arith)); few = omega arith }
+  -- and each of the next is counted if it is marked,
+  next_counted : (i : ℕ) → least + i ≤ length marks → count_by (λ mark. mark) (take i (drop least marks)) ≡ how_many (from_least marks least) (least + i)
+  next_counted zero l = sym (ap (how_many (from_least marks least)) (add-zero least) ∙ none_below)
+  next_counted (suc i) l = go (next_counted i (omega arith)) (get_or marks (least + i) false) refl
+    where
+      rest : List Bool
+      rest = drop least marks
 
-  module _ {count core : ℕ} (so : CountedFrom a least n count core) where
-    -- counts what passes,
-    pub counts_from : core < n → a core ≡ true → CountedFrom a least n (count + 1) (core + 1)
-    counts_from l m =
-        let one = counted_if_passed (from_least a least) core (hold_both m (le-leb least core so.from)) in
-        record { from = omega (arith, so.from); within = λ h. absurd (omega arith); number = omega (arith, one, so.number); few = omega (arith, so.few) }
+      there : i < length rest
+      there = omega (arith, length-drop least marks)
 
-    -- passes over what fails,
-    pub skips_from : core < n → a core ≡ false → CountedFrom a least n count (core + 1)
-    skips_from l m =
-        let none = uncounted_if_failed (from_least a least) core (ap (λ t. t && leb least core) m) in
-        record { from = omega (arith, so.from); within = λ h. absurd (omega arith); number = omega (arith, none, so.number); few = omega (arith, so.few) }
+      one_more : how_many (from_least marks least) (least + i + 1) ≡ how_many (from_least marks least) (least + suc i)
+      one_more = ap (how_many (from_least marks least)) {x = least + i + 1} {y = least + suc i} (omega arith)
 
-    -- and ends with the count of all.
-    pub counted_from : n ≤ core → (count ≡ how_many (from_least a least) n) × (count ≤ n)
-    counted_from l =
-        let all = go (dec_lt n core) in
-        (all, omega (arith, all, no_more_than_all (from_least a least) n))
-      where
-        go : Dec (n < core) → count ≡ how_many (from_least a least) n
-        go (yes h) =
-            let same = so.within h in
-            so.number ∙ ap (how_many (from_least a least)) same ∙ none_below least (omega arith) ∙ sym (none_below n (omega arith))
-        go (no h) = so.number ∙ ap (how_many (from_least a least)) {x = core} {y = n} (omega arith)
+      go : count_by (λ mark. mark) (take i rest) ≡ how_many (from_least marks least) (least + i) → (t : Bool) → get_or marks (least + i) false ≡ t →
+          count_by (λ mark. mark) (take (suc i) rest) ≡ how_many (from_least marks least) (least + suc i)
+      go before true e =
+          ap (λ k. count_by (λ mark. mark) (take k rest)) (sym (add-one i))
+          ∙ count_by_more_yes (λ mark. mark) rest i false there (get_or-drop least marks i false ∙ e)
+          ∙ ap (λ k. k + 1) before
+          ∙ sym (counted_if_passed (from_least marks least) (least + i) (hold_both e (le-leb least (least + i) (omega arith))))
+          ∙ one_more
+      go before false e =
+          ap (λ k. count_by (λ mark. mark) (take k rest)) (sym (add-one i))
+          ∙ count_by_more_no (λ mark. mark) rest i false there (get_or-drop least marks i false ∙ e)
+          ∙ before
+          ∙ sym (uncounted_if_failed (from_least marks least) (least + i) (ap (λ t. t && leb least (least + i)) e))
+          ∙ one_more
+
+  -- so that all from the least on are counted.
+  pub counted_from : least ≤ length marks → count_by (λ mark. mark) (take (length marks - least) (drop least marks)) ≡ how_many (from_least marks least) (length marks)
+  counted_from l =
+      next_counted (length marks - least) (omega arith)
+      ∙ ap (how_many (from_least marks least)) {x = least + (length marks - least)} {y = length marks} (omega arith)

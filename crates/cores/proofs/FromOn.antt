@@ -11,7 +11,7 @@ use Rattle.facts.specs.Counting.{how_many}
 use Rattle.facts.proofs.Counting.{counted_if_passed, uncounted_if_failed, none_counted, counts_grow}
 use Rattle.facts.proofs.Listing.{as_many_listed, more_listed, stands_behind}
 use Rattle.trace.specs.Record.{marked}
-use Rattle.cores.specs.Turns.{from_on, IsLowest}
+use Rattle.cores.specs.Turns.{from_on}
 
 module _ (marks : List Bool) where
   -- the mark of a number
@@ -29,31 +29,13 @@ module _ (marks : List Bool) where
   none_from {i} l = drop_of_length-le (marked marks) {i = how_many is_marked i} (omega (arith, as_many_listed is_marked (length marks), counts_grow is_marked (length marks) i l))
 
   -- one that is marked is the first of them,
-  first_from : {i : ℕ} → i < length marks → get_or marks i false ≡ true → from_on marks i ≡ i ∷ from_on marks (i + 1)
+  pub first_from : {i : ℕ} → i < length marks → get_or marks i false ≡ true → from_on marks i ≡ i ∷ from_on marks (i + 1)
   unfolding from_on
   first_from {i} l h =
       drop-cons (marked marks) (how_many is_marked i) 0 (omega (arith, more_listed is_marked i (length marks) l h, as_many_listed is_marked i))
       ∙ rw (stands_behind is_marked (length marks) i 0 l h) (ap (λ k. i ∷ drop k (marked marks)) (sym (add-one (how_many is_marked i)) ∙ sym (counted_if_passed is_marked i h)))
 
-  -- and one that is not marked is none of them
-  not_from : (i : ℕ) → get_or marks i false ≡ false → from_on marks i ≡ from_on marks (i + 1)
+  -- and one that is not marked is none of them.
+  pub not_from : (i : ℕ) → get_or marks i false ≡ false → from_on marks i ≡ from_on marks (i + 1)
   unfolding from_on
   not_from i h = ap (λ k. drop k (marked marks)) (sym (uncounted_if_failed is_marked i h))
-
--- A search for the lowest from a number on has come to i.
-pub record SearchedFrom (marks : List Bool) (from i : ℕ) : Type 0 where
-  pub within : i ≤ 32
-  pub rest : from_on marks from ≡ from_on marks i
-
-module _ (marks : List Bool) (long : length marks ≡ 32) {from i : ℕ} (so : SearchedFrom marks from i) where
-  -- It ends at a mark,
-  pub lowest_here : i < 32 → get_or marks i false ≡ true → IsLowest marks from i
-  lowest_here l h = record { within = so.within; found = λ _. so.rest ∙ first_from marks (omega (arith, long)) h; none = λ m. absurd (omega arith) }
-
-  -- goes on where there is none,
-  pub searches_on : i < 32 → get_or marks i false ≡ false → SearchedFrom marks from (i + 1)
-  searches_on l h = record { within = omega arith; rest = so.rest ∙ not_from marks i h }
-
-  -- and ends at 32.
-  pub no_lowest : 32 ≤ i → IsLowest marks from 32
-  no_lowest l = record { within = omega arith; found = λ m. absurd (omega arith); none = λ _. so.rest ∙ none_from marks (omega (arith, long)) }

@@ -1,6 +1,6 @@
 -- For the code: marks of the numbers that have been met. Assumes nothing.
 use Prim.Native.Nat.{ℕ, ◌+◌, ◌≤◌, ◌<◌}
-use mathlib.Core.Path.{◌≡◌, refl, sym, ap, ◌∙◌}
+use mathlib.Core.Path.{◌≡◌, sym, ap, ◌∙◌}
 use mathlib.Core.List.{List}
 use mathlib.Core.Bool.{Bool, true, false}
 use native.Mathlib.Decide.{ℕ_discrete}
@@ -26,22 +26,24 @@ module _ (at : ℕ → ℕ) (size : ℕ) where
       let empty = filling_begins (λ _. false) false false size in
       record { long = empty.long; says = λ x l. empty.rest x (omega arith) l ∙ sym (none_if (λ j. eqb (at j) x) 0 (λ j h. absurd (omega arith))) }
 
-  -- and one number more is marked.
-  pub marks_one_more : {i : ℕ} {marks : List Bool} → Marked at size i marks → at i < size → Marked at size (i + 1) (set marks (at i) true)
-  marks_one_more {i} {marks} so l = record { long = length-set marks (at i) true ∙ so.long; says = λ x h. go x h (ℕ_discrete (at i) x) }
-    where
-      go : (x : ℕ) → x < size → Dec (at i ≡ x) → get_or (set marks (at i) true) x false ≡ some (λ j. eqb (at j) x) (i + 1)
-      go x h (yes e) =
-          rw (← e) (get_or-set_same marks (at i) true false (omega (arith, so.long)) ∙ sym (some_if (λ j. eqb (at j) (at i)) (i + 1) i (omega arith) (eq-eqb (at i) (at i) refl)))
-      go x h (no n) =
-          get_or-set_other marks (at i) x true false (λ e. n (sym e))
-          ∙ so.says x h
-          ∙ ap (ltb 0) (sym (uncounted_if_failed (λ j. eqb (at j) x) i (ne_eqb (at i) x n)))
+  module _ {i x : ℕ} {marks : List Bool} (so : Marked at size i marks) (here : x ≡ at i) where
+    -- one number more is marked,
+    pub marks_one_more : x < size → Marked at size (i + 1) (set marks x true)
+    marks_one_more l = record { long = length-set marks x true ∙ so.long; says = λ y h. go y h (ℕ_discrete x y) }
+      where
+        go : (y : ℕ) → y < size → Dec (x ≡ y) → get_or (set marks x true) y false ≡ some (λ j. eqb (at j) y) (i + 1)
+        go y h (yes e) =
+            rw (← e)
+            (get_or-set_same marks x true false (omega (arith, so.long)) ∙ sym (some_if (λ j. eqb (at j) x) (i + 1) i (omega arith) (eq-eqb (at i) x (sym here))))
+        go y h (no n) =
+            get_or-set_other marks x y true false (λ e. n (sym e))
+            ∙ so.says y h
+            ∙ ap (ltb 0) (sym (uncounted_if_failed (λ j. eqb (at j) y) i (ne_eqb (at i) y (λ e. n (here ∙ e)))))
 
-  -- A number that is too large has no mark.
-  pub marks_no_more : {i : ℕ} {marks : List Bool} → Marked at size i marks → size ≤ at i → Marked at size (i + 1) marks
-  marks_no_more {i} so l =
-      record {
-        long = so.long;
-        says = λ x h. so.says x h ∙ ap (ltb 0) (sym (uncounted_if_failed (λ j. eqb (at j) x) i (ne_eqb (at i) x (λ e. omega arith))));
-      }
+    -- and one that is too large is not.
+    pub marks_no_more : size ≤ x → Marked at size (i + 1) marks
+    marks_no_more l =
+        record {
+          long = so.long;
+          says = λ y h. so.says y h ∙ ap (ltb 0) (sym (uncounted_if_failed (λ j. eqb (at j) y) i (ne_eqb (at i) y (λ e. omega arith))));
+        }

@@ -2,7 +2,7 @@
 use Prim.Native.Nat.{ℕ, ◌+◌, ◌-◌, ◌≤◌, ◌<◌, min}
 use mathlib.Core.Path.{◌≡◌, refl, sym, ap, ◌∙◌}
 use mathlib.Core.List.{List, [], ◌∷◌, ◌++◌}
-use mathlib.Core.Bool.{Bool}
+use mathlib.Core.Bool.{Bool, true, false}
 use mathlib.Core.Logic.{◌⊎◌, inl, inr}
 use native.Mathlib.Decide.{dec_lt}
 use native.Mathlib.Numerals.{add-one}
@@ -17,8 +17,8 @@ use Rattle.trace.specs.Record.{marked}
 use Rattle.cores.specs.declared.Placement.{Placement}
 use Rattle.cores.specs.Placement.{filled_up, placement}
 use Rattle.cores.specs.Cores.{in_turn}
-use Rattle.cores.specs.Turns.{in_turn_by, from_on, IsLowest, TakesTurn}
-use Rattle.cores.proofs.FromOn.{from_0, none_from}
+use Rattle.cores.specs.Turns.{in_turn_by, from_on, TakesTurn}
+use Rattle.cores.proofs.FromOn.{from_0, none_from, first_from}
 
 -- So many of a list are in an array, and these are left.
 pub record Placing (all : List ℕ) (count : ℕ) (rest array : List ℕ) : Type 0 where
@@ -91,10 +91,10 @@ module _ (picked own : List ℕ) (left : List Bool) where
 
   module _ {rows cores : List ℕ} {i next : ℕ} (so : SoFar picked own left rows cores i next) where
     -- places a row with the core of its turn,
-    pub turns_go_on : {core after : ℕ} → i < min (length picked) core_limit → TakesTurn (get_or own (get_or picked i 0) 0) left next core after →
-        SoFar picked own left (set rows i (get_or picked i 0)) (set cores i core) (i + 1) after
+    pub turns_go_on : {row core after : ℕ} → row ≡ get_or picked i 0 → i < min (length picked) core_limit → TakesTurn (get_or own row 0) left next core after →
+        SoFar picked own left (set rows i row) (set cores i core) (i + 1) after
     unfolding in_turn
-    turns_go_on {core} {after} l turn =
+    turns_go_on {row} {core} {after} same l turn =
         record {
           few = omega arith;
           next_within = turn.within;
@@ -102,11 +102,8 @@ module _ (picked own : List ℕ) (left : List Bool) where
           cores_placed = places_one_more (rw (here, its_turn) at so.cores_placed) (omega arith);
         }
       where
-        row : ℕ
-        row = get_or picked i 0
-
         here : drop i picked ≡ row ∷ drop (i + 1) picked
-        here = drop-cons picked i 0 (omega arith) ∙ ap (λ k. row ∷ drop k picked) (sym (add-one i))
+        here = drop-cons picked i 0 (omega arith) ∙ ap (λ k. get_or picked i 0 ∷ drop k picked) (sym (add-one i)) ∙ ap (λ r. r ∷ drop (i + 1) picked) (sym same)
 
         its_turn : in_turn_by own (from_on left next) (row ∷ drop (i + 1) picked) ≡ core ∷ in_turn_by own (from_on left after) (drop (i + 1) picked)
         its_turn = rw (turn.gets, turn.leaves)
@@ -136,15 +133,19 @@ module _ (picked own : List ℕ) (left : List Bool) where
 pub stays_there : {own next : ℕ} {left : List Bool} → next ≤ 32 → own < 32 → TakesTurn own left next own next
 stays_there {own} fits h = record { gets = rw (lt-ltb own 32 h); leaves = rw (lt-ltb own 32 h); within = fits }
 
--- takes the lowest that is left,
-pub takes_lowest : {own next core : ℕ} {left : List Bool} → 32 ≤ own → core < 32 → IsLowest left next core → TakesTurn own left next core (core + 1)
-takes_lowest {own} h l lowest = record { gets = rw (le-ltb own 32 h, lowest.found l); leaves = rw (le-ltb own 32 h, lowest.found l); within = omega arith }
+-- takes the lowest that is left: none before it is,
+pub takes_lowest : {own next core : ℕ} {left : List Bool} → 32 ≤ own → core < length left → length left ≡ 32 → from_on left next ≡ from_on left core →
+    get_or left core false ≡ true → TakesTurn own left next core (core + 1)
+takes_lowest {own} {core = core} {left = left} h l long same marked =
+    let first = same ∙ first_from left l marked in
+    record { gets = rw (le-ltb own 32 h, first); leaves = rw (le-ltb own 32 h, first); within = omega arith }
 
 -- or 0 where none is.
-pub takes_none : {own next core : ℕ} {left : List Bool} → length left ≡ 32 → 32 ≤ own → 32 ≤ core → IsLowest left next core → TakesTurn own left next 0 32
-takes_none {own} {left = left} long h l lowest =
+pub takes_none : {own next end : ℕ} {left : List Bool} → 32 ≤ own → length left ≡ 32 → from_on left next ≡ from_on left end → 32 ≤ end → TakesTurn own left next 0 32
+takes_none {own} {end = end} {left = left} h long same past =
+    let none = same ∙ none_from left {i = end} (omega (arith, long)) in
     record {
-      gets = rw (le-ltb own 32 h, lowest.none l);
-      leaves = rw (le-ltb own 32 h, lowest.none l) (none_from left (omega (arith, long)));
+      gets = rw (le-ltb own 32 h, none);
+      leaves = rw (le-ltb own 32 h, none) (none_from left (omega (arith, long)));
       within = omega arith;
     }

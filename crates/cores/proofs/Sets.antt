@@ -1,5 +1,5 @@
 -- Sets of cores: those that are there, and the first k. Assumes nothing.
-use Prim.Native.Nat.{ℕ, ◌≤◌, ◌<◌}
+use Prim.Native.Nat.{ℕ, ◌-◌, ◌≤◌, ◌<◌, min}
 use mathlib.Core.Path.{◌≡◌, sym, ap, ◌∙◌}
 use mathlib.Core.List.{List}
 use mathlib.Core.Bool.{Bool, true, false, ◌&&◌, true≢false, and-true, and-false}
@@ -7,7 +7,9 @@ use native.Mathlib.Decide.{dec_lt}
 use native.Mathlib.Omega.{arith}
 use borrow.Author.Tests.{lt-ltb, le-ltb, ltb-true, le-leb, lt-leb, leb-false}
 use lib.Dec.{ltb, leb}
-use lib.ListN.{length, get_or}
+use lib.ListN.{length, get_or, take, drop}
+use lib.Seq.{take_all}
+use Rattle.std.specs.List.{count_by}
 use Rattle.facts.specs.Counting.{some, how_many}
 use Rattle.facts.proofs.Counting.{same_count, how_many_below, counts_no_more}
 use Rattle.facts.proofs.Some.{some_if, none_if, each_fails}
@@ -21,6 +23,7 @@ use Rattle.trace.proofs.Names.{listed_are_named}
 use Rattle.cores.specs.Cores.{Rising}
 use Rattle.cores.specs.Sets.{set_limit, size, names_past, first_cores, FirstCoresAreK}
 use Rattle.cores.proofs.Naming.{holds_not}
+use Rattle.cores.proofs.Counting.{counted_from}
 use Rattle.cores.proofs.Fault.{no_more_than}
 
 -- for callers
@@ -92,18 +95,28 @@ first_cores_are_k cores k few = record { marks = marked_at k; past = past_if_abo
 
 -- for the code
 
--- Counted from 0 on the marks are the size of the set,
-pub size_from_0 : (free : List Bool) {n : ℕ} → length free ≡ n → how_many (λ core. get_or free core false && leb 0 core) n ≡ size free
-size_from_0 free {n} long =
-    same_count (λ core. get_or free core false && leb 0 core) (λ core. get_or free core false) n
+-- The marks that are set are as many as the set names,
+pub counted_are_size : (free : List Bool) → count_by (λ mark. mark) free ≡ size free
+counted_are_size free =
+    ap (count_by (λ mark. mark)) (sym (take_all (length free - 0) free (omega arith)))
+    ∙ counted_from free 0 (omega arith)
+    ∙ same_count (λ core. get_or free core false && leb 0 core) (λ core. get_or free core false) (length free)
     (λ core l. ap (λ t. get_or free core false && t) (le-leb 0 core (omega arith)) ∙ and-true (get_or free core false))
-    ∙ sym (ap (how_many (λ core. get_or free core false)) long)
     ∙ sym (as_many_listed (λ core. get_or free core false) (length free))
 
--- and there are some from M on exactly if the set names one past M.
-pub past_if_some : (cores : ℕ) (free : List Bool) {n count : ℕ} → length free ≡ n → count ≡ how_many (λ core. get_or free core false && leb cores core) n →
-    ltb 0 count ≡ names_past cores free
-past_if_some cores free long number = ap (ltb 0) number ∙ ap (some (λ core. get_or free core false && leb cores core)) (sym long)
+-- and some are set from M on exactly if the set names one past M.
+pub past_if_some : (cores least : ℕ) (free : List Bool) {n : ℕ} → length free ≡ n → least ≡ min cores n →
+    ltb 0 (count_by (λ mark. mark) (take (n - least) (drop least free))) ≡ names_past cores free
+past_if_some cores least free long e =
+    ap (ltb 0)
+    (ap (λ n. count_by (λ mark. mark) (take (n - least) (drop least free))) (sym long)
+    ∙ counted_from free least (omega arith)
+    ∙ same_count (λ core. get_or free core false && leb least core) (λ core. get_or free core false && leb cores core) (length free)
+    (λ core l. ap (λ t. get_or free core false && t) (same core l (dec_lt core cores))))
+  where
+    same : (core : ℕ) → core < length free → Dec (core < cores) → leb least core ≡ leb cores core
+    same core l (yes h) = lt-leb least core (omega arith) ∙ sym (lt-leb cores core h)
+    same core l (no h) = le-leb least core (omega arith) ∙ sym (le-leb cores core (omega arith))
 
 -- Marks that have been filled so are the first k cores.
 pub filled_are_first : (k : ℕ) {i : ℕ} {free : List Bool} → Filled (λ core. ltb core k) false false 32 i free → 32 ≤ i → free ≡ first_cores k

@@ -1,6 +1,6 @@
 -- Between functions: how the cores are found. Sets are marks, and 32 is no number of a set. No part of what 02 says; that it gives those cores is
 -- proved.
-use Rattle.std.specs.Prelude.{ℕ, ◌+◌, ◌≤◌, ◌<◌, ◌≡◌, List, [], ◌∷◌, Bool, true, false, cond, ltb, length, get_or, drop}
+use Rattle.std.specs.Prelude.{ℕ, ◌≤◌, ◌<◌, ◌≡◌, List, Bool, true, false, cond, ltb, length, get_or, drop}
 use Rattle.facts.specs.Counting.{how_many}
 use Rattle.trace.specs.Record.{marked}
 use Rattle.trace.specs.Records.{names}
@@ -32,12 +32,6 @@ in_turn_by own left rows = in_turn (stays_by own) (λ row. get_or own row 0) lef
 -- The numbers of a set from one on.
 unfoldable pub from_on : List Bool → ℕ → List ℕ
 from_on marks i = drop (how_many (λ j. get_or marks j false) i) (marked marks)
-
--- The lowest of them, 32 where there is none.
-pub record IsLowest (marks : List Bool) (from r : ℕ) : Type 0 where
-  pub within : r ≤ set_limit
-  pub found : r < set_limit → from_on marks from ≡ r ∷ from_on marks (r + 1)
-  pub none : set_limit ≤ r → from_on marks from ≡ []
 
 -- One row's turn: the core that it gets, and from where on cores are left then.
 pub record TakesTurn (own : ℕ) (left : List Bool) (next core after : ℕ) : Type 0 where

@@ -3,8 +3,7 @@
 
 mod turns;
 
-ghost use Rattle.std.specs.Prelude.{◌≡◌, ◌&&◌, false, ◌≤◌, leb, get_or};
-ghost use Rattle.facts.specs.Counting.{how_many};
+ghost use Rattle.std.specs.Prelude.{◌≡◌, ◌≤◌, length, count_by};
 ghost use Rattle.trace.specs.Record.{marked};
 ghost use Rattle.cores.specs.Placement.{nobody, ran_marks};
 ghost use Rattle.cores.specs.Cores.{placed_for};
@@ -12,7 +11,7 @@ ghost use Rattle.cores.specs.Fault.{below, misremembers};
 ghost use Rattle.cores.specs.Sets.{size, names_past, first_cores};
 
 // So many rows, and the core of each: what a slot answers, and what the state remembers of it. Places past the count mean nothing.
-#[derive(Clone, Copy)]
+#[derive(Clone, Copy, PartialEq, Eq)]
 pub struct Placement {
     pub count: u8,
     pub rows: [u8; 8],
@@ -24,12 +23,10 @@ impl Placement {
     pub fn nobody() -> Placement
         ensures { result ≡ nobody }
     {
-        let rows = [0u8; 8];
-        let cores = [0u8; 8];
         Placement {
             count: 0,
-            rows,
-            cores,
+            rows: [0; 8],
+            cores: [0; 8],
         }
     }
 
@@ -47,8 +44,7 @@ impl Placement {
         }
         let mut used = [false; 256];
         let mut least: u16 = 0;
-        let mut i: usize = 0;
-        while i < count {
+        for i in 0..count {
             let core = self.cores[i];
             let row = self.rows[i];
             if cores <= core {
@@ -65,7 +61,6 @@ impl Placement {
             }
             used[core as usize] = true;
             least = row as u16 + 1;
-            i += 1;
         }
         false
     }
@@ -75,14 +70,11 @@ impl Placement {
         ensures { result ≡ ran_marks self }
     {
         let mut marks = [false; 32];
-        let many = turns::at_most_8(self.count as usize);
-        let mut i: usize = 0;
-        while i < many {
-            let row = self.rows[i] as usize;
-            if row < 32 {
-                marks[row] = true;
+        let count = self.count.min(8) as usize;
+        for row in &self.rows[..count] {
+            if *row < 32 {
+                marks[*row as usize] = true;
             }
-            i += 1;
         }
         marks
     }
@@ -92,42 +84,32 @@ impl Placement {
 pub fn how_many(free: [bool; 32]) -> u8
     ensures { (result ≡ size free) × (result ≤ 32) }
 {
-    how_many_from(free, 0)
+    how_many_in(&free)
 }
 
-// Whether a set names a core that is not below the number of cores.
+// Whether a set names a core that is not below the number of cores. It goes on after the first, so that many marks are counted at a time.
 pub fn names_past(free: [bool; 32], cores: u8) -> bool
     ensures { result ≡ names_past cores free }
 {
-    let least = cores as usize;
-    0 < how_many_from(free, least)
+    let least = cores.min(32) as usize;
+    0 < how_many_in(&free[least..])
 }
 
-// How many cores from this number on. It goes on after the first, so that many marks are counted at a time.
-fn how_many_from(free: [bool; 32], least: usize) -> u8
-    ensures { (result ≡ how_many (λ core. get_or free core false && leb least core) 32) × (result ≤ 32) }
+// How many marks are set.
+fn how_many_in(marks: &[bool]) -> u8
+    requires { length marks.now ≤ 32 }
+    ensures { result ≡ count_by (λ mark. mark) marks.now }
 {
-    let mut count: u8 = 0;
-    let mut core: usize = least;
-    while core < 32 {
-        if free[core] {
-            count += 1;
-        }
-        core += 1;
-    }
-    count
+    marks.iter().map(|mark| *mark as u8).sum()
 }
 
 // The first k cores.
 pub fn first(k: u8) -> [bool; 32]
     ensures { result ≡ first_cores k }
 {
-    let least = k as usize;
     let mut free = [false; 32];
-    let mut i: usize = 0;
-    while i < 32 {
-        free[i] = i < least;
-        i += 1;
+    for (i, mark) in free.iter_mut().enumerate() {
+        *mark = i < k as usize;
     }
     free
 }
@@ -136,6 +118,6 @@ pub fn first(k: u8) -> [bool; 32]
 pub fn place(rows: &[u8], free: [bool; 32], last: Placement) -> Placement
     ensures { result ≡ placed_for last (marked free) rows.now }
 {
-    let kept = turns::keep(rows, free, last);
-    turns::in_turn(rows, kept)
+    let kept = turns::keep(rows, &free, &last);
+    turns::in_turn(rows, &kept)
 }

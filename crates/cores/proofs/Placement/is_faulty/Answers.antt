@@ -75,7 +75,7 @@ loop-i-preserved c =
     let once = core_marked a.self i inv.1 small c.if-used-core.false in
     let judged = falls_or_not a.self a.n a.cores i c.if-cores-core.false once c.if-n-row.false in (
       looks_on _ _ inv.0 c.loop-i-test.true (judged ∙ does_not_fall inv.2 c.if-row-least.false),
-      marks_one_more _ _ inv.1 small,
+      marks_one_more _ _ inv.1 refl small,
       least_goes_on inv.2 c.if-row-least.false refl,
     )
 

@@ -1,4 +1,3 @@
-use Prim.Native.Nat.{◌-◌}
 use lib.Dec.{ltb}
 use Rattle.facts.proofs.Some.{NoneYet}
 use Rattle.cores.specs.Placement.{row_in, core_in}
@@ -9,6 +8,3 @@ use Rattle.cores.proofs.Placement.is_faulty.Given as goal
 
 abbrev pub invariant-loop-i : goal.invariant-loop-i
 invariant-loop-i l = NoneYet (bad_place l.self (λ row. ltb row l.n) l.cores) l.self.count l.i × Marked (core_in l.self) 256 l.i l.used × Least (row_in l.self) l.i l.least
-
-abbrev pub decreases-loop-i : goal.decreases-loop-i
-decreases-loop-i l = l.count - l.i

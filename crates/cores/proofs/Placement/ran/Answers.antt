@@ -1,6 +1,10 @@
+use Prim.Native.Nat.{◌<◌}
 use mathlib.Core.Path.{◌≡◌, ap, ◌∙◌}
 use native.Mathlib.Omega.{arith}
+use borrow.Author.Rules.{rules}
 use lib.Dec.{eqb}
+use lib.ListN.{length, length-take}
+use Rattle.std.proofs.lemmas.List.{get_or-take}
 use Rattle.facts.specs.Counting.{some}
 use Rattle.facts.proofs.Places.{are_marks}
 use Rattle.table.specs.Limits.{row_limit}
@@ -9,18 +13,26 @@ use Rattle.cores.proofs.Marks.{marking_begins, marks_one_more, marks_no_more}
 use Rattle.cores.proofs.Placement.ran.Goals.{then-row-lt32, else-row-lt32}
 use Rattle.cores.proofs.Placement.ran.Goals as goal
 
-pub loop-i-init : goal.loop-i-init
-loop-i-init c = (marking_begins _ 32, omega arith)
+pub loop-row-init : goal.loop-row-init
+loop-row-init c = marking_begins _ 32
 
-pub loop-i-preserved : goal.loop-i-preserved
-loop-i-preserved c =
+pub loop-row-preserved : goal.loop-row-preserved
+loop-row-preserved c =
+    let n = c.min-count.result in
+    let rows = c.args.self.rows in
+    let i = c.loop-row.row-index in
+    let early : i < n = omega (arith, length-take n rows, c.loop-row-test.true) in
+    let here = get_or-take n rows i 0 early in
     elim c.if-row-lt32.branch [
-      | then-row-lt32 w ↦ rw w.marks-is (marks_one_more _ _ c.loop-i.invariant.0 w.if-row-lt32.true, omega arith)
-      | else-row-lt32 w ↦ rw w.marks-is (marks_no_more _ _ c.loop-i.invariant.0 w.if-row-lt32.false, omega arith)
+      | then-row-lt32 w ↦ rw w.marks-is (marks_one_more _ _ c.loop-row.invariant here w.if-row-lt32.true)
+      | else-row-lt32 w ↦ rw w.marks-is (marks_no_more _ _ c.loop-row.invariant here w.if-row-lt32.false)
     ]
 
 pub returns : goal.returns
 returns c =
-    let all : c.loop-i.i ≡ c.at_most_8-many.result = omega (arith, c.loop-i.invariant.1, c.loop-i-test.false) in
-    are_marks (ran_before c.args.self) row_limit c.loop-i.invariant.0.long
-    (λ row l. c.loop-i.invariant.0.says row l ∙ ap (some (λ i. eqb (row_in c.args.self i) row)) (all ∙ c.at_most_8-many.ensures.0))
+    let n = c.min-count.result in
+    let rows = c.args.self.rows in
+    let long : length rows ≡ 8 = search rules in
+    let all : c.loop-row.row-index ≡ n = omega (arith, length-take n rows, c.loop-row.auto.row-index-end, c.loop-row-test.false, c.min-count.ensures) in
+    are_marks (ran_before c.args.self) row_limit c.loop-row.invariant.long
+    (λ row l. c.loop-row.invariant.says row l ∙ ap (some (λ i. eqb (row_in c.args.self i) row)) (all ∙ c.min-count.ensures))

@@ -7,38 +7,26 @@ use Rattle.cores.proofs.turns.keep.Goals as goal
 
 pub loop-i-init : goal.loop-i-init
 loop-i-init c =
-    let free_long : length c.args.free ≡ 32 = search rules in
     let long : length c.picked-own.result ≡ 256 = search rules in
-    keeping_begins _ _ _ free_long long c.picked-own.ensures c.at_most_8-i.ensures.0
+    keeping_begins _ _ _ c.told-free long c.picked-own.ensures c.min-count.ensures
 
 -- A place that is kept has a core,
 pub overflow_cast-left : goal.overflow_cast-left
 overflow_cast-left c =
-    let free_long : length c.args.free ≡ 32 = search rules in
-    let asked = c.may_stay.ensures in
-    let kept = keeps_place c.args.rows.now c.args.free c.args.last free_long c.loop-i.invariant c.loop-i-test.true asked.1 (sym asked.0 ∙ c.if-may_stay.true) in
+    let kept = keeps_place c.args.rows.now c.args.free.now c.args.last.now c.told-free c.loop-i.invariant c.loop-i-test.true c.may_stay.ensures.1 (sym c.may_stay.ensures.0 ∙ c.if-may_stay.true) in
     omega (arith, kept.0)
 
 pub bounds-left-core : goal.bounds-left-core
 bounds-left-core c =
-    let free_long : length c.args.free ≡ 32 = search rules in
-    let asked = c.may_stay.ensures in
-    (keeps_place c.args.rows.now c.args.free c.args.last free_long c.loop-i.invariant c.loop-i-test.true asked.1 (sym asked.0 ∙ c.if-may_stay.true)).0
+    (keeps_place c.args.rows.now c.args.free.now c.args.last.now c.told-free c.loop-i.invariant c.loop-i-test.true c.may_stay.ensures.1 (sym c.may_stay.ensures.0 ∙ c.if-may_stay.true)).0
 
 -- which is its row's own from there on.
 pub loop-i-preserved-then-may_stay : goal.loop-i-preserved-then-may_stay
 loop-i-preserved-then-may_stay c =
-    let free_long : length c.args.free ≡ 32 = search rules in
-    let asked = c.may_stay.ensures in
-    (keeps_place c.args.rows.now c.args.free c.args.last free_long c.loop-i.invariant c.loop-i-test.true asked.1 (sym asked.0 ∙ c.if-may_stay.true)).1
+    (keeps_place c.args.rows.now c.args.free.now c.args.last.now c.told-free c.loop-i.invariant c.loop-i-test.true c.may_stay.ensures.1 (sym c.may_stay.ensures.0 ∙ c.if-may_stay.true)).1
 
 pub loop-i-preserved : goal.loop-i-preserved
-loop-i-preserved c =
-    let free_long : length c.args.free ≡ 32 = search rules in
-    let asked = c.may_stay.ensures in
-    skips_place _ _ _ free_long c.loop-i.invariant c.loop-i-test.true asked.1 (sym asked.0 ∙ c.if-may_stay.false)
+loop-i-preserved c = skips_place _ _ _ c.told-free c.loop-i.invariant c.loop-i-test.true c.may_stay.ensures.1 (sym c.may_stay.ensures.0 ∙ c.if-may_stay.false)
 
 pub returns : goal.returns
-returns c =
-    let free_long : length c.args.free ≡ 32 = search rules in
-    keeps_all _ _ _ free_long c.loop-i.invariant c.loop-i-test.false
+returns c = keeps_all _ _ _ c.told-free c.loop-i.invariant c.loop-i-test.false
