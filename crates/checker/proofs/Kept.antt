@@ -22,8 +22,10 @@ use Rattle.pd2.specs.Choice.{row_at}
 use Rattle.pd2.proofs.Readiness.{ready_from_start}
 use Rattle.pd2.proofs.Share.{row_can_be}
 use Rattle.pd2.proofs.Choice.{row_there}
+use Rattle.checker.specs.declared.giving.Kept.{Kept}
+use Rattle.checker.specs.declared.giving.Walk.{Walk}
 use Rattle.checker.specs.Passes.{first_allowed, due}
-use Rattle.checker.specs.Walking.{CanCheck, IsKept, AreKept}
+use Rattle.checker.specs.Walking.{CanCheck, IsKept, AreKept, kept_at, with_kept}
 
 -- A row of the table is one that can be, as it is read from its array.
 pub read_row_can_be : (table : Table) → CanCheck table → (i : ℕ) → i < length (rows_of table) → (d : Row) → CanBe (get_or table.rows i d)
@@ -42,7 +44,7 @@ allowed_between row can i = go (is_early_release row)
 
 -- What is kept of a row that has been given nothing.
 pub kept_at_first : (row : Row) → CanBe row →
-    IsKept row 0 row.phase ((row.period + (row.cost - 1)) % row.cost) (row.phase + (row.period + (row.cost - 1)) / row.cost)
+    IsKept row 0 (record { start = row.phase; rest = (row.period + (row.cost - 1)) % row.cost; due = row.phase + (row.period + (row.cost - 1)) / row.cost })
 kept_at_first row can =
     record {
       starts = sym (go (is_early_release row));
@@ -55,95 +57,99 @@ kept_at_first row can =
     go false = first_start row.cost row.period (origin_of row) can.cost
 
 -- A row is ready from the start that is kept on.
-pub ready_from_kept : (row : Row) {q start rest end : ℕ} → IsKept row q start rest end → (t : ℕ) → ready row q t ≡ leb start t
-ready_from_kept row {q} kept t = ready_from_start row q t ∙ ap (λ x. leb x t) (sym kept.starts)
+pub ready_from_kept : (row : Row) {q : ℕ} {kept : Kept} → IsKept row q kept → (t : ℕ) → ready row q t ≡ leb kept.start t
+ready_from_kept row {q} is t = ready_from_start row q t ∙ ap (λ x. leb x t) (sym is.starts)
 
-module _ (row : Row) (can : CanBe row) {q start rest end : ℕ} (kept : IsKept row q start rest end) where
+module _ (row : Row) (can : CanBe row) {q : ℕ} {kept : Kept} (is : IsKept row q kept) where
   -- Of a row less than e is left over,
-  pub rest_is_small : rest < row.cost
-  rest_is_small = omega (arith, kept.rests, mod-lt ((q + 1) * row.period + (row.cost - 1)) can.cost)
+  pub rest_is_small : kept.rest < row.cost
+  rest_is_small = omega (arith, is.rests, mod-lt ((q + 1) * row.period + (row.cost - 1)) can.cost)
 
   -- it is due after its start,
-  pub due_after_start : start < end
+  pub due_after_start : kept.start < kept.due
   due_after_start =
-      omega (arith, kept.starts, kept.dues, (allowed_between row can (q + 1)).1, window_has_a_slot row.cost row.period (origin_of row) can.cost (omega (arith, can.cost, can.weight)) {i = q + 1} (omega arith))
+      omega (arith, is.starts, is.dues, (allowed_between row can (q + 1)).1, window_has_a_slot row.cost row.period (origin_of row) can.cost (omega (arith, can.cost, can.weight)) {i = q + 1} (omega arith))
 
   -- and at most one period after it.
-  pub due_within_period : end ≤ start + row.period
+  pub due_within_period : kept.due ≤ kept.start + row.period
   due_within_period =
-      omega (arith, kept.starts, kept.dues, (allowed_between row can (q + 1)).0, deadline_is_within_job row.cost row.period (origin_of row) can.cost {i = q + 1} (omega arith))
+      omega (arith, is.starts, is.dues, (allowed_between row can (q + 1)).0, deadline_is_within_job row.cost row.period (origin_of row) can.cost {i = q + 1} (omega arith))
 
   -- The next subtask of a plain row starts where this one is due, if all but one of e is left over,
-  pub plain_starts_when_due : is_early_release row ≡ false → rest + 1 ≡ row.cost → end ≡ first_allowed row (q + 1 + 1)
+  pub plain_starts_when_due : is_early_release row ≡ false → kept.rest + 1 ≡ row.cost → kept.due ≡ first_allowed row (q + 1 + 1)
   plain_starts_when_due plain most =
       rw plain
-      (kept.dues ∙ sym (next_start_of_whole row.cost row.period (origin_of row) can.cost (q + 1) (ap (λ x. x + 1) (sym kept.rests) ∙ most)))
+      (is.dues ∙ sym (next_start_of_whole row.cost row.period (origin_of row) can.cost (q + 1) (ap (λ x. x + 1) (sym is.rests) ∙ most)))
 
   -- else a slot before that;
-  pub plain_starts_before : is_early_release row ≡ false → (rest + 1 ≡ row.cost → ⊥) → end - 1 ≡ first_allowed row (q + 1 + 1)
+  pub plain_starts_before : is_early_release row ≡ false → (kept.rest + 1 ≡ row.cost → ⊥) → kept.due - 1 ≡ first_allowed row (q + 1 + 1)
   plain_starts_before plain less =
       rw plain
-      (ap (λ x. x - 1) kept.dues
-      ∙ sym (next_start_of_part row.cost row.period (origin_of row) can.cost (q + 1) (λ most. less (ap (λ x. x + 1) kept.rests ∙ most))))
+      (ap (λ x. x - 1) is.dues
+      ∙ sym (next_start_of_part row.cost row.period (origin_of row) can.cost (q + 1) (λ most. less (ap (λ x. x + 1) is.rests ∙ most))))
 
   -- that of an early-release row starts with the next job, if this one is due where its job ends,
-  pub early_starts_next_job : is_early_release row ≡ true → end ≡ start + row.period → end ≡ first_allowed row (q + 1 + 1)
+  pub early_starts_next_job : is_early_release row ≡ true → kept.due ≡ kept.start + row.period → kept.due ≡ first_allowed row (q + 1 + 1)
   early_starts_next_job early last =
-      let same = rw early at kept.starts in
+      let same = rw early at is.starts in
       rw early
-      (kept.dues
-      ∙ sym (next_job_starts row.cost row.period (origin_of row) can.cost can.weight {i = q + 1} (omega arith) (omega (arith, same, kept.dues))))
+      (is.dues
+      ∙ sym (next_job_starts row.cost row.period (origin_of row) can.cost can.weight {i = q + 1} (omega arith) (omega (arith, same, is.dues))))
 
   -- else with the same.
-  pub early_starts_same_job : is_early_release row ≡ true → (end ≡ start + row.period → ⊥) → start ≡ first_allowed row (q + 1 + 1)
+  pub early_starts_same_job : is_early_release row ≡ true → (kept.due ≡ kept.start + row.period → ⊥) → kept.start ≡ first_allowed row (q + 1 + 1)
   early_starts_same_job early other =
-      let same = rw early at kept.starts in
+      let same = rw early at is.starts in
       rw early
       (same
-      ∙ sym (job_goes_on row.cost row.period (origin_of row) can.cost can.weight {i = q + 1} (omega arith) (λ last. other (omega (arith, same, kept.dues)))))
+      ∙ sym (job_goes_on row.cost row.period (origin_of row) can.cost can.weight {i = q + 1} (omega arith) (λ last. other (omega (arith, same, is.dues)))))
 
   -- One quantum more: what is left over is divided on.
   pub kept_one_more : {next : ℕ} → next ≡ first_allowed row (q + 1 + 1) →
-      IsKept row (q + 1) next ((rest + row.period) % row.cost) (end + (rest + row.period) / row.cost)
+      IsKept row (q + 1) (record { start = next; rest = (kept.rest + row.period) % row.cost; due = kept.due + (kept.rest + row.period) / row.cost })
   kept_one_more starts =
       record {
         starts = starts;
-        rests = ap (λ x. (x + row.period) % row.cost) kept.rests ∙ sym (next_rest row.cost row.period (origin_of row) can.cost (q + 1));
+        rests = ap (λ x. (x + row.period) % row.cost) is.rests ∙ sym (next_rest row.cost row.period (origin_of row) can.cost (q + 1));
         dues =
-            ap (λ x. x + (rest + row.period) / row.cost) kept.dues
-            ∙ (ap (λ x. due row (q + 1) + (x + row.period) / row.cost) kept.rests
+            ap (λ x. x + (kept.rest + row.period) / row.cost) is.dues
+            ∙ (ap (λ x. due row (q + 1) + (x + row.period) / row.cost) is.rests
             ∙ sym (next_deadline row.cost row.period (origin_of row) can.cost (q + 1)));
       }
 
 -- What is kept is that of other quanta too, if they are the same.
-pub same_kept : (table : Table) (n : ℕ) {quanta quanta' : ℕ → ℕ} {starts rests dues : List ℕ} → ((i : ℕ) → i < n → quanta i ≡ quanta' i) →
-    AreKept table n quanta starts rests dues → AreKept table n quanta' starts rests dues
-same_kept table n {starts = starts} {rests = rests} {dues = dues} same so =
+pub same_kept : (table : Table) (n : ℕ) {quanta quanta' : ℕ → ℕ} {walk : Walk} → ((i : ℕ) → i < n → quanta i ≡ quanta' i) →
+    AreKept table n quanta walk → AreKept table n quanta' walk
+same_kept table n {walk = walk} same so =
     record {
       long = so.long;
-      each = λ i l. subst (λ q. IsKept (row_at (rows_of table) i) q (get_or starts i 0) (get_or rests i 0) (get_or dues i 0)) (same i l) (so.each i l);
+      each = λ i l. subst (λ q. IsKept (row_at (rows_of table) i) q (kept_at walk i)) (same i l) (so.each i l);
     }
 
 -- What is kept of one row is stored at its place, and the others stay.
-pub one_kept : (table : Table) (m n : ℕ) {quanta quanta' : ℕ → ℕ} {starts rests dues : List ℕ} → AreKept table m quanta starts rests dues →
-    (row : ℕ) → row < row_limit → {start rest end : ℕ} → IsKept (row_at (rows_of table) row) (quanta' row) start rest end →
-    ((i : ℕ) → i < n → (i ≡ row → ⊥) → (i < m) × (quanta i ≡ quanta' i)) → AreKept table n quanta' (set starts row start) (set rests row rest) (set dues row end)
-one_kept table m n {quanta} {quanta'} {starts} {rests} {dues} so row fits {start} {rest} {end} here others =
+pub one_kept : (table : Table) (m n : ℕ) {quanta quanta' : ℕ → ℕ} {walk : Walk} → AreKept table m quanta walk →
+    (row : ℕ) → row < row_limit → {kept : Kept} → IsKept (row_at (rows_of table) row) (quanta' row) kept →
+    ((i : ℕ) → i < n → (i ≡ row → ⊥) → (i < m) × (quanta i ≡ quanta' i)) → AreKept table n quanta' (with_kept walk row kept)
+one_kept table m n {quanta} {quanta'} {walk} so row fits {kept} here others =
     record {
-      long = (length-set starts row start ∙ so.long.0, length-set rests row rest ∙ so.long.1, length-set dues row end ∙ so.long.2);
+      long = (length-set walk.starts row kept.start ∙ so.long.0, length-set walk.rests row kept.rest ∙ so.long.1, length-set walk.dues row kept.due ∙ so.long.2);
       each = λ i l. at i l (ℕ_discrete i row);
     }
   where
-    at : (i : ℕ) → i < n → Dec (i ≡ row) →
-        IsKept (row_at (rows_of table) i) (quanta' i) (get_or (set starts row start) i 0) (get_or (set rests row rest) i 0) (get_or (set dues row end) i 0)
+    at : (i : ℕ) → i < n → Dec (i ≡ row) → IsKept (row_at (rows_of table) i) (quanta' i) (kept_at (with_kept walk row kept) i)
     at i l (yes same) =
         rw (
           same,
-          get_or-set_same starts row start 0 (omega (arith, so.long)),
-          get_or-set_same rests row rest 0 (omega (arith, so.long)),
-          get_or-set_same dues row end 0 (omega (arith, so.long)),
+          get_or-set_same walk.starts row kept.start 0 (omega (arith, so.long)),
+          get_or-set_same walk.rests row kept.rest 0 (omega (arith, so.long)),
+          get_or-set_same walk.dues row kept.due 0 (omega (arith, so.long)),
         )
         here
     at i l (no other) =
-        rw (get_or-set_other starts row i start 0 other, get_or-set_other rests row i rest 0 other, get_or-set_other dues row i end 0 other, ← (others i l other).1)
+        rw (
+          get_or-set_other walk.starts row i kept.start 0 other,
+          get_or-set_other walk.rests row i kept.rest 0 other,
+          get_or-set_other walk.dues row i kept.due 0 other,
+          ← (others i l other).1,
+        )
         (so.each i (others i l other).0)

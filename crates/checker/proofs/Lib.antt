@@ -5,6 +5,7 @@ pub mod Passes
 pub mod Late
 pub mod Named
 pub mod Kept
+pub mod Due
 pub mod Given
 pub mod Shape
 pub mod Judged

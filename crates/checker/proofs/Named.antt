@@ -10,19 +10,11 @@ use borrow.Author.Tests.{lt-ltb, le-ltb, eq-eqb, ne_eqb}
 use lib.ListN.{length, get_or, take, drop, length-take, length-drop, take-append-drop, drop_of_length-le}
 use lib.Seq.{drop-cons, length-take-le, take_all, get_or-take, get_or-drop}
 use Rattle.facts.specs.First.{Lowest}
-use Rattle.fields.specs.Fields.{byte}
-use Rattle.trace.specs.Records.{names, times_named}
+use Rattle.trace.specs.Records.{names}
 use Rattle.trace.proofs.Names.{names_nothing, names_either, named_at, not_named, named_one_more}
 use Rattle.checker.specs.Causes.{bad_rows}
 use Rattle.checker.specs.Walking.{gave_to}
 use Rattle.checker.proofs.Sound.{rising_exactly}
-
--- the c numbers from a place on, and the j-th of them
-pub how_many_rows : (s : List ℕ) (first c : ℕ) → first + c ≤ length s → length (take c (drop first s)) ≡ c
-how_many_rows s first c h = length-take c (drop first s) ∙ omega (arith, length-drop first s)
-
-pub row_at_is : (s : List ℕ) (first c j : ℕ) → j < c → byte s (first + j) ≡ get_or (take c (drop first s)) j 0
-row_at_is s first c j l = sym (get_or-take c (drop first s) j 0 l ∙ get_or-drop first s j 0)
 
 -- For the loop that looks for a bad number: of the first j none is, so what is left tells.
 pub record NoneBadYet (rows : List ℕ) (n least j : ℕ) : Type 0 where
@@ -144,24 +136,24 @@ module _ (rows : List ℕ) (n : ℕ) (rise : bad_rows n 0 rows ≡ false) where
           none_before = λ i b. not_failing i _ (sym (ap (λ x. names x i) (take_all j rows h))) (so.pass i);
         }
 
-  module _ (s : List ℕ) (t : ℕ) where
+  module _ (quanta : ℕ → ℕ) where
     -- Giving begins with nothing given,
-    pub nothing_given : (i : ℕ) → times_named s i t ≡ gave_to s (take 0 rows) t i
+    pub nothing_given : (i : ℕ) → quanta i ≡ gave_to quanta (take 0 rows) i
     nothing_given i = rw (names_nothing i) (omega arith)
 
     module _ (j : ℕ) (l : j < length rows) where
       -- has not come to the row that is next,
-      pub not_given_yet : {row : ℕ} → row ≡ get_or rows j 0 → gave_to s (take j rows) t row ≡ times_named s row t
+      pub not_given_yet : {row : ℕ} → row ≡ get_or rows j 0 → gave_to quanta (take j rows) row ≡ quanta row
       not_given_yet same = rw (same, not_named_yet j l) (omega arith)
 
       -- gives it one more,
-      pub now_given : {row : ℕ} → row ≡ get_or rows j 0 → times_named s row t + 1 ≡ gave_to s (take (j + 1) rows) t row
+      pub now_given : {row : ℕ} → row ≡ get_or rows j 0 → quanta row + 1 ≡ gave_to quanta (take (j + 1) rows) row
       now_given same = rw (same, own_named j l) refl
 
       -- and the others nothing,
-      pub others_stay : {row : ℕ} → row ≡ get_or rows j 0 → (i : ℕ) → (i ≡ row → ⊥) → gave_to s (take j rows) t i ≡ gave_to s (take (j + 1) rows) t i
+      pub others_stay : {row : ℕ} → row ≡ get_or rows j 0 → (i : ℕ) → (i ≡ row → ⊥) → gave_to quanta (take j rows) i ≡ gave_to quanta (take (j + 1) rows) i
       others_stay same i other = rw (other_named j i l (λ e. other (e ∙ sym same))) refl
 
     -- and ends when all have been given theirs.
-    pub all_given : (j : ℕ) → length rows ≤ j → (i : ℕ) → gave_to s (take j rows) t i ≡ gave_to s rows t i
+    pub all_given : (j : ℕ) → length rows ≤ j → (i : ℕ) → gave_to quanta (take j rows) i ≡ gave_to quanta rows i
     all_given j h i = rw (take_all j rows h) refl

@@ -1,29 +1,20 @@
 -- The shape of a record, as it is read. Assumes nothing.
 use Prim.Native.Nat.{ℕ, ◌+◌, ◌-◌, ◌≤◌, ◌<◌}
-use mathlib.Core.Path.{◌≡◌, refl, sym, subst, ◌∙◌}
+use mathlib.Core.Path.{◌≡◌, sym, ap, ◌∙◌}
 use mathlib.Core.List.{List}
 use mathlib.Core.Bool.{Bool, true, false}
 use native.Mathlib.Omega.{arith}
 use borrow.Author.Tests.{lt-ltb, le-ltb}
 use lib.Dec.{ltb}
-use lib.ListN.{length}
+use lib.ListN.{length, take, drop}
 use Rattle.facts.specs.Findings.{FirstFound, NoneFound}
 use Rattle.trace.specs.Said.{bare}
 use Rattle.trace.specs.Records.{free_at, picked_at, past_record}
-use Rattle.checker.specs.Causes.{bad_row}
+use Rattle.checker.specs.Causes.{bad_rows, bad_row}
 use Rattle.checker.specs.Check.{shape_at}
-use Rattle.checker.specs.Walking.{ReadLeads}
+use Rattle.checker.specs.Walking.{Read}
 
 module _ (M n : ℕ) (s : List ℕ) (at : ℕ) where
-  -- A record that is refused with a number.
-  pub refuses : (number : ℕ) → {r first picked : ℕ} → r ≡ number → 40 ≤ number → number ≤ 43 → FirstFound (shape_at M n s at) (bare number) →
-      ReadLeads M n s at r first picked
-  refuses number e low high f =
-      record {
-        read = λ none. absurd (omega arith);
-        refused = λ _. (omega arith, omega arith, subst (λ x. FirstFound (shape_at M n s at) (bare x)) (sym e) f);
-      }
-
   -- Its tests, in turn: two bytes are missing,
   pub head_is_cut : at ≤ length s → length s - at < 2 → FirstFound (shape_at M n s at) (bare 40)
   head_is_cut l h = FirstFound.here (lt-ltb (length s) (at + 2) (omega arith))
@@ -53,28 +44,27 @@ module _ (M n : ℕ) (s : List ℕ) (at : ℕ) where
         rows_are_cut h =
             FirstFound.later head_there (FirstFound.later enough (FirstFound.later fit (FirstFound.here (lt-ltb (length s) (past_record s at) h))))
 
-        module _ (rows : past_record s at ≤ length s) {bad : Bool} (named : bad ≡ bad_row n s at) where
+        module _ (inside : past_record s at ≤ length s) {c : ℕ} {bad : Bool} (named : bad ≡ bad_rows n 0 (take c (drop (at + 2) s))) (all : c ≡ picked_at s at) where
           there : ltb (length s) (past_record s at) ≡ false
-          there = le-ltb (length s) (past_record s at) rows
+          there = le-ltb (length s) (past_record s at) inside
+
+          is_bad : bad ≡ bad_row n s at
+          is_bad = rw all at named
 
           -- or they are named wrongly;
           pub rows_are_bad : bad ≡ true → FirstFound (shape_at M n s at) (bare 43)
           rows_are_bad h =
               FirstFound.later head_there
-              (FirstFound.later enough (FirstFound.later fit (FirstFound.later there (FirstFound.here (sym named ∙ h)))))
+              (FirstFound.later enough (FirstFound.later fit (FirstFound.later there (FirstFound.here (sym is_bad ∙ h)))))
 
           -- else the record is sound.
-          pub record_is_read : bad ≡ false → {picked : ℕ} → picked ≡ picked_at s at → ReadLeads M n s at 0 (at + 2) picked
-          record_is_read h e =
+          pub record_is_read : bad ≡ false → Read M n s at (take c (drop (at + 2) s))
+          record_is_read h =
               record {
-                read = λ _. record {
-                  sound =
-                      NoneFound.later head_there
-                      (NoneFound.later enough (NoneFound.later fit (NoneFound.later there (NoneFound.later (sym named ∙ h) NoneFound.end))));
-                  begins = refl;
-                  all = e;
-                  inside = rows;
-                  rise = sym named ∙ h;
-                };
-                refused = λ some. absurd (some refl);
+                sound =
+                    NoneFound.later head_there
+                    (NoneFound.later enough (NoneFound.later fit (NoneFound.later there (NoneFound.later (sym is_bad ∙ h) NoneFound.end))));
+                all = ap (λ m. take m (drop (at + 2) s)) all;
+                inside = inside;
+                rise = sym is_bad ∙ h;
               }

@@ -14,15 +14,16 @@ use Rattle.table.specs.Value.{rows_of}
 use Rattle.trace.specs.Said.{Said, bare}
 use Rattle.trace.specs.Records.{place_of, named_in, first_place, slots_in}
 use Rattle.trace.proofs.Records.{begins_at_first}
+use Rattle.checker.specs.declared.giving.Walk.{Walk}
 use Rattle.checker.specs.Causes.{slot_limit}
 use Rattle.checker.specs.Check.{record_findings, records_findings, last_findings, trace_said}
-use Rattle.checker.specs.Walking.{AreKept, Reached, Walked}
+use Rattle.checker.specs.Walking.{CanCheck, AreKept, Reached, CanJudge, Walked}
 use Rattle.checker.proofs.Kept.{same_kept}
 
 module _ (table : Table) (s : List ℕ) where
   -- The check has come to slot t of the trace's slots: what is left says what the whole says.
-  pub record Come (slots t at : ℕ) (starts rests dues : List ℕ) : Type 0 where
-    pub reached : Reached table s t at starts rests dues
+  pub record Come (slots t at : ℕ) (walk : Walk) : Type 0 where
+    pub reached : Reached table s t at walk
     pub within : t ≤ slots
     pub slot_count : slots ≡ slots_in s
     pub few : slots ≤ slot_limit
@@ -40,8 +41,8 @@ module _ (table : Table) (s : List ℕ) where
     is_too_long h = sym (first_is_said (bare 0) (FirstFound.later (le-ltb (length s) 4 there) (FirstFound.here (lt-ltb slot_limit (slots_in s) h))))
 
     -- else the check begins.
-    pub check_begins : {slots : ℕ} → slots ≡ slots_in s → slots ≤ slot_limit → {starts rests dues : List ℕ} →
-        AreKept table (length (rows_of table)) (λ _. 0) starts rests dues → Come slots 0 4 starts rests dues
+    pub check_begins : {slots : ℕ} → slots ≡ slots_in s → slots ≤ slot_limit → {walk : Walk} →
+        AreKept table (length (rows_of table)) (λ _. 0) walk → Come slots 0 4 walk
     unfolding trace_said
     check_begins {slots} e few kept =
         record {
@@ -60,30 +61,38 @@ module _ (table : Table) (s : List ℕ) where
               ∙ ap (λ m. first_found (bare 0) (records_findings table s 0 m then last_findings s)) {x = slots_in s} {y = slots - 0} (omega arith);
         }
 
-  module _ {slots t : ℕ} {at : ℕ} {starts rests dues : List ℕ} (so : Come slots t at starts rests dues) (more : t < slots) where
+  module _ {slots t : ℕ} {at : ℕ} {walk : Walk} (so : Come slots t at walk) (more : t < slots) where
     left : trace_said table s ≡ first_found (bare 0) ((record_findings table s t then records_findings table s (t + 1) (slots - (t + 1))) then last_findings s)
     unfolding records_findings
     left = so.rest ∙ ap (λ m. first_found (bare 0) (records_findings table s t m then last_findings s)) (one_left_more more)
 
-    -- What is found in a record is said,
-    pub record_says : {x : Said} → FirstFound (record_findings table s t) x → x ≡ trace_said table s
-    record_says f = sym (left ∙ first_is_said (bare 0) (first_in_front (last_findings s) (first_in_front (records_findings table s (t + 1) (slots - (t + 1))) f)))
+    -- The record of the slot can be judged,
+    pub record_can_be_judged : CanCheck table → {u : ℕ} → u ≡ t → CanJudge table s u at walk
+    record_can_be_judged can e = record { can = can; reached = rw e so.reached; time = omega (arith, e, so.few) }
 
-    -- and else the check goes on.
-    pub check_goes_on : {next : ℕ} {starts' rests' dues' : List ℕ} → Walked table s t next starts' rests' dues' → Come slots (t + 1) next starts' rests' dues'
-    check_goes_on walked =
-        record {
-          reached = walked.reached;
-          within = omega arith;
-          slot_count = so.slot_count;
-          few = so.few;
-          rest =
-              left
-              ∙ (ap (first_found (bare 0)) (append_assoc (record_findings table s t) (records_findings table s (t + 1) (slots - (t + 1))) (last_findings s))
-              ∙ after_none (bare 0) (records_findings table s (t + 1) (slots - (t + 1)) then last_findings s) walked.none);
-        }
+    module _ {u : ℕ} (e : u ≡ t) where
+      -- what is found in it is said,
+      pub record_says : {x : Said} → FirstFound (record_findings table s u) x → x ≡ trace_said table s
+      record_says {x} f =
+          let found : FirstFound (record_findings table s t) x = rw e at f in
+          sym (left ∙ first_is_said (bare 0) (first_in_front (last_findings s) (first_in_front (records_findings table s (t + 1) (slots - (t + 1))) found)))
 
-  module _ {slots t : ℕ} {at : ℕ} {starts rests dues : List ℕ} (so : Come slots t at starts rests dues) (end : slots ≤ t) where
+      -- and else the check goes on.
+      pub check_goes_on : {after : Walk} {next : ℕ} → Walked table s u after next → Come slots (t + 1) next after
+      check_goes_on {after} {next} walked =
+          let behind : Walked table s t after next = rw e at walked in
+          record {
+            reached = behind.reached;
+            within = omega arith;
+            slot_count = so.slot_count;
+            few = so.few;
+            rest =
+                left
+                ∙ (ap (first_found (bare 0)) (append_assoc (record_findings table s t) (records_findings table s (t + 1) (slots - (t + 1))) (last_findings s))
+                ∙ after_none (bare 0) (records_findings table s (t + 1) (slots - (t + 1)) then last_findings s) behind.none);
+          }
+
+  module _ {slots t : ℕ} {at : ℕ} {walk : Walk} (so : Come slots t at walk) (end : slots ≤ t) where
     last : trace_said table s ≡ first_found (bare 0) (last_findings s)
     unfolding records_findings
     last = so.rest ∙ ap (λ m. first_found (bare 0) (records_findings table s t m then last_findings s)) {x = slots - t} {y = 0} (omega arith)

@@ -1,5 +1,6 @@
 -- Between functions: what those of this crate promise one another. No part of what 01 says.
-use Rattle.std.specs.Prelude.{ℕ, ◌+◌, ◌-◌, ◌*◌, ◌%◌, ◌≤◌, ◌<◌, ◌≡◌, List, Bool, true, false, cond, not, ◌&&◌, length, get_or, take, drop}
+use Rattle.std.specs.Prelude.{ℕ, ◌+◌, ◌-◌, ◌*◌, ◌%◌, ◌≤◌, ◌<◌, ◌≡◌, List, Bool, false, cond, not, ◌&&◌, length, get_or, set, Option, MatchOption, Result, MatchResult}
+use Rattle.counts.specs.declared.Slot.{Slot}
 use Rattle.facts.specs.First.{Lowest}
 use Rattle.facts.specs.Findings.{FirstFound, NoneFound}
 use Rattle.table.specs.declared.Row.{Row}
@@ -9,10 +10,12 @@ use Rattle.table.specs.Value.{fault_of, rows_of}
 use Rattle.pd2.specs.Ready.{ready}
 use Rattle.pd2.specs.Share.{CanBe}
 use Rattle.pd2.specs.Choice.{row_at}
-use Rattle.trace.specs.Said.{bare}
-use Rattle.trace.specs.Records.{picked_at, past_record, names, place_in, times_named}
-use Rattle.checker.specs.declared.Answer.{Answer}
-use Rattle.checker.specs.Answer.{said_of}
+use Rattle.trace.specs.Records.{rows_at, past_record, names, place_in, times_named}
+use Rattle.checker.specs.declared.Finding.{Finding}
+use Rattle.checker.specs.declared.Finding.TheVariants.{Early}
+use Rattle.checker.specs.declared.giving.Kept.{Kept}
+use Rattle.checker.specs.declared.giving.Walk.{Walk}
+use Rattle.checker.specs.Answer.{said_by}
 use Rattle.checker.specs.Causes.{slot_limit, bad_rows, bad_row}
 use Rattle.checker.specs.Check.{shape_at, record_findings}
 use Rattle.checker.specs.Passes.{first_allowed, due}
@@ -28,78 +31,98 @@ abbrev pub rest_of : Row → ℕ → ℕ
 rest_of row i = (i * row.period + (row.cost - 1)) % row.cost
 
 -- What is kept of a row that has been given q quanta: from when on its next subtask may be given, what is left over, and when it is due.
-pub record IsKept (row : Row) (q start rest end : ℕ) : Type 0 where
-  pub starts : start ≡ first_allowed row (q + 1)
-  pub rests : rest ≡ rest_of row (q + 1)
-  pub dues : end ≡ due row (q + 1)
+pub record IsKept (row : Row) (q : ℕ) (kept : Kept) : Type 0 where
+  pub starts : kept.start ≡ first_allowed row (q + 1)
+  pub rests : kept.rest ≡ rest_of row (q + 1)
+  pub dues : kept.due ≡ due row (q + 1)
 
--- Three arrays have a place for each row,
-abbrev pub HavePlaces : List ℕ → List ℕ → List ℕ → Type 0
-HavePlaces starts rests dues = (length starts ≡ row_limit) × (length rests ≡ row_limit) × (length dues ≡ row_limit)
+-- What the walk keeps of the row at a place,
+abbrev pub kept_at : Walk → ℕ → Kept
+kept_at walk i = record { start = get_or walk.starts i 0; rest = get_or walk.rests i 0; due = get_or walk.dues i 0 }
 
--- and there stands what is kept of the first n rows.
-pub record AreKept (table : Table) (n : ℕ) (quanta : ℕ → ℕ) (starts rests dues : List ℕ) : Type 0 where
-  pub long : HavePlaces starts rests dues
-  pub each : (i : ℕ) → i < n → IsKept (row_at (rows_of table) i) (quanta i) (get_or starts i 0) (get_or rests i 0) (get_or dues i 0)
+-- the walk that keeps this there,
+abbrev pub with_kept : Walk → ℕ → Kept → Walk
+with_kept walk i kept = record { starts = set walk.starts i kept.start; rests = set walk.rests i kept.rest; dues = set walk.dues i kept.due }
+
+-- and one that has a place for each row and keeps there what is kept of the first n of them.
+pub record AreKept (table : Table) (n : ℕ) (quanta : ℕ → ℕ) (walk : Walk) : Type 0 where
+  pub long : (length walk.starts ≡ row_limit) × (length walk.rests ≡ row_limit) × (length walk.dues ≡ row_limit)
+  pub each : (i : ℕ) → i < n → IsKept (row_at (rows_of table) i) (quanta i) (kept_at walk i)
+
+-- Before slot 0 nothing has been given.
+abbrev pub NothingGiven : Table → Walk → Type 0
+NothingGiven table walk = AreKept table (length (rows_of table)) (λ _. 0) walk
 
 -- What is kept of a row can be moved on: it is that of some quanta, and the row has started in a slot of a trace.
-pub record CanStep (row : Row) (start rest end : ℕ) : Type 0 where
+pub record CanStep (row : Row) (kept : Kept) : Type 0 where
   pub can : CanBe row
   pub quanta : ℕ
-  pub kept : IsKept row quanta start rest end
-  pub started : start ≤ slot_limit
+  pub is : IsKept row quanta kept
+  pub started : kept.start ≤ slot_limit
 
 -- The check has come to slot t: the place is that of its record, and what is kept is that of the records before it, by how many name each row.
-pub record Reached (table : Table) (s : List ℕ) (t at : ℕ) (starts rests dues : List ℕ) : Type 0 where
+pub record Reached (table : Table) (s : List ℕ) (t at : ℕ) (walk : Walk) : Type 0 where
   pub place : at ≡ place_in s t
   pub inside : at ≤ length s
-  pub kept : AreKept table (length (rows_of table)) (λ i. times_named s i t) starts rests dues
+  pub kept : AreKept table (length (rows_of table)) (λ i. times_named s i t) walk
 
 -- The record of slot t can be judged.
-pub record CanJudge (table : Table) (s : List ℕ) (t at : ℕ) (starts rests dues : List ℕ) : Type 0 where
+pub record CanJudge (table : Table) (s : List ℕ) (t at : ℕ) (walk : Walk) : Type 0 where
   pub can : CanCheck table
-  pub reached : Reached table s t at starts rests dues
+  pub reached : Reached table s t at walk
   pub time : t < slot_limit
 
 -- What a record leads to: nothing is found in it and the walk goes behind it, or the first that is found ends the check.
-pub record Walked (table : Table) (s : List ℕ) (t at : ℕ) (starts rests dues : List ℕ) : Type 0 where
+pub record Walked (table : Table) (s : List ℕ) (t : ℕ) (walk : Walk) (at : ℕ) : Type 0 where
   pub none : NoneFound (record_findings table s t)
-  pub reached : Reached table s (t + 1) at starts rests dues
+  pub reached : Reached table s (t + 1) at walk
 
-pub record Leads (table : Table) (s : List ℕ) (t : ℕ) (ended : Bool) (answer : Answer) (at : ℕ) (starts rests dues : List ℕ) : Type 0 where
-  pub walked : ended ≡ false → Walked table s t at starts rests dues
-  pub found : ended ≡ true → FirstFound (record_findings table s t) (said_of answer)
+abbrev pub Leads : Table → List ℕ → ℕ → Walk → Result ℕ Finding → Type 0
+Leads table s t walk result = MatchResult result (Walked table s t walk) (λ finding. FirstFound (record_findings table s t) (said_by finding))
 
--- What reading the record at a place leads to, for a table of M cores and n rows: where its rows begin and how many there are, if it is sound;
--- or the number of what is found first.
-pub record Read (M n : ℕ) (s : List ℕ) (at first picked : ℕ) : Type 0 where
+-- What reading the record at a place leads to, for a table of M cores and n rows: its rows, if it is sound; or what is found first.
+pub record Read (M n : ℕ) (s : List ℕ) (at : ℕ) (rows : List ℕ) : Type 0 where
   pub sound : NoneFound (shape_at M n s at)
-  pub begins : first ≡ at + 2
-  pub all : picked ≡ picked_at s at
+  pub all : rows ≡ rows_at s at
   pub inside : past_record s at ≤ length s
   pub rise : bad_row n s at ≡ false
 
-pub record ReadLeads (M n : ℕ) (s : List ℕ) (at number first picked : ℕ) : Type 0 where
-  pub read : number ≡ 0 → Read M n s at first picked
-  pub refused : (number ≡ 0 → ⊥) → (40 ≤ number) × (number ≤ 43) × FirstFound (shape_at M n s at) (bare number)
+-- Row i is among the rows named, and is not ready in slot t with the quanta that it has been given.
+abbrev pub is_early : Table → (ℕ → ℕ) → List ℕ → ℕ → ℕ → Bool
+is_early table quanta rows t i = names rows i && not (ready (row_at (rows_of table) i) (quanta i) t)
 
--- Row i is among the rows named, and is not ready in slot t with the quanta that the records before it gave.
-abbrev pub is_early : Table → List ℕ → List ℕ → ℕ → ℕ → Bool
-is_early table s rows t i = names rows i && not (ready (row_at (rows_of table) i) (times_named s i t) t)
+-- Those quanta, and one more for each row that is named.
+abbrev pub gave_to : (ℕ → ℕ) → List ℕ → ℕ → ℕ
+gave_to quanta rows i = quanta i + cond (names rows i) 1 0
 
--- The quanta of slot t, and one more for each row that is named.
-abbrev pub gave_to : List ℕ → List ℕ → ℕ → ℕ → ℕ
-gave_to s rows t i = times_named s i t + cond (names rows i) 1 0
-
--- The c rows from a place on can be given quanta in slot t: they lie inside the trace, they rise, and what is kept is that of the slot.
-pub record CanGive (table : Table) (s : List ℕ) (first c t : ℕ) (starts rests dues : List ℕ) : Type 0 where
+-- Rows can be given quanta in slot t: they rise, and what is kept is that of so many quanta.
+pub record CanGiveOn (table : Table) (rows : List ℕ) (t : ℕ) (walk : Walk) (quanta : ℕ → ℕ) : Type 0 where
   pub can : CanCheck table
-  pub inside : first + c ≤ length s
-  pub rise : bad_rows (length (rows_of table)) 0 (take c (drop first s)) ≡ false
-  pub kept : AreKept table (length (rows_of table)) (λ i. times_named s i t) starts rests dues
+  pub rise : bad_rows (length (rows_of table)) 0 rows ≡ false
+  pub kept : AreKept table (length (rows_of table)) quanta walk
   pub time : t < slot_limit
 
--- What giving leads to: the lowest row that is early; and if there is none, what is kept is that of one quantum more for each row that is named.
-pub record Gave (table : Table) (s rows : List ℕ) (t lowest_early : ℕ) (starts rests dues : List ℕ) : Type 0 where
-  pub lowest : Lowest (is_early table s rows t) (length (rows_of table)) lowest_early
-  pub kept : length (rows_of table) ≤ lowest_early → AreKept table (length (rows_of table)) (gave_to s rows t) starts rests dues
+abbrev pub CanGive : Table → List ℕ → ℕ → Walk → Type 0
+CanGive table rows t walk = (quanta : ℕ → ℕ) × CanGiveOn table rows t walk quanta
+
+-- What giving leads to: no row is early, and what is kept is that of one quantum more for each row that is named;
+pub record GaveAll (table : Table) (quanta : ℕ → ℕ) (rows : List ℕ) (t : ℕ) (walk : Walk) : Type 0 where
+  pub none : Lowest (is_early table quanta rows t) (length (rows_of table)) (length (rows_of table))
+  pub kept : AreKept table (length (rows_of table)) (gave_to quanta rows) walk
+
+-- or the lowest row that is early.
+pub record FoundEarly (table : Table) (quanta : ℕ → ℕ) (rows : List ℕ) (slot : Slot) (finding : Finding) : Type 0 where
+  pub row : ℕ
+  pub is : finding ≡ Early row slot
+  pub below : row < length (rows_of table)
+  pub lowest : Lowest (is_early table quanta rows slot.0) (length (rows_of table)) row
+
+abbrev pub Gave : Table → List ℕ → Slot → Walk → Result (Unit {0}) Finding → Walk → Type 0
+Gave table rows slot before result after =
+    (quanta : ℕ → ℕ) →
+    CanGiveOn table rows slot.0 before quanta →
+    MatchResult result (λ _. GaveAll table quanta rows slot.0 after) (FoundEarly table quanta rows slot)
+
+-- The lowest number below n that passes a test; none where none does.
+abbrev pub IsLowest : (ℕ → Bool) → ℕ → Option ℕ → Type 0
+IsLowest test n result = MatchOption result (Lowest test n n) (λ i. (i < n) × Lowest test n i)

@@ -10,6 +10,7 @@ ghost use Rattle.checker.specs.Check.{trace_said, check_of};
 ghost use Rattle.checker.specs.Walking.{CanCheck};
 
 use counts::Slot;
+use giving::Walk;
 use table::Table;
 
 // Why a table was refused.
@@ -30,10 +31,9 @@ pub enum TableFault {
     Sum,
 }
 
-// What the check answers.
+// What is found: by the table, or in the trace, first.
 #[derive(Clone, Copy)]
-pub enum Answer {
-    Passed,
+pub enum Finding {
     Table(TableFault),
     Cut,
     TooManyCores,
@@ -45,19 +45,11 @@ pub enum Answer {
     TooLong,
 }
 
+// What the check answers: the trace passes, or what is found first.
+pub type Answer = Result<(), Finding>;
+
 // The most slots that a trace may have, whatever the time limit is: so the slots of a check have 32 bits, as their count has.
 const SLOT_LIMIT: u32 = 1_000_000_000;
-
-// When a place that holds no row is due: past the end of every trace, so that no such place is counted among the late ones.
-const NEVER: u32 = 4_294_967_295;
-
-// What a record leads to: the place behind it, or the answer that ends the check.
-#[derive(Clone, Copy)]
-struct Step {
-    ended: bool,
-    answer: Answer,
-    next: usize,
-}
 
 // Judges the table, then the trace.
 pub fn check(table: &[u8], trace: &[u8]) -> Answer
@@ -65,27 +57,28 @@ pub fn check(table: &[u8], trace: &[u8]) -> Answer
 {
     let reading = table::read(table);
     if reading.number != 0 {
-        return Answer::Table(fault_of(reading.number));
+        return Err(Finding::Table(fault_of(reading.number)));
     }
-    let taken = reading.table;
-    check_trace(taken, trace)
+    check_trace(&reading.table, trace)
 }
 
 // The number of an answer.
 pub fn number(answer: Answer) -> u8
     ensures { result ≡ (said_of answer).number }
 {
-    match answer {
-        Answer::Passed => 0,
-        Answer::Table(fault) => fault_number(fault),
-        Answer::Cut => 40,
-        Answer::TooManyCores => 41,
-        Answer::TooManyRows => 42,
-        Answer::BadRow => 43,
-        Answer::Early { row: _, slot: _ } => 44,
-        Answer::Late { row: _, time: _ } => 45,
-        Answer::Extra => 46,
-        Answer::TooLong => 47,
+    let Err(finding) = answer else {
+        return 0;
+    };
+    match finding {
+        Finding::Table(fault) => fault_number(fault),
+        Finding::Cut => 40,
+        Finding::TooManyCores => 41,
+        Finding::TooManyRows => 42,
+        Finding::BadRow => 43,
+        Finding::Early { row: _, slot: _ } => 44,
+        Finding::Late { row: _, time: _ } => 45,
+        Finding::Extra => 46,
+        Finding::TooLong => 47,
     }
 }
 
@@ -132,41 +125,24 @@ fn fault_of(number: u8) -> TableFault
 }
 
 // Judges a trace from the front, record after record.
-fn check_trace(table: Table, trace: &[u8]) -> Answer
-    requires { CanCheck table }
-    ensures { said_of result ≡ trace_said table trace.now }
+fn check_trace(table: &Table, trace: &[u8]) -> Answer
+    requires { CanCheck table.now }
+    ensures { said_of result ≡ trace_said table.now trace.now }
 {
     if trace.len() < 4 {
-        return Answer::Cut;
+        return Err(Finding::Cut);
     }
     let slots = fields::word(trace, 0);
     if SLOT_LIMIT < slots {
-        return Answer::TooLong;
+        return Err(Finding::TooLong);
     }
-    let mut starts = [0u32; 32];
-    let mut rests = [0u32; 32];
-    let mut dues = [NEVER; 32];
-    giving::begin(table, &mut starts, &mut rests, &mut dues);
+    let mut walk = Walk::begin(table);
     let mut at: usize = 4;
-    let mut slot: u32 = 0;
-    while slot < slots {
-        let step = record::judge(
-            table,
-            trace,
-            at,
-            &mut starts,
-            &mut rests,
-            &mut dues,
-            Slot::at(slot as u64),
-        );
-        if step.ended {
-            return step.answer;
-        }
-        at = step.next;
-        slot += 1;
+    for slot in 0..slots {
+        at = record::judge(table, trace, at, &mut walk, Slot::at(slot as u64))?;
     }
     if at < trace.len() {
-        return Answer::Extra;
+        return Err(Finding::Extra);
     }
-    Answer::Passed
+    Ok(())
 }

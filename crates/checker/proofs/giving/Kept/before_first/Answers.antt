@@ -2,7 +2,7 @@ use Prim.Native.Nat.{◌+◌, ◌-◌}
 use native.Mathlib.Nat.{div-le_self}
 use native.Mathlib.Omega.{arith}
 use Rattle.checker.proofs.Kept.{kept_at_first}
-use Rattle.checker.proofs.giving.before_first.Goals as goal
+use Rattle.checker.proofs.giving.Kept.before_first.Goals as goal
 
 pub overflow_add-due : goal.overflow_add-due
 overflow_add-due c =
