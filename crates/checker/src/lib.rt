@@ -14,7 +14,7 @@ use giving::Walk;
 use table::Table;
 
 // Why a table was refused.
-#[derive(Clone, Copy)]
+#[derive(Clone, Copy, PartialEq, Eq)]
 pub enum TableFault {
     Ends,
     Format,
@@ -32,7 +32,7 @@ pub enum TableFault {
 }
 
 // What is found: by the table, or in the trace, first.
-#[derive(Clone, Copy)]
+#[derive(Clone, Copy, PartialEq, Eq)]
 pub enum Finding {
     Table(TableFault),
     Cut,
