@@ -1,14 +1,20 @@
 -- The numbers of a table's tests are 10 to 22, so 0 is answered exactly where no cause is there. Assumes nothing.
 use Prim.Native.Nat.{ℕ, ◌≤◌}
-use mathlib.Core.Path.{◌≡◌, refl}
+use mathlib.Core.Path.{◌≡◌, refl, sym}
+use native.Mathlib.Decide.{ℕ_discrete}
 use mathlib.Core.List.{List}
 use native.Mathlib.Omega.{arith}
-use Rattle.facts.specs.Findings.{Test, first_found, NoneFound}
-use Rattle.facts.proofs.Findings.{AllSay, none_exactly, none_in_five, all_joined, in_range}
+use Rattle.facts.specs.Findings.{Test, ◌then◌, first_found, NoneFound}
+use Rattle.facts.proofs.Findings.{AllSay, none_exactly, none_in_five, all_joined, in_range, after_none, decides}
+use Rattle.facts.specs.Zero.{if0}
+use Rattle.facts.proofs.Zero.{if0_other}
 use Rattle.facts.proofs.Rising.{rising_say}
 use Rattle.fields.specs.Fields.{byte}
 use Rattle.table.specs.declared.Row.{Row}
 use Rattle.table.specs.declared.Table.{Table}
+use Rattle.table.specs.declared.faults.Fault.{Fault}
+use Rattle.table.specs.declared.faults.Fault.TheVariants.{Ends, Format, Cycle, Cores, Boards, RowCount, Tanks, Cost, Weight, Period, Kind, After, Sum}
+use Rattle.table.specs.Reply.{fault_number}
 use Rattle.table.specs.Causes.{board_tests, board_above, row_tests, tank_above}
 use Rattle.table.specs.Value.{boards_of, rows_of, front_tests, boards_tests, row_count_tests, rows_tests, sum_tests, value_tests, fault_of}
 use Rattle.table.specs.Bytes.{cycle_in, board_places, row_places, row_in_bytes, board_tests_in, row_tests_in, head_tests, boards_tests_in, row_count_tests_in, rows_tests_in, last_tests, table_tests, table_number}
@@ -19,9 +25,37 @@ Number k = (10 ≤ k) × (k ≤ 22)
 
 -- for callers
 
+-- Each fault has one of them,
+pub fault_says : (fault : Fault) → Number (fault_number fault)
+fault_says Ends = (omega arith, omega arith)
+fault_says Format = (omega arith, omega arith)
+fault_says Cycle = (omega arith, omega arith)
+fault_says Cores = (omega arith, omega arith)
+fault_says Boards = (omega arith, omega arith)
+fault_says RowCount = (omega arith, omega arith)
+fault_says Tanks = (omega arith, omega arith)
+fault_says Cost = (omega arith, omega arith)
+fault_says Weight = (omega arith, omega arith)
+fault_says Period = (omega arith, omega arith)
+fault_says Kind = (omega arith, omega arith)
+fault_says After = (omega arith, omega arith)
+fault_says Sum = (omega arith, omega arith)
+
+-- and so not 0.
+pub is_fault : (fault : Fault) → fault_number fault ≡ 0 → ⊥
+is_fault fault e = omega (arith, (fault_says fault).0, e)
+
 -- Where 0 is answered, no test has its cause.
 pub none_met : {tests : List Test} → AllSay Number tests → first_found 0 tests ≡ 0 → NoneFound tests
 none_met all = (none_exactly 0 all (λ number. omega (arith, number.0))).0
+
+-- What is found in tests that come one after the other: what the first say, or where they say nothing what the others do.
+pub in_turn : {tests : List Test} → AllSay Number tests → (others : List Test) → first_found 0 (tests then others) ≡ if0 (first_found 0 tests) (first_found 0 others) (first_found 0 tests)
+in_turn {tests} all others = go (ℕ_discrete (first_found 0 tests) 0)
+  where
+    go : Dec (first_found 0 tests ≡ 0) → first_found 0 (tests then others) ≡ if0 (first_found 0 tests) (first_found 0 others) (first_found 0 tests)
+    go (yes none) = rw none (after_none 0 others (none_met all none))
+    go (no some) = rw (if0_other (first_found 0 tests) (first_found 0 others) (first_found 0 tests) some) (sym (decides 0 tests others refl some))
 
 -- The tests of a row have these numbers,
 pub row_says : (cycle least : ℕ) (row : Row) → AllSay Number (row_tests cycle least row)

@@ -19,11 +19,12 @@ use Rattle.facts.proofs.Places.{first_are_read, others_are_nothing, how_many_pad
 use Rattle.fields.specs.Fields.{byte}
 use Rattle.table.specs.declared.Row.{Row}
 use Rattle.table.specs.declared.Table.{Table}
-use Rattle.table.specs.declared.Reading.{Reading}
+use Rattle.table.specs.Reply.{Reading}
 use Rattle.table.specs.Limits.{cycle_limit, core_limit, row_limit}
 use Rattle.table.specs.Causes.{row_tests, tank_above, load, zero_row, board_tests, board_above}
 use Rattle.table.specs.Value.{boards_of, rows_of, front_tests, row_count_tests, sum_tests, fault_of}
-use Rattle.table.specs.Bytes.{cycle_in, cores_in, row_count_in, rows_place, board_places, row_places, row_in_bytes, board_tests_in, row_tests_in, head_tests, row_count_tests_in, last_tests, table_tests, table_number, table_in, no_table, reading_of, reading}
+use Rattle.table.specs.Bytes.{cycle_in, cores_in, row_count_in, rows_place, board_places, row_places, row_in_bytes, board_tests_in, row_tests_in, head_tests, row_count_tests_in, last_tests, table_tests, table_number, table_in, reading_of, reading}
+use Rattle.table.specs.Reply.{no_table}
 use Rattle.table.specs.Taken.{NumbersAreFirstCauses, NumbersAre10To22, TakenWhereNoCause, PastIsZero, Sound}
 use Rattle.table.proofs.Numbers.{table_says, none_in_value, none_in_bytes}
 use Rattle.table.proofs.Value.{front_passed, no_fault}

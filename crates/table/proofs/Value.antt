@@ -1,5 +1,5 @@
 -- The faults of a table value, part by part. Assumes nothing.
-use mathlib.Core.Path.{◌≡◌, sym, ◌∙◌}
+use mathlib.Core.Path.{◌≡◌, refl, sym, ap, ◌∙◌}
 use mathlib.Core.Bool.{true, false}
 use mathlib.Core.Logic.{◌⊎◌, inl, inr}
 use Prim.Native.Nat.{ℕ, ◌*◌, ◌≤◌, ◌<◌}
@@ -8,6 +8,9 @@ use lib.Dec.{ltb, eqb}
 use Rattle.facts.specs.Findings.{◌then◌, first_found, FirstFound, NoneFound}
 use Rattle.facts.proofs.Tests.{neither_holds, one_of_two}
 use Rattle.facts.proofs.Findings.{none_says_otherwise, first_is_said, after_none, first_in_front, first_behind, decides}
+use Rattle.facts.specs.Zero.{if0}
+use Rattle.facts.proofs.Findings.{in_range}
+use Rattle.table.proofs.Numbers.{in_turn, boards_say, rows_say}
 use Rattle.table.specs.declared.Table.{Table}
 use Rattle.table.specs.Limits.{cycle_limit, core_limit, row_limit}
 use Rattle.table.specs.Causes.{load, outside, format_test}
@@ -26,6 +29,23 @@ known_format format e = go (one_of_two (eqb format 1) (eqb format 2) (not-false 
     go : (eqb format 1 ≡ true) ⊎ (eqb format 2 ≡ true) → (format ≡ 1) ⊎ (format ≡ 2)
     go (inl one) = inl (eqb-true format 1 one)
     go (inr two) = inr (eqb-true format 2 two)
+
+-- The fault of a value, part after part: what a part says, or where it says nothing what the parts behind it say.
+pub fault_in_turn : (t : Table) →
+    let front = first_found 0 (front_tests t) in
+    let boards = first_found 0 (boards_tests t) in
+    let count = first_found 0 (row_count_tests t) in
+    let rows = first_found 0 (rows_tests t) in
+    fault_of t ≡ if0 front (if0 boards (if0 count (if0 rows (first_found 0 (sum_tests t)) rows) count) boards) front
+unfolding fault_of
+fault_in_turn t =
+    let front = first_found 0 (front_tests t) in
+    let boards = first_found 0 (boards_tests t) in
+    let count = first_found 0 (row_count_tests t) in
+    in_turn (in_range 10 22 (front_tests t) refl) _
+    ∙ ap (λ k. if0 front k front) (in_turn (boards_say t) _
+    ∙ ap (λ k. if0 boards k boards) (in_turn (in_range 10 22 (row_count_tests t) refl) _
+    ∙ ap (λ k. if0 count k count) (in_turn (rows_say t) _)))
 
 module _ (t : Table) where
   -- What is known past the front: the format is 1 or 2, and the cycle and the core count are between their limits.

@@ -15,7 +15,7 @@ use Rattle.facts.proofs.Findings.{AllSay, all_joined, said_exactly, otherwise_or
 use Rattle.facts.proofs.Rising.{rising_say}
 use Rattle.table.specs.declared.Row.{Row}
 use Rattle.table.specs.declared.Table.{Table}
-use Rattle.table.specs.declared.Writing.{Writing}
+use Rattle.table.specs.Reply.{Writing}
 use Rattle.table.specs.Limits.{core_limit, row_limit}
 use Rattle.table.specs.Causes.{board_tests, board_above, row_tests, tank_above}
 use Rattle.table.specs.Value.{boards_of, rows_of, value_tests, fault_of}

@@ -1,5 +1,5 @@
 -- The table in bytes, and what reading them answers (01, "The table, in bytes").
-use Rattle.std.specs.Prelude.{ℕ, ◌+◌, ◌*◌, List, [], ◌∷◌, map, replicate}
+use Rattle.std.specs.Prelude.{ℕ, ◌+◌, ◌*◌, List, [], ◌∷◌, map}
 use Rattle.facts.specs.Zero.{if0}
 use Rattle.facts.specs.Findings.{Test, ◌then◌, first_found}
 use Rattle.facts.specs.Rising.{rising}
@@ -7,8 +7,8 @@ use Rattle.facts.specs.Places.{places, padded}
 use Rattle.fields.specs.Fields.{byte, half, word}
 use Rattle.table.specs.declared.Row.{Row}
 use Rattle.table.specs.declared.Table.{Table}
-use Rattle.table.specs.declared.Reading.{Reading}
 use Rattle.table.specs.Limits.{core_limit, row_limit}
+use Rattle.table.specs.Reply.{Reading, no_table}
 use Rattle.table.specs.Causes.{cut, format_test, cycle_test, cores_test, board_tests, board_above, row_count_test, row_tests, tank_above, after_test, sum_test, zero_row}
 
 -- Where each part stands: "format", which is 1 or 2 ("Tables of format 2 keep the bytes of format 1": 02, Eight), "cycle L", "core count M .. then M board numbers", "row count n .. then n rows".
@@ -108,10 +108,6 @@ table_in s =
       n = row_count_in s;
       rows = padded (row_in_bytes s) zero_row row_limit (rows_place s) 9 (row_count_in s);
     }
-
--- "A table refusal yields no table"; "In any refused answer each part that no rule names is 0 or empty."
-abbrev pub no_table : Table
-no_table = record { format = 0; cycle = 0; cores = 0; boards = replicate core_limit 0; n = 0; rows = replicate row_limit zero_row }
 
 -- the answer: 0 with the table, or the number of the first fault met
 abbrev pub reading_of : ℕ → Table → Reading

@@ -7,7 +7,7 @@ use Rattle.facts.specs.Findings.{Test, ◌says◌, ◌then◌, first_found}
 use Rattle.fields.specs.Fields.{bytes_of, shorter}
 use Rattle.table.specs.declared.Row.{Row}
 use Rattle.table.specs.declared.Table.{Table}
-use Rattle.table.specs.declared.Writing.{Writing}
+use Rattle.table.specs.Reply.{Writing}
 use Rattle.table.specs.Value.{boards_of, rows_of, value_tests}
 
 -- "A row: tank (2 ..), e (2), p (2), f (2 ..), kind (1 ..)" (01)

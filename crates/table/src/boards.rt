@@ -1,58 +1,48 @@
 // The board numbers of a table.
-ghost use Rattle.std.specs.Prelude.{◌≡◌, ◌≤◌, ◌<◌, take};
+ghost use Rattle.std.specs.Prelude.{◌≡◌, ◌≤◌, IfOk};
 ghost use Rattle.facts.specs.Findings.{first_found};
 ghost use Rattle.facts.specs.Rising.{rising};
 ghost use Rattle.table.specs.Causes.{board_tests, board_above};
-ghost use Rattle.table.specs.Parts.{BoardsAnswer};
+ghost use Rattle.table.specs.Reply.{number_of};
+ghost use Rattle.table.specs.Parts.{boards_fault_in, boards_in};
 
-use crate::BoardsRead;
+use crate::Fault;
 
-// The m board numbers, which begin at place 6.
-pub(crate) fn read(bytes: &[u8], m: usize) -> BoardsRead
+// The m board numbers, which begin at place 6, or the first fault met.
+pub(crate) fn read(bytes: &[u8], m: usize) -> Result<[u8; 8], Fault>
     requires { m ≤ 8 }
-    ensures { BoardsAnswer bytes.now m result.number result.boards }
+    ensures number { number_of result ≡ boards_fault_in bytes.now m }
+    ensures boards { IfOk result (λ boards. boards ≡ boards_in bytes.now m) }
 {
     let mut boards = [0u8; 8];
     let mut least: u16 = 0;
-    let mut i: usize = 0;
-    while i < m {
+    for i in 0..m {
         let at = 6 + i;
         if bytes.len() <= at {
-            return BoardsRead { number: 10, boards };
+            return Err(Fault::Ends);
         }
         let board = fields::byte(bytes, at);
-        let number = wide(board);
+        let number = board as u16;
         if number < least {
-            return BoardsRead { number: 14, boards };
+            return Err(Fault::Boards);
         }
         boards[i] = board;
         least = number + 1;
-        i += 1;
     }
-    BoardsRead { number: 0, boards }
+    Ok(boards)
 }
 
-// 14 if the first m board numbers do not rise, or 0.
-pub(crate) fn fault(boards: [u8; 8], m: usize) -> u8
-    requires { m ≤ 8 }
-    ensures { result ≡ first_found 0 (rising board_tests board_above 0 (take m boards)) }
+// Whether board numbers rise strictly, or the fault.
+pub(crate) fn judge(boards: &[u8]) -> Result<(), Fault>
+    ensures { number_of result ≡ first_found 0 (rising board_tests board_above 0 boards.now) }
 {
     let mut least: u16 = 0;
-    let mut i: usize = 0;
-    while i < m {
-        let number = wide(boards[i]);
+    for board in boards {
+        let number = *board as u16;
         if number < least {
-            return 14;
+            return Err(Fault::Boards);
         }
         least = number + 1;
-        i += 1;
     }
-    0
-}
-
-// A board number, where one more fits too.
-fn wide(board: u8) -> u16
-    ensures { (result ≡ board) × (result < 256) }
-{
-    board as u16
+    Ok(())
 }

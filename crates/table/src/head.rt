@@ -1,54 +1,75 @@
 // The first fields of a table: format, cycle and core count.
-ghost use Rattle.std.specs.Prelude.{◌≡◌, not, ◌||◌, eqb};
+ghost use Rattle.std.specs.Prelude.{◌≡◌, ◌≤◌, not, ◌||◌, eqb, IfOk};
 ghost use Rattle.facts.specs.Findings.{first_found};
 ghost use Rattle.table.specs.Limits.{cycle_limit, core_limit};
 ghost use Rattle.table.specs.Causes.{outside};
-ghost use Rattle.table.specs.Bytes.{head_tests};
+ghost use Rattle.table.specs.Bytes.{format_in, cycle_in, cores_in, head_tests};
+ghost use Rattle.table.specs.Reply.{number_of};
+
+use crate::Fault;
 
 const CYCLE_LIMIT: u32 = 1_000_000;
 
 const CORE_LIMIT: u8 = 8;
 
-// The first fault 10 to 13 met, or 0.
-pub(crate) fn fault(bytes: &[u8]) -> u8
-    ensures { result ≡ first_found 0 (head_tests bytes.now) }
+// The first fields, once they passed their tests.
+#[derive(Clone, Copy)]
+pub(crate) struct Head {
+    pub(crate) format: u8,
+    pub(crate) cycle: u32,
+    pub(crate) cores: u8,
+    ghost few: { cores ≤ core_limit },
+}
+
+#[tactic(auto, unfolding(facts::specs::Findings::first_found))]
+// The first fields, or the first fault met. A field is tested as soon as its bytes are there.
+pub(crate) fn read(bytes: &[u8]) -> Result<Head, Fault>
+    ensures number { number_of result ≡ first_found 0 (head_tests bytes.now) }
+    ensures fields { IfOk result (λ head. (head.format ≡ format_in bytes.now) × (head.cycle ≡ cycle_in bytes.now) × (head.cores ≡ cores_in bytes.now)) }
 {
-    if bytes.len() < 1 {
-        return 10;
+    if bytes.is_empty() {
+        return Err(Fault::Ends);
     }
-    if format_is_unknown(fields::byte(bytes, 0)) {
-        return 11;
+    let format = fields::byte(bytes, 0);
+    if format_is_unknown(format) {
+        return Err(Fault::Format);
     }
     if bytes.len() < 5 {
-        return 10;
+        return Err(Fault::Ends);
     }
-    if cycle_is_outside(fields::word(bytes, 1)) {
-        return 12;
+    let cycle = fields::word(bytes, 1);
+    if cycle_is_outside(cycle) {
+        return Err(Fault::Cycle);
     }
     if bytes.len() < 6 {
-        return 10;
+        return Err(Fault::Ends);
     }
-    if cores_are_outside(fields::byte(bytes, 5)) {
-        return 13;
+    let cores = fields::byte(bytes, 5);
+    if cores_are_outside(cores) {
+        return Err(Fault::Cores);
     }
-    0
+    Ok(Head {
+        format,
+        cycle,
+        cores,
+    })
 }
 
 // Whether a format is neither 1 nor 2.
 pub(crate) fn format_is_unknown(format: u8) -> bool
     ensures { result ≡ not (eqb format 1 || eqb format 2) }
 {
-    if format == 1 { false } else { format != 2 }
+    format != 1 && format != 2
 }
 
 pub(crate) fn cycle_is_outside(cycle: u32) -> bool
     ensures { result ≡ outside 1 cycle_limit cycle }
 {
-    if cycle < 1 { true } else { CYCLE_LIMIT < cycle }
+    cycle < 1 || CYCLE_LIMIT < cycle
 }
 
 pub(crate) fn cores_are_outside(cores: u8) -> bool
     ensures { result ≡ outside 1 core_limit cores }
 {
-    if cores < 1 { true } else { CORE_LIMIT < cores }
+    cores < 1 || CORE_LIMIT < cores
 }

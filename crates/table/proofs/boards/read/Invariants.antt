@@ -1,4 +1,3 @@
-use Prim.Native.Nat.{◌-◌}
 use Rattle.facts.specs.Loops.{ReadSoFar}
 use Rattle.fields.specs.Fields.{byte}
 use Rattle.table.specs.Limits.{core_limit}
@@ -8,6 +7,3 @@ use Rattle.table.proofs.boards.read.Given as goal
 
 abbrev pub invariant-loop-i : goal.invariant-loop-i
 invariant-loop-i l = ReadSoFar (board_tests_in l.bytes) (λ k. board_above (byte l.bytes k)) (byte l.bytes) 0 core_limit 6 1 l.m l.boards l.least l.i
-
-abbrev pub decreases-loop-i : goal.decreases-loop-i
-decreases-loop-i l = l.m - l.i

@@ -1,36 +1,38 @@
-use mathlib.Core.Path.{sym, ap, ◌∙◌}
-use native.Mathlib.Omega.{arith}
+use Rattle.std.proofs.Common.{refl, sym, ap, ◌∙◌, ◌≡◌, arith}
+use Rattle.std.proofs.lemmas.Result.{err_from_is_err_and}
 use lib.ListN.{replicate, length-replicate}
 use Rattle.facts.proofs.Loops.{reading_begins, reading_ends, reading_stops, reading_goes_on}
 use Rattle.table.specs.declared.Row.{Row}
-use Rattle.table.specs.Causes.{tank_above, zero_row}
-use Rattle.table.specs.RowRead.{row_reply_of}
+use Rattle.facts.proofs.Places.{first_are_read}
+use Rattle.table.specs.Limits.{row_limit}
+use Rattle.table.specs.Bytes.{row_in_bytes}
+use Rattle.table.specs.Causes.{tank_above, load, zero_row}
 use Rattle.table.proofs.Sum.{added_none, added_put, added_all}
+use Rattle.table.proofs.Numbers.{is_fault}
 use Rattle.table.proofs.Bytes.{row_was_read, row_was_there, row_was_faulty}
 use Rattle.table.proofs.rows.read.Goals as goal
 
 pub loop-i-init : goal.loop-i-init
-loop-i-init c = (
-  reading_begins _ _ _ _ _ _ _ _ (ap (λ (z : Row). replicate 32 z) c.zero-zero.ensures),
-  omega arith,
-  added_none _ _ _ (omega (arith, c.requires.1, length-replicate 32 zero_row)),
-  c.requires.0,
-)
-
-pub returns-in_default : goal.returns-in_default
-returns-in_default c =
-    let told = c.in_default.is in
-    let was = row_was_faulty _ _ _ _ c.read_one-got.ensures told in
-    let number = c.number.ensures ∙ ap (λ c. (row_reply_of c).number) told ∙ was.0 in (
-      reading_stops _ _ _ _ _ _ _ _ c.loop-i.invariant.0 c.loop-i-test.true c.loop-i.invariant.1 number (λ z. was.1 (sym number ∙ z)),
-      λ z. absurd (was.1 (sym number ∙ z)),
+loop-i-init c =
+    let zero = c.default-rows.ensures in
+    let none : c.default-rows.result ≡ zero_row = λ i. record { tank = zero.0 i; cost = zero.1.0 i; period = zero.1.1.0 i; phase = zero.1.1.1.0 i; kind = zero.1.1.1.1 i } in (
+      reading_begins _ _ _ _ _ _ _ _ (ap (λ (z : Row). replicate 32 z) none),
+      omega arith,
+      added_none _ _ _ (omega (arith, c.requires.1, length-replicate 32 zero_row)),
+      c.requires.0,
     )
+
+pub returns-in_err-row-clause-number : goal.returns-in_err-row-clause-number
+returns-in_err-row-clause-number c =
+    let was = row_was_faulty _ _ _ _ _ c.in_err-row.ensures in
+    let handed = err_from_is_err_and c.from_residual.result c.from_residual.ensures.1 in
+    rw (handed.1, handed.2) (reading_stops _ _ _ _ _ _ _ _ c.loop-i.invariant.0 c.loop-i-test.true c.loop-i.invariant.1 was (λ z. is_fault _ z)).first
 
 pub loop-i-preserved : goal.loop-i-preserved
 loop-i-preserved c =
     let quanta = c.quanta_of-sum.ensures in
     let taken = c.loop-i-test.true in
-    let was = row_was_read _ _ _ _ c.read_one-got.ensures c.in-Row.is in
+    let was = row_was_read _ _ _ _ c.in_ok-row.ensures in
     let past = was.2 in (
       reading_goes_on _ _ _ _ _ _ _ _ c.loop-i.invariant.0 taken c.loop-i.invariant.1 (omega (arith, taken, c.requires.1)) was.0 was.1 (c.above-least.ensures ∙ ap tank_above was.1),
       omega (arith, past, c.loop-i.invariant.1),
@@ -38,7 +40,10 @@ loop-i-preserved c =
       omega (arith, past, row_was_there c.args.bytes.now c.args.cycle c.loop-i.least c.loop-i.cursor.at was.0),
     )
 
-pub returns : goal.returns
-returns c =
-    let inv = c.loop-i.invariant in
-    (reading_ends _ _ _ _ _ _ _ _ inv.0 c.loop-i-test.false, λ _. added_all inv.2 c.loop-i-test.false)
+pub returns-clause-number : goal.returns-clause-number
+returns-clause-number c = (reading_ends _ _ _ _ _ _ _ _ c.loop-i.invariant.0 c.loop-i-test.false).first
+
+pub returns-clause-rows : goal.returns-clause-rows
+returns-clause-rows c =
+    let rows = (reading_ends _ _ _ _ _ _ _ _ c.loop-i.invariant.0 c.loop-i-test.false).content refl in
+    (rows, added_all c.loop-i.invariant.2 c.loop-i-test.false ∙ rw rows (ap (load c.args.cycle) (first_are_read (row_in_bytes c.args.bytes.now) zero_row row_limit c.args.at 9 c.args.n)))

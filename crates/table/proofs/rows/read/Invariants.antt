@@ -1,6 +1,4 @@
-use mathlib.Core.Path.{◌≡◌}
-use Prim.Native.Nat.{◌+◌, ◌-◌, ◌*◌, ◌≤◌}
-use lib.ListN.{length}
+use Rattle.std.proofs.Common.{◌≡◌, ◌+◌, ◌*◌, ◌≤◌, length}
 use Rattle.facts.specs.Loops.{ReadSoFar}
 use Rattle.table.specs.Limits.{row_limit}
 use Rattle.table.specs.Causes.{tank_above, zero_row}
@@ -14,6 +12,3 @@ invariant-loop-i l = ReadSoFar (row_tests_in l.bytes l.cycle) (λ k. tank_above 
     × (l.cursor.at ≡ l.at + 9 * l.i)
     × Added l.rows l.n l.cycle l.sum l.i
     × (l.cursor.at ≤ length l.bytes)
-
-abbrev pub decreases-loop-i : goal.decreases-loop-i
-decreases-loop-i l = l.n - l.i

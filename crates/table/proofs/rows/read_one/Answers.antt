@@ -1,5 +1,5 @@
-use mathlib.Core.Path.{sym, ap, ◌∙◌}
-use native.Mathlib.Omega.{arith}
+use Rattle.std.proofs.Common.{sym, ap, ◌∙◌, arith}
+use Rattle.std.proofs.lemmas.Result.{err_from_is_err_and}
 use Rattle.facts.specs.Findings.{first_found}
 use Rattle.table.specs.Causes.{row_tests}
 use Rattle.table.proofs.Bytes.{row_cut, row_faulty, row_read}
@@ -10,16 +10,16 @@ returns-then-bytes-at-lt9 c =
     let x = c.args in
     row_cut x.bytes.now x.cycle x.least x.cursor.at (omega arith)
 
-pub returns-then-number-ne0 : goal.returns-then-number-ne0
-returns-then-number-ne0 c =
+pub returns-in_err-judge_one : goal.returns-in_err-judge_one
+returns-in_err-judge_one c =
     let x = c.args in
     let row = c.row_at-row.ensures in
-    row_faulty x.bytes.now x.cycle x.least x.cursor.at (omega arith)
-    (c.fault_of-number.ensures ∙ ap (λ r. first_found 0 (row_tests x.cycle x.least r)) row) c.if-number-ne0.true
+    let handed = err_from_is_err_and c.from_residual.result c.from_residual.ensures.1 in
+    rw (handed.1, handed.2)
+    (row_faulty x.bytes.now x.cycle x.least x.cursor.at (omega arith) _ (c.in_err-judge_one.ensures ∙ ap (λ r. first_found 0 (row_tests x.cycle x.least r)) row))
 
 pub returns : goal.returns
 returns c =
     let x = c.args in
     let row = c.row_at-row.ensures in
-    row_read x.bytes.now x.cycle x.least x.cursor.at (omega arith)
-    (ap (λ r. first_found 0 (row_tests x.cycle x.least r)) (sym row) ∙ sym c.fault_of-number.ensures ∙ c.if-number-ne0.false) row
+    row_read x.bytes.now x.cycle x.least x.cursor.at (omega arith) (c.in_ok-judge_one.ensures ∙ ap (λ r. first_found 0 (row_tests x.cycle x.least r)) row) row
