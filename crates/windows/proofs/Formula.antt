@@ -14,7 +14,8 @@ use Rattle.windows.specs.Windows.{start, deadline, bit, window_length}
 use Rattle.windows.specs.Group.{group_deadline}
 use Rattle.windows.specs.LeastTime.{Marks, IsGroupDeadline}
 use Rattle.windows.specs.Formula.{gaps, formula, group_by_formula, FormulaGivesWalk, AnswersByFormula}
-use Rattle.windows.specs.Fits.{CanWalk, products}
+use Rattle.windows.specs.Fits.{Fits, products}
+use Rattle.windows.specs.Next.{reach}
 use Rattle.windows.proofs.Windows.{bit_of_whole, bit_is_0_or_1, bit_zero_divides, whole_has_bit_0, step, deadline_of_whole, window_spans, deadline_between, start_between, deadline_parts, start_parts, due_between}
 use Rattle.windows.proofs.Group.{light_has_none}
 use Rattle.windows.proofs.LeastTime.{walk_gives_least_time}
@@ -225,23 +226,23 @@ module _ (e p o i a lacking : ℕ) (he : 0 < e) (sum : i * p ≡ lacking + a * e
 
 -- for the function
 
-module _ {e p o i : ℕ} (can : CanWalk e p o i) (half : p ≤ 2 * e) {d : ℕ} (due : d ≡ deadline e p o i - o) where
+module _ {e p o i : ℕ} (fits : Fits e p o i) (near : i ≤ reach + 1) (half : p ≤ 2 * e) {d : ℕ} (due : d ≡ deadline e p o i - o) where
   -- p - e is at most e, so d·(p-e) is at most d·e, and that is below (i+1)·p.
   rest_is_near : d * (p - e) < (i + 1) * p
   rest_is_near =
       let few = mul-le-mul_left {m = p - e} {n = e} d (omega arith) in
-      omega (arith, due_between e p o i can.fits.cost d due, can.fits.weight)
+      omega (arith, due_between e p o i fits.cost d due, fits.weight)
 
   -- The products of the formula fit 64 bits: this one,
   pub rest_product_fits : d * (p - e) < products
-  rest_product_fits = omega (arith, rest_is_near, product_fits {n = i + 1} {p = p} (omega (arith, can.near)) can.fits.period)
+  rest_product_fits = omega (arith, rest_is_near, product_fits {n = i + 1} {p = p} (omega (arith, near)) fits.period)
 
   -- and g·p, which is less than p above it.
   pub gaps_product_fits : {g : ℕ} → g ≡ ceil_div (d * (p - e)) p → g * p < products
   gaps_product_fits {g} is =
       let same : g * p ≡ ceil_div (d * (p - e)) p * p = ap (λ x. x * p) is in
-      let rounds = ceil_is_near (d * (p - e)) {b = p} (omega (arith, can.fits.cost, can.fits.weight)) in
-      omega (arith, rest_is_near, product_fits {n = i + 2} {p = p} (omega (arith, can.near)) can.fits.period)
+      let rounds = ceil_is_near (d * (p - e)) {b = p} (omega (arith, fits.cost, fits.weight)) in
+      omega (arith, rest_is_near, product_fits {n = i + 2} {p = p} (omega (arith, near)) fits.period)
 
   -- Past the test of the bit the row is below weight one, and the formula gives its group deadline.
   module _ (one : bit e p i ≡ 0 → ⊥) where
@@ -250,7 +251,7 @@ module _ {e p o i : ℕ} (can : CanWalk e p o i) (half : p ≤ 2 * e) {d : ℕ} 
       where
         go : Dec (e < p) → e < p
         go (yes l) = l
-        go (no l) = absurd (one (whole_has_bit_0 e p i (omega (arith, can.fits.weight))))
+        go (no l) = absurd (one (whole_has_bit_0 e p i (omega (arith, fits.weight))))
 
     pub formula_is : {g slots t : ℕ} → g ≡ ceil_div (d * (p - e)) p → slots ≡ ceil_div (g * p) (p - e) → t ≡ kept (o + slots) → t ≡ group_deadline e p o i
     unfolding group_by_formula formula gaps
@@ -258,7 +259,7 @@ module _ {e p o i : ℕ} (can : CanWalk e p o i) (half : p ≤ 2 * e) {d : ℕ} 
         let near = ceil_is_near (g * p) {b = p - e} (omega (arith, below_one)) in
         let few : slots * 1 ≤ slots * (p - e) = mul-le-mul_left {m = 1} {n = p - e} slots (omega (arith, below_one)) in
         let same : slots * (p - e) ≡ ceil_div (g * p) (p - e) * (p - e) = ap (λ x. x * (p - e)) slots_are in
-        let exact : t ≡ o + slots = omega (arith, gaps_product_fits g_is, can.fits.origin, can.fits.period) in
+        let exact : t ≡ o + slots = omega (arith, gaps_product_fits g_is, fits.origin, fits.period) in
         exact
         ∙ ap (λ x. o + x) (slots_are ∙ ap (λ x. ceil_div (x * p) (p - e)) (g_is ∙ ap (λ x. ceil_div (x * (p - e)) p) due))
-        ∙ formula_gives_walk e p o i can.fits.cost below_one half can.fits.first
+        ∙ formula_gives_walk e p o i fits.cost below_one half fits.first

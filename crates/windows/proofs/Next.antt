@@ -1,18 +1,15 @@
 -- What the answers about a next window mean. Assumes nothing.
 use Rattle.std.specs.Prelude.{Option, Some, None}
-use mathlib.Core.Path.{◌≡◌, ap, ◌∙◌}
+use mathlib.Core.Path.{◌≡◌, refl, sym, ◌∙◌}
 use mathlib.Core.Bool.{Bool, true, false, ◌&&◌}
-use Prim.Native.Nat.{ℕ, ◌+◌, ◌<◌}
-use native.Mathlib.Omega.{arith}
+use Prim.Native.Nat.{ℕ, ◌+◌}
 use borrow.Author.Tests.{ltb-true, leb-true, lt-ltb, le-leb}
 use lib.Dec.{ltb, leb}
 use Rattle.facts.specs.Determined.{Determined}
 use Rattle.facts.proofs.Tests.{both}
 use Rattle.facts.proofs.Determined.{by_value}
-use Rattle.counts.specs.Limits.{kept}
 use Rattle.counts.specs.declared.Slot.{Slot}
 use Rattle.windows.specs.declared.times.Due.{Due}
-use Rattle.windows.specs.Fits.{Fits, CanWalk}
 use Rattle.windows.specs.Windows.{deadline, bit}
 use Rattle.windows.specs.Next.{reach, next_answered, next_due, next}
 use Rattle.windows.specs.Fits.{InReach}
@@ -67,50 +64,36 @@ abbrev pub is_moment : Option Slot → Bool
 is_moment (Some time) = true
 is_moment None = false
 
--- for the functions: i is the number that the code makes of q
-module _ (e p o q i : ℕ) (number : i ≡ kept (q + 1)) (y : next_answered e p o q ≡ true) where
-  in_reach : InReach e p o q
-  in_reach = answered_is_in_reach e p o q y
+-- for the functions
 
-  is_next : i ≡ q + 1
-  is_next = omega (arith, in_reach.quanta)
-
-  -- The helpers can be asked.
-  pub next_fits : p < 65_536 → Fits e p o i
-  next_fits small =
-      let r = in_reach in
-      record {
-        cost = r.cost;
-        weight = r.weight;
-        period = small;
-        origin = r.origin;
-        first = omega (arith, is_next);
-        last = omega (arith, is_next);
-      }
-
-  pub next_can_walk : p < 65_536 → CanWalk e p o i
-  next_can_walk small = record { fits = next_fits small; near = omega (arith, is_next, in_reach.quanta) }
-
-  -- And what they give is the answer.
-  pub answers : (time : ℕ → ℕ → ℕ → ℕ → ℕ) {s : Slot} → s.0 ≡ time e p o i → Some s ≡ next time e p o q
+-- What an answered question gives is the answer: a time of the subtask (e', p', o', i) that the code makes of the question,
+module _ (e p o q : ℕ) {e' p' o' i : ℕ} (y : true ≡ next_answered e p o q) (as_asked : (e' ≡ e) × (p' ≡ p) × (o' ≡ o) × (i ≡ q + 1)) where
+  pub answers : (time : ℕ → ℕ → ℕ → ℕ → ℕ) {s : Slot} → s.0 ≡ time e' p' o' i → next time e p o q ≡ Some s
   unfolding next
-  answers time h = rw y (λ k. Some (record { 0 = (h ∙ ap (time e p o) is_next) k }))
+  answers time h = rw (sym y) (λ k. Some (record { 0 = sym (h ∙ (λ j. time (as_asked.0 j) (as_asked.1 j) (as_asked.2 j) (as_asked.3 j))) k }))
 
-  pub answers_due : {due : Due} → due.deadline.0 ≡ deadline e p o i → due.bit ≡ bit e p i → Some due ≡ next_due e p o q
+  -- or its deadline and bit.
+  pub answers_due : {due : Due} → (due.deadline.0 ≡ deadline e' p' o' i) × (due.bit ≡ bit e' p' i) → next_due e p o q ≡ Some due
   unfolding next_due
-  answers_due h g =
-      rw y
-      (λ k. Some (record { deadline = record { 0 = (h ∙ ap (deadline e p o) is_next) k }; bit = (g ∙ ap (bit e p) is_next) k }))
+  answers_due h =
+      rw (sym y)
+      (λ k.
+      Some (
+      record {
+        deadline = record { 0 = sym (h.0 ∙ (λ j. deadline (as_asked.0 j) (as_asked.1 j) (as_asked.2 j) (as_asked.3 j))) k };
+        bit = sym (h.1 ∙ (λ j. bit (as_asked.0 j) (as_asked.1 j) (as_asked.3 j))) k;
+      }
+      ))
 
 -- A question that is not answered is answered so.
-module _ (e p o q : ℕ) (n : next_answered e p o q ≡ false) where
-  pub answers_not : (time : ℕ → ℕ → ℕ → ℕ → ℕ) → None ≡ next time e p o q
+module _ (e p o q : ℕ) (n : false ≡ next_answered e p o q) where
+  pub answers_not : (time : ℕ → ℕ → ℕ → ℕ → ℕ) → next time e p o q ≡ None
   unfolding next
-  answers_not time = rw n
+  answers_not time = rw (sym n) refl
 
-  pub answers_not_due : None ≡ next_due e p o q
+  pub answers_not_due : next_due e p o q ≡ None
   unfolding next_due
-  answers_not_due = rw n
+  answers_not_due = rw (sym n) refl
 
 -- The promises of the functions give the answer itself, so they determine it.
 pub next_due_is_determined : (e p o q : ℕ) → Determined {R = Option Due} (λ r. r ≡ next_due e p o q)

@@ -6,16 +6,14 @@ use Prim.Native.Nat.{ℕ, ◌≤◌, ◌<◌}
 use native.Mathlib.Nat.{pos_of_ne-zero}
 use native.Mathlib.Decide.{dec_le}
 use native.Mathlib.Omega.{arith}
-use borrow.Author.Tests.{le-ltb, le-leb, ltb-false, leb-true, eqb-false, ne_eqb, not-false}
+use borrow.Author.Tests.{le-ltb, le-leb, ltb-false, leb-true, eqb-false, ne_eqb, not-true, not-false}
 use lib.Dec.{ltb, leb, eqb}
-use Rattle.facts.proofs.Tests.{both, neither_holds, below_is_not}
+use Rattle.facts.proofs.Tests.{both, neither_holds}
 use Rattle.facts.specs.Determined.{Determined, TellsApart}
 use Rattle.facts.proofs.Determined.{by_meaning}
-use Rattle.counts.specs.declared.Slot.{Slot}
 use Rattle.windows.specs.declared.times.Window.{Window}
 use Rattle.windows.specs.Windows.{start, deadline, bit}
 use Rattle.windows.specs.Group.{group_deadline}
-use Rattle.windows.specs.Fits.{CanWalk}
 use Rattle.windows.specs.Question.{reply_of, last_subtask, refused, window_reply, Unfit, IsAnswered, WindowsAreAnswered}
 
 -- Two answers with one reply are one answer.
@@ -32,10 +30,6 @@ window_is_determined e p f i = by_meaning replies_tell_apart
 
 -- for the functions
 
--- the code's test of the last subtask is the definition's
-pub above_last : {n i : ℕ} → n ≡ i → ltb last_subtask n ≡ not (leb i last_subtask)
-above_last {n} {i} same = ap (ltb last_subtask) same ∙ below_is_not last_subtask i
-
 -- What an accepted question says of its numbers.
 pub not_refused : (e p i : ℕ) → refused e p i ≡ false → (0 < e) × (e ≤ p) × (1 ≤ i) × (i ≤ last_subtask)
 not_refused e p i h =
@@ -44,27 +38,10 @@ not_refused e p i h =
     let range = both (leb 1 i) (leb i last_subtask) (not-false _ number.1) in
     (pos_of_ne-zero (eqb-false e 0 row.0), ltb-false p e row.1, leb-true 1 i range.0, leb-true i last_subtask range.1)
 
--- So its group deadline can be asked for; o is the origin that the code makes of the phase.
-pub accepted_can_walk : (e p f i : ℕ) → refused e p i ≡ false → p < 65_536 → f < 65_536 → {o : ℕ} → o ≡ f → CanWalk e p o i
-accepted_can_walk e p f i h period phase same =
-    let in_range = not_refused e p i h in
-    record {
-      fits =
-          record {
-            cost = in_range.0;
-            weight = in_range.1;
-            period = period;
-            origin = omega arith;
-            first = in_range.2;
-            last = omega arith;
-          };
-      near = omega arith;
-    }
-
 -- A refused question gets the refused reply.
-pub is_refused : (e p f i : ℕ) → refused e p i ≡ true → reply_of None ≡ window_reply e p f i
+pub is_refused : (e p f i : ℕ) → false ≡ not (refused e p i) → window_reply e p f i ≡ reply_of None
 unfolding window_reply
-is_refused e p f i h = rw h
+is_refused e p f i h = rw (not-false _ (sym h)) refl
 
 -- One that is not refused gets the window:
 accepted_is_answered : (e p f i : ℕ) → refused e p i ≡ false →
@@ -72,36 +49,21 @@ accepted_is_answered : (e p f i : ℕ) → refused e p i ≡ false →
 unfolding window_reply
 accepted_is_answered e p f i h = rw h
 
--- what the code found.
-pub is_taken : (e p f i : ℕ) → refused e p i ≡ false → {o : ℕ} → o ≡ f → {w : Window} →
-    w.start.0 ≡ start e p o i → w.deadline.0 ≡ deadline e p o i → w.bit ≡ bit e p i → w.group.0 ≡ group_deadline e p o i →
+-- what the code found of the subtask (e', p', o, i') that it makes of the question.
+pub is_taken : (e p f i : ℕ) {e' p' o i' : ℕ} → true ≡ not (refused e p i) → (e' ≡ e) × (p' ≡ p) × (o ≡ f) × (i' ≡ i) → {w : Window} →
+    w.start.0 ≡ start e' p' o i' → w.deadline.0 ≡ deadline e' p' o i' → w.bit ≡ bit e' p' i' → w.group.0 ≡ group_deadline e' p' o i' →
     reply_of (Some w) ≡ window_reply e p f i
-is_taken e p f i h same pr pd pb p_d =
-    let r = pr ∙ ap (λ x. start e p x i) same in
-    let d = pd ∙ ap (λ x. deadline e p x i) same in
-    let D = p_d ∙ ap (λ x. group_deadline e p x i) same in
-    (λ k. record { number = 0; r = r k; d = d k; b = pb k; D = D k }) ∙ sym (accepted_is_answered e p f i h)
-
--- One that gets a window is not refused,
-pub window_is_accepted : (e p f i : ℕ) {w : Window} → reply_of (Some w) ≡ window_reply e p f i → refused e p i ≡ false
-window_is_accepted e p f i q = go (refused e p i) refl
-  where
-    go : (x : Bool) → refused e p i ≡ x → refused e p i ≡ false
-    go true h = let z : ◌≡◌ {A = ℕ} 0 50 = ap (λ reply. reply.number) (q ∙ sym (is_refused e p f i h)) in absurd (omega arith)
-    go false h = h
-
--- and the window stays the same with the group deadline found once more.
-pub found_once_more : (e p f i : ℕ) {w : Window} → reply_of (Some w) ≡ window_reply e p f i →
-    {o : ℕ} → o ≡ f → {again : Slot} → again.0 ≡ group_deadline e p o i →
-    reply_of (Some (record { start = w.start; deadline = w.deadline; bit = w.bit; group = again })) ≡ window_reply e p f i
-found_once_more e p f i q same is =
-    let accepted = window_is_accepted e p f i q in
-    let whole = q ∙ accepted_is_answered e p f i accepted in
-    is_taken e p f i accepted refl
-    (ap (λ reply. reply.r) whole)
-    (ap (λ reply. reply.d) whole)
-    (ap (λ reply. reply.b) whole)
-    (is ∙ ap (λ x. group_deadline e p x i) same)
+is_taken e p f i y same r d b D =
+    (λ k.
+    record {
+      number = 0;
+      r = (r ∙ (λ j. start (same.0 j) (same.1 j) (same.2 j) (same.3 j))) k;
+      d = (d ∙ (λ j. deadline (same.0 j) (same.1 j) (same.2 j) (same.3 j))) k;
+      b = (b ∙ (λ j. bit (same.0 j) (same.1 j) (same.3 j))) k;
+      D = (D ∙ (λ j. group_deadline (same.0 j) (same.1 j) (same.2 j) (same.3 j))) k;
+    }
+    )
+    ∙ sym (accepted_is_answered e p f i (not-true _ (sym y)))
 
 -- What a refused question says of its numbers.
 unfit_if_refused : (e p i : ℕ) → refused e p i ≡ true → Unfit e p i

@@ -25,8 +25,3 @@ pub record Fits (e p o i : ℕ) : Type 0 where
   pub origin : o ≤ reach
   pub first : 0 < i
   pub last : i ≤ furthest
-
--- A subtask within reach: a walk can begin there, and the products of the formula fit.
-pub record CanWalk (e p o i : ℕ) : Type 0 where
-  pub fits : Fits e p o i
-  pub near : i ≤ reach + 1

@@ -1,10 +1,10 @@
 use mathlib.Core.Path.{ap, ◌∙◌}
 use Prim.Native.Nat.{◌*◌}
 use Rattle.windows.proofs.Fits.{start_is}
-use Rattle.windows.proofs.window_start.Goals as goal
+use Rattle.windows.proofs.row_subtask.RowSubtask.start.Goals as goal
 
 pub returns : goal.returns
 returns c =
     let quanta = c.count.ensures ∙ c.quanta_before.ensures in
     let product = c.product-whole.ensures in
-    start_is c.requires product.1 (product.0 ∙ ap (λ n. n * c.args.p) quanta) c.later.ensures
+    start_is c.args.self.fits product.1 (product.0 ∙ ap (λ n. n * c.args.self.period) quanta) c.later.ensures

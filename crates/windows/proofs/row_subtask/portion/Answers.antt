@@ -1,6 +1,6 @@
 use native.Mathlib.Omega.{arith}
 use Rattle.facts.proofs.Rounding.{ceil_by_quotient}
-use Rattle.windows.proofs.portion.Goals as goal
+use Rattle.windows.proofs.row_subtask.portion.Goals as goal
 
 pub overflow_mul-result : goal.overflow_mul-result
 overflow_mul-result c = omega (arith, c.requires.0)
