@@ -13,9 +13,10 @@ use Rattle.why.specs.declared.Rule.{Rule}
 use Rattle.why.specs.declared.Rule.TheVariants as rule
 use Rattle.why.specs.declared.Answer.TheVariants as why
 use Rattle.why.specs.Answer.{rule_place, told, told_of}
-use Rattle.checker.specs.declared.TableFault.{TableFault}
-use Rattle.checker.specs.declared.TableFault.TheVariants as fault
-use Rattle.checker.specs.declared.Answer.TheVariants as check
+use Rattle.table.specs.declared.faults.Fault.{Fault}
+use Rattle.table.specs.declared.faults.Fault.TheVariants as fault
+use Rattle.table.specs.Reply.{fault_number}
+use Rattle.checker.specs.declared.Finding.TheVariants as check
 use Rattle.checker.specs.Answer as checked
 use Rattle.printer.specs.declared.Printed.TheVariants.{Text, TooShort}
 use Rattle.printer.specs.Buffer.{length_of}
@@ -60,33 +61,33 @@ pub record WhyCases : Type 0 where
 
 -- a check: the table's refusals,
 pub record TableCases : Type 0 where
-  pub ends : checked.fault_number fault.Ends ≡ 10
-  pub format : checked.fault_number fault.Format ≡ 11
-  pub cycle : checked.fault_number fault.Cycle ≡ 12
-  pub cores : checked.fault_number fault.Cores ≡ 13
-  pub boards : checked.fault_number fault.Boards ≡ 14
-  pub row_count : checked.fault_number fault.RowCount ≡ 15
-  pub tanks : checked.fault_number fault.Tanks ≡ 16
-  pub cost : checked.fault_number fault.Cost ≡ 17
-  pub weight : checked.fault_number fault.Weight ≡ 18
-  pub period : checked.fault_number fault.Period ≡ 19
-  pub kind : checked.fault_number fault.Kind ≡ 20
-  pub after : checked.fault_number fault.After ≡ 21
-  pub sum : checked.fault_number fault.Sum ≡ 22
+  pub ends : fault_number fault.Ends ≡ 10
+  pub format : fault_number fault.Format ≡ 11
+  pub cycle : fault_number fault.Cycle ≡ 12
+  pub cores : fault_number fault.Cores ≡ 13
+  pub boards : fault_number fault.Boards ≡ 14
+  pub row_count : fault_number fault.RowCount ≡ 15
+  pub tanks : fault_number fault.Tanks ≡ 16
+  pub cost : fault_number fault.Cost ≡ 17
+  pub weight : fault_number fault.Weight ≡ 18
+  pub period : fault_number fault.Period ≡ 19
+  pub kind : fault_number fault.Kind ≡ 20
+  pub after : fault_number fault.After ≡ 21
+  pub sum : fault_number fault.Sum ≡ 22
 
 -- and the trace's: "(row, slot)", "(row, time)"
 pub record CheckCases : Type 0 where
-  pub passed : checked.said_of check.Passed ≡ bare 0
+  pub passed : checked.said_of (Ok tt) ≡ bare 0
   pub table : TableCases
-  pub refused : (f : TableFault) → checked.said_of (check.Table f) ≡ bare (checked.fault_number f)
-  pub cut : checked.said_of check.Cut ≡ bare 40
-  pub too_many_cores : checked.said_of check.TooManyCores ≡ bare 41
-  pub too_many_rows : checked.said_of check.TooManyRows ≡ bare 42
-  pub bad_row : checked.said_of check.BadRow ≡ bare 43
-  pub early : (row : ℕ) (slot : Slot) → checked.said_of (check.Early row slot) ≡ named 44 row slot.0
-  pub late : (row : ℕ) (time : Slot) → checked.said_of (check.Late row time) ≡ named 45 row time.0
-  pub extra : checked.said_of check.Extra ≡ bare 46
-  pub too_long : checked.said_of check.TooLong ≡ bare 47
+  pub refused : (f : Fault) → checked.said_of (Err (check.Table f)) ≡ bare (fault_number f)
+  pub cut : checked.said_of (Err check.Cut) ≡ bare 40
+  pub too_many_cores : checked.said_of (Err check.TooManyCores) ≡ bare 41
+  pub too_many_rows : checked.said_of (Err check.TooManyRows) ≡ bare 42
+  pub bad_row : checked.said_of (Err check.BadRow) ≡ bare 43
+  pub early : (row : ℕ) (slot : Slot) → checked.said_of (Err (check.Early row slot)) ≡ named 44 row slot.0
+  pub late : (row : ℕ) (time : Slot) → checked.said_of (Err (check.Late row time)) ≡ named 45 row time.0
+  pub extra : checked.said_of (Err check.Extra) ≡ bare 46
+  pub too_long : checked.said_of (Err check.TooLong) ≡ bare 47
 
 -- and those of our own that are no answers of 01: what is said of one row, and how long a text is. (The cases of `Due` and `Moment` stand in `next_is` of demand 1.)
 pub record OwnCases : Type 0 where

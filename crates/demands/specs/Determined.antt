@@ -6,16 +6,17 @@ use Rattle.counts.specs.declared.Quanta.{Quanta}
 use Rattle.counts.specs.declared.Subtask.{Subtask}
 use Rattle.table.specs.declared.Row.{Row}
 use Rattle.table.specs.declared.Table.{Table}
-use Rattle.table.specs.declared.Writing.{Writing}
+use Rattle.table.specs.declared.faults.Fault.{Fault}
+use Rattle.table.specs.declared.faults.Unwritten.{Unwritten}
 use Rattle.trace.specs.declared.NoRoom.{NoRoom}
 use Rattle.cores.specs.declared.Placement.{Placement}
 use Rattle.dispatcher.specs.declared.State.{State}
 use Rattle.dispatcher.specs.declared.Answer.{Answer}
 use Rattle.dispatcher.specs.declared.Outcome.{Outcome}
 use Rattle.why.specs.declared.Answer.{Answer as WhyAnswer}
-use Rattle.checker.specs.declared.Answer.{Answer as Checked}
+use Rattle.checker.specs.declared.Finding.{Finding}
 use Rattle.printer.specs.declared.Printed.{Printed}
-use Rattle.demands.specs.Promises.{counts·Slot·at, counts·Slot·time, counts·Slot·later, counts·Slot·before, counts·Slot·since, counts·Quanta·of, counts·Quanta·count, counts·Quanta·one_more, counts·Quanta·next_subtask, counts·Subtask·numbered, counts·Subtask·number, counts·Subtask·next, counts·Subtask·quanta_before, fields·byte, fields·half, fields·word, fields·long, fields·put, windows·window, windows·window_by_walk, windows·next_due, windows·next_start, windows·next_job_start, windows·next_group_deadline, table·read, table·fault, table·write, pd2·is_yes, pd2·origin, pd2·ready, pd2·late, pd2·within, pd2·give, pd2·lowest_late, trace·write, trace·record, trace·begins, trace·length_inside, trace·shape, trace·raise, summary·quanta_before, choice·picks, choice·first_left, cores·Placement·nobody, cores·Placement·is_faulty, cores·Placement·ran, cores·how_many, cores·names_past, cores·first, cores·place, dispatcher·Answer·told, dispatcher·State·fresh, dispatcher·State·is_broken, dispatcher·State·favoured, dispatcher·State·slot, dispatcher·State·refusal, why·Answer·told, why·of_row, checker·check, checker·number, values·row, values·rows, values·quanta, values·table, values·state, values·put_quanta, values·put_table, values·put_placement, values·put_state, firmware·zb_table_check, firmware·zb_trace_check, printer·Printed·length, printer·print, slots_run·zb_slots, desk_run·zb_run, desk_run·zb_judge}
+use Rattle.demands.specs.Promises.{counts·Slot·at, counts·Slot·time, counts·Slot·later, counts·Slot·before, counts·Slot·since, counts·Quanta·of, counts·Quanta·count, counts·Quanta·one_more, counts·Quanta·next_subtask, counts·Subtask·numbered, counts·Subtask·number, counts·Subtask·next, counts·Subtask·quanta_before, fields·byte, fields·half, fields·word, fields·long, fields·put, windows·window, windows·window_by_walk, windows·next_due, windows·next_start, windows·next_job_start, windows·next_group_deadline, table·Fault·number, table·read, table·fault, table·write, pd2·is_yes, pd2·origin, pd2·ready, pd2·late, pd2·within, pd2·give, pd2·lowest_late, trace·write, trace·record, trace·begins, trace·length_inside, trace·shape, trace·raise, summary·quanta_before, choice·picks, choice·first_left, cores·Placement·nobody, cores·Placement·is_faulty, cores·Placement·ran, cores·how_many, cores·names_past, cores·first, cores·place, dispatcher·Answer·told, dispatcher·State·fresh, dispatcher·State·is_broken, dispatcher·State·favoured, dispatcher·State·slot, dispatcher·State·refusal, why·Answer·told, why·of_row, checker·check, checker·number, values·row, values·rows, values·quanta, values·table, values·state, values·put_quanta, values·put_table, values·put_placement, values·put_state, firmware·zb_table_check, firmware·zb_trace_check, printer·Printed·length, printer·print, slots_run·zb_slots, desk_run·zb_run, desk_run·zb_judge}
 
 pub record EveryPromiseDetermines : Type 0 where
   pub counts_slot_at : (time : ℕ) → Determined (counts·Slot·at time)
@@ -42,9 +43,10 @@ pub record EveryPromiseDetermines : Type 0 where
   pub windows_next_start : (e p : ℕ) (origin : Slot) (given : Quanta) → Determined (windows·next_start e p origin given)
   pub windows_next_job_start : (e p : ℕ) (origin : Slot) (given : Quanta) → Determined (windows·next_job_start e p origin given)
   pub windows_next_group_deadline : (e p : ℕ) (origin : Slot) (given : Quanta) → Determined (windows·next_group_deadline e p origin given)
+  pub table_fault_number : (self : Fault) → Determined (table·Fault·number self)
   pub table_read : (bytes : List ℕ) → Determined (table·read bytes)
   pub table_fault : (table : Table) → Determined (table·fault table)
-  pub table_write : (table : Table) (buffer : List ℕ) → Determined {R = Writing × List ℕ} (λ r. table·write table buffer r.0 r.1)
+  pub table_write : (table : Table) (buffer : List ℕ) → Determined {R = Result ℕ Unwritten × List ℕ} (λ r. table·write table buffer r.0 r.1)
   pub pd2_is_yes : (verdict : Option Bool) → Determined (pd2·is_yes verdict)
   pub pd2_origin : (row : Row) → Determined (pd2·origin row)
   pub pd2_ready : (row : Row) (given : Quanta) (slot : Slot) → Determined (pd2·ready row given slot)
@@ -77,7 +79,7 @@ pub record EveryPromiseDetermines : Type 0 where
   pub why_answer_told : (self : WhyAnswer) → Determined (why·Answer·told self)
   pub why_of_row : (state : State) (k row : ℕ) → Determined (why·of_row state k row)
   pub checker_check : (table trace : List ℕ) → Determined (checker·check table trace)
-  pub checker_number : (answer : Checked) → Determined (checker·number answer)
+  pub checker_number : (answer : Result (Unit {0}) Finding) → Determined (checker·number answer)
   pub values_row : (bytes : List ℕ) → Determined (values·row bytes)
   pub values_rows : (bytes : List ℕ) → Determined (values·rows bytes)
   pub values_quanta : (bytes : List ℕ) → Determined (values·quanta bytes)

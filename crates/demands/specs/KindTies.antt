@@ -1,11 +1,11 @@
 -- "Format 2 breaks ties kindly" (02, Eight): "Tables of format 2 keep the bytes of format 1 but end PD2's order differently: among full ties, a row picked in the
 -- previous slot goes first, then the lower row number." That the picks, demand 3 and never late hold in both formats is said where they are stated:
 -- of any table, whatever its format.
-use Rattle.std.specs.Prelude.{ℕ, ◌+◌, ◌<◌, ◌≡◌, List, [], ◌∷◌, map, Bool, true, false, not, ◌↔◌, ltb, length, get_or, replicate}
+use Rattle.std.specs.Prelude.{ℕ, ◌+◌, ◌<◌, ◌≡◌, List, [], ◌∷◌, map, Bool, true, false, not, ◌↔◌, ltb, length, get_or, replicate, Result}
 use Rattle.facts.specs.Counting.{how_many}
 use Rattle.facts.specs.Places.{places}
 use Rattle.table.specs.declared.Table.{Table}
-use Rattle.table.specs.declared.Reading.{Reading}
+use Rattle.table.specs.declared.faults.Fault.{Fault}
 use Rattle.table.specs.Bytes.{format_in}
 use Rattle.table.specs.Formats.{in_format, KeepsTheBytes}
 use Rattle.pd2.specs.Order.{FullTie}
@@ -26,7 +26,7 @@ use Rattle.why.specs.Reasons.{is_ready, rank_in, goes_before}
 use Rattle.demands.specs.LawInputs.{remembering}
 use Rattle.demands.specs.KindLaws.{four_halves}
 use Rattle.demands.specs.Inputs.{Bytes, Possible, CanAsk, CanWrite}
-use Rattle.demands.specs.ShutOut.{Dispatcher, IsDispatcher, number_of, rows_written, Explainer, IsExplainer, IsReader, IsTableCheck, Writer, IsWriter}
+use Rattle.demands.specs.ShutOut.{Dispatcher, IsDispatcher, number_of, rows_written, Explainer, IsExplainer, IsReader, number_read, IsTableCheck, Writer, IsWriter}
 
 -- In format 1 the order is 01's, to the letter, and nobody's having run has a part in the picks.
 pub record IsIn01 (s : State) : Type 0 where
@@ -128,8 +128,8 @@ abbrev pub NeverSaysRan : Explainer → Type 0
 NeverSaysRan explain = (s : State) (k row by : ℕ) → CanAsk s k row → explain s k row ≡ PassedOver by RanBefore → ⊥
 
 pub record KindShutOut : Type 0 where
-  pub takes_no_format_2 : (read : List ℕ → Reading) → IsReader read → TakesNoFormat2 (λ bytes. (read bytes).number) → ⊥
-  pub takes_any_format : (read : List ℕ → Reading) → IsReader read → TakesAnyFormat (λ bytes. (read bytes).number) → ⊥
+  pub takes_no_format_2 : (read : List ℕ → Result Table Fault) → IsReader read → TakesNoFormat2 (number_read read) → ⊥
+  pub takes_any_format : (read : List ℕ → Result Table Fault) → IsReader read → TakesAnyFormat (number_read read) → ⊥
   pub board_takes_no_format_2 : (check : List ℕ → ℕ) → IsTableCheck check → TakesNoFormat2 check → ⊥
   pub board_takes_any_format : (check : List ℕ → ℕ) → IsTableCheck check → TakesAnyFormat check → ⊥
   pub writes_format_1 : (write : Writer) → IsWriter write → WritesFormat1 write → ⊥

@@ -2,7 +2,7 @@
 -- stays. Keep the walk's definition as the text people read."
 use Rattle.std.specs.Prelude.{ℕ, ◌≡◌, Option}
 use Rattle.counts.specs.declared.Subtask.{Subtask}
-use Rattle.windows.specs.declared.Bounds.{Bounds}
+use Rattle.windows.specs.declared.times.Window.{Window}
 use Rattle.windows.specs.Question.{window_reply}
 use Rattle.windows.specs.Formula.{FormulaGivesWalk, AnswersByFormula}
 use Rattle.demands.specs.Promises.{windows·window, windows·window_by_walk}
@@ -10,7 +10,7 @@ use Rattle.demands.specs.Promises.{windows·window, windows·window_by_walk}
 -- "What the answer promises stays": who keeps the promise of `window`, and who keeps that of `window_by_walk`, give one answer.
 abbrev pub OneAnswer : Type 0
 OneAnswer =
-    (e p f : ℕ) (i : Subtask) (found walked : Option Bounds) → windows·window e p f i found → windows·window_by_walk e p f i walked → found ≡ walked
+    (e p f : ℕ) (i : Subtask) (found walked : Option Window) → windows·window e p f i found → windows·window_by_walk e p f i walked → found ≡ walked
 
 pub record LongWalk : Type 0 where
   -- "D is f + ceil(g·p/(p-e)) where g = ceil(d·(p-e)/p)": of every heavy row below weight one that is what the walk gives,

@@ -10,16 +10,17 @@ use Rattle.counts.specs.declared.Subtask.{Subtask}
 use Rattle.counts.specs.Limits.{kept}
 use Rattle.counts.specs.Numbers.{numbers_of}
 use Rattle.fields.specs.Fields.{byte, half, word, bytes_of, number_at}
-use Rattle.windows.specs.declared.Bounds.{Bounds}
-use Rattle.windows.specs.declared.Due.{Due}
+use Rattle.windows.specs.declared.times.Window.{Window}
+use Rattle.windows.specs.declared.times.Due.{Due}
 use Rattle.windows.specs.Windows.{start, job_start}
 use Rattle.windows.specs.Group.{group_deadline}
 use Rattle.windows.specs.Question.{reply_of, window_reply}
 use Rattle.windows.specs.Next.{next_due, next}
 use Rattle.table.specs.declared.Row.{Row}
 use Rattle.table.specs.declared.Table.{Table}
-use Rattle.table.specs.declared.Reading.{Reading}
-use Rattle.table.specs.declared.Writing.{Writing}
+use Rattle.table.specs.declared.faults.Fault.{Fault}
+use Rattle.table.specs.declared.faults.Unwritten.{Unwritten}
+use Rattle.table.specs.Reply.{fault_number, reply_of as table_reply_of, fault_said, written_of}
 use Rattle.table.specs.Bytes.{table_number, reading, row_in_bytes}
 use Rattle.table.specs.Value.{fault_of}
 use Rattle.table.specs.Writing.{writing, buffer_after}
@@ -36,7 +37,7 @@ use Rattle.trace.specs.Shaped.{shaped_of, shape_of}
 use Rattle.trace.specs.Raising.{raised}
 use Rattle.trace.specs.Record.{record_of, marked, stored_number, write_number, part_after}
 use Rattle.trace.specs.Found.{part_found, part_begins}
-use Rattle.summary.specs.declared.Counted.{Counted}
+use Rattle.summary.specs.declared.Unanswered.{Unanswered}
 use Rattle.summary.specs.Counted.{reply_of as quanta_reply_of}
 use Rattle.summary.specs.Question.{reply_to}
 use Rattle.choice.specs.Choice.{favours_marked, chosen}
@@ -59,7 +60,7 @@ use Rattle.why.specs.declared.Answer.{Answer as WhyAnswer}
 use Rattle.why.specs.declared.Told.{Told as ToldWhy}
 use Rattle.why.specs.Answer.{told_of}
 use Rattle.why.specs.Why.{why_of}
-use Rattle.checker.specs.declared.Answer.{Answer as Checked}
+use Rattle.checker.specs.declared.Finding.{Finding}
 use Rattle.checker.specs.Answer as checked
 use Rattle.checker.specs.Check.{check_of}
 use Rattle.values.specs.Values.{rows_in_bytes, quanta_in_bytes, value_in_bytes, state_in_bytes, bytes_of_quanta, bytes_of_value, bytes_of_placement, bytes_of_state}
@@ -144,11 +145,11 @@ abbrev pub fields·put : List ℕ → ℕ → ℕ → ℕ → ℕ → List ℕ �
 fields·put s at width number r s_new = (r ≡ min width (length s - at)) × (s_new ≡ sets s at (bytes_of width number))
 
 -- windows::window
-abbrev pub windows·window : ℕ → ℕ → ℕ → Subtask → Option Bounds → Type 0
+abbrev pub windows·window : ℕ → ℕ → ℕ → Subtask → Option Window → Type 0
 windows·window e p f i r = reply_of r ≡ window_reply e p f i.0
 
 -- windows::window_by_walk
-abbrev pub windows·window_by_walk : ℕ → ℕ → ℕ → Subtask → Option Bounds → Type 0
+abbrev pub windows·window_by_walk : ℕ → ℕ → ℕ → Subtask → Option Window → Type 0
 windows·window_by_walk e p f i r = reply_of r ≡ window_reply e p f i.0
 
 -- windows::next_due
@@ -167,17 +168,21 @@ windows·next_job_start e p origin given r = r ≡ next job_start e p origin.0 g
 abbrev pub windows·next_group_deadline : ℕ → ℕ → Slot → Quanta → Option Slot → Type 0
 windows·next_group_deadline e p origin given r = r ≡ next group_deadline e p origin.0 given.0
 
+-- table::Fault::number
+abbrev pub table·Fault·number : Fault → ℕ → Type 0
+table·Fault·number self r = r ≡ fault_number self
+
 -- table::read
-abbrev pub table·read : List ℕ → Reading → Type 0
-table·read bytes r = r ≡ reading bytes
+abbrev pub table·read : List ℕ → Result Table Fault → Type 0
+table·read bytes r = table_reply_of r ≡ reading bytes
 
 -- table::fault
-abbrev pub table·fault : Table → ℕ → Type 0
-table·fault table r = r ≡ fault_of table
+abbrev pub table·fault : Table → Option Fault → Type 0
+table·fault table r = fault_said r ≡ fault_of table
 
 -- table::write
-abbrev pub table·write : Table → List ℕ → Writing → List ℕ → Type 0
-table·write table buffer r buffer_new = (r ≡ writing table buffer) × (buffer_new ≡ buffer_after table buffer)
+abbrev pub table·write : Table → List ℕ → Result ℕ Unwritten → List ℕ → Type 0
+table·write table buffer r buffer_new = (written_of r ≡ writing table buffer) × (buffer_new ≡ buffer_after table buffer)
 
 -- pd2::is_yes
 abbrev pub pd2·is_yes : Option Bool → Bool → Type 0
@@ -232,7 +237,7 @@ abbrev pub trace·raise : List ℕ → ℕ → List ℕ → List ℕ → Type 0
 trace·raise trace place counts counts_new = counts_new ≡ raised (rows_at trace place) 0 counts
 
 -- summary::quanta_before
-abbrev pub summary·quanta_before : ℕ → List ℕ → List ℕ → ℕ → Slot → Counted → Type 0
+abbrev pub summary·quanta_before : ℕ → List ℕ → List ℕ → ℕ → Slot → Result Quanta Unanswered → Type 0
 summary·quanta_before n trace summary row time r = quanta_reply_of r ≡ reply_to n trace summary row time.0
 
 -- choice::picks
@@ -309,11 +314,11 @@ abbrev pub why·of_row : State → ℕ → ℕ → WhyAnswer → Type 0
 why·of_row state k row r = r ≡ why_of state k row
 
 -- checker::check
-abbrev pub checker·check : List ℕ → List ℕ → Checked → Type 0
+abbrev pub checker·check : List ℕ → List ℕ → Result (Unit {0}) Finding → Type 0
 checker·check table trace r = checked.said_of r ≡ check_of table trace
 
 -- checker::number
-abbrev pub checker·number : Checked → ℕ → Type 0
+abbrev pub checker·number : Result (Unit {0}) Finding → ℕ → Type 0
 checker·number answer r = r ≡ (checked.said_of answer).number
 
 -- values::row

@@ -8,7 +8,7 @@ use Rattle.windows.specs.Question.{last_subtask, window_reply, reply_of}
 use Rattle.dispatcher.specs.declared.State.{State}
 use Rattle.dispatcher.specs.State.{time_of}
 use Rattle.why.specs.Answer as why
-use Rattle.checker.specs.declared.Answer.{Answer as Checked}
+use Rattle.checker.specs.declared.Finding.{Finding}
 use Rattle.checker.specs.Causes.{slot_limit}
 use Rattle.demands.specs.Inputs.{Bytes, CanAskWindow, Possible, CanAsk}
 use Rattle.demands.specs.ShutOut.{Dispatcher, IsDispatcher, number_of, Explainer, IsExplainer, Answerer, IsAnswerer, IsChecker, number_checked, IsTraceCheck}
@@ -66,5 +66,5 @@ pub record ShorterSlots : Type 0 where
   pub reasons_never_end : (explain : Explainer) → IsExplainer explain → ReasonsNeverEnd explain → ⊥
   pub last_is_refused : (window : Answerer) → IsAnswerer window → LastIsRefused window → ⊥
   pub no_last_subtask : (window : Answerer) → IsAnswerer window → NoLastSubtask window → ⊥
-  pub takes_any_count : (check : List ℕ → List ℕ → Checked) → IsChecker check → TakesAnyCount (number_checked check) → ⊥
+  pub takes_any_count : (check : List ℕ → List ℕ → Result (Unit {0}) Finding) → IsChecker check → TakesAnyCount (number_checked check) → ⊥
   pub board_takes_any_count : (check : List ℕ → List ℕ → ℕ) → IsTraceCheck check → TakesAnyCount check → ⊥

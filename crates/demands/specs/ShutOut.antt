@@ -1,16 +1,17 @@
 -- What must be shut out (01, "What the statements must say"): no function that keeps the promise is so. A function is asked to keep its promise, and is
 -- said to be wrong, only on what it can be called with (specs/Inputs.antt): so one that is wrong on all of that is shut out, whatever it does elsewhere.
 -- (Those that mistake a limit stand in specs/ShorterSlots.antt.)
-use Rattle.std.specs.Prelude.{ℕ, ◌+◌, ◌-◌, ◌*◌, ◌/◌, ◌≤◌, ◌<◌, ◌≡◌, List, [], Bool, true, false, cond, ◌&&◌, length, get_or, take, Option}
+use Rattle.std.specs.Prelude.{ℕ, ◌+◌, ◌-◌, ◌*◌, ◌/◌, ◌≤◌, ◌<◌, ◌≡◌, List, [], Bool, true, false, cond, ◌&&◌, length, get_or, take, Unit, Option, Result}
 use Rattle.facts.specs.Counting.{some}
 use Rattle.counts.specs.declared.Slot.{Slot}
 use Rattle.counts.specs.declared.Subtask.{Subtask}
-use Rattle.windows.specs.declared.Bounds.{Bounds}
+use Rattle.windows.specs.declared.times.Window.{Window}
 use Rattle.windows.specs.Question.{Reply, reply_of}
 use Rattle.windows.specs.Formula.{formula}
 use Rattle.table.specs.declared.Table.{Table}
-use Rattle.table.specs.declared.Reading.{Reading}
-use Rattle.table.specs.declared.Writing.{Writing}
+use Rattle.table.specs.declared.faults.Fault.{Fault}
+use Rattle.table.specs.declared.faults.Unwritten.{Unwritten}
+use Rattle.table.specs.Reply.{Writing, reply_of as table_reply_of, written_of}
 use Rattle.table.specs.Value.{rows_of}
 use Rattle.table.specs.Bytes.{table_number, table_in}
 use Rattle.table.specs.Written.{bytes_needed}
@@ -29,14 +30,18 @@ use Rattle.why.specs.declared.Answer.{Answer as WhyAnswer}
 use Rattle.why.specs.declared.Answer.TheVariants.{Picked, NotReady, PassedOver}
 use Rattle.why.specs.Reasons.{goes_before}
 use Rattle.why.specs.Answer as why
-use Rattle.checker.specs.declared.Answer.{Answer as Checked}
+use Rattle.checker.specs.declared.Finding.{Finding}
 use Rattle.checker.specs.Answer as checked
 use Rattle.demands.specs.Promises.{windows·window, table·read, table·write, dispatcher·State·slot, why·of_row, checker·check, firmware·zb_table_check, firmware·zb_trace_check}
 use Rattle.demands.specs.Inputs.{Bytes, CanAskWindow, Possible, CanAsk, CanWrite}
 
 -- A reader keeps the promise of `read`, and the board's table check that of `zb_table_check`.
-abbrev pub IsReader : (List ℕ → Reading) → Type 0
+abbrev pub IsReader : (List ℕ → Result Table Fault) → Type 0
 IsReader read = (bytes : List ℕ) → Bytes bytes → table·read bytes (read bytes)
+
+-- the number that a reader answers
+abbrev pub number_read : (List ℕ → Result Table Fault) → List ℕ → ℕ
+number_read read bytes = (table_reply_of (read bytes)).number
 
 abbrev pub IsTableCheck : (List ℕ → ℕ) → Type 0
 IsTableCheck check = (bytes : List ℕ) → Bytes bytes → firmware·zb_table_check bytes (check bytes)
@@ -173,7 +178,7 @@ pub record ShutOutOfWhy (explain : Explainer) : Type 0 where
 -- one half (02, Three). Of heavy rows below weight one (02, Four) so are one that puts d into the formula as it is, not counted from the phase, one that rounds the formula's
 -- divisions down, and one whose walk stops at the window of i itself if that is 3 slots long. Where e = p (02, Six), so are one that refuses, and one that answers D 0.
 abbrev pub Answerer : Type 0
-Answerer = ℕ → ℕ → ℕ → Subtask → Option Bounds
+Answerer = ℕ → ℕ → ℕ → Subtask → Option Window
 
 abbrev pub IsAnswerer : Answerer → Type 0
 IsAnswerer window = (e p f : ℕ) (i : Subtask) → CanAskWindow e p f i → windows·window e p f i (window e p f i)
@@ -213,29 +218,33 @@ pub record ShutOutOfWindow (window : Answerer) : Type 0 where
 -- writes wherever there is room, one that says 0 and leaves the buffer as it was, one that fills the buffer past the bytes with 0, one that asks for a byte more than is
 -- needed, and one that says with 37 how many bytes it would have written.
 abbrev pub Writer : Type 0
-Writer = Table → List ℕ → Writing × List ℕ
+Writer = Table → List ℕ → Result ℕ Unwritten × List ℕ
 
 abbrev pub IsWriter : Writer → Type 0
 IsWriter write = (t : Table) (buffer : List ℕ) → CanWrite t buffer → table·write t buffer (write t buffer).0 (write t buffer).1
 
+-- what a writer says, and how many bytes it says are written
+abbrev pub said_written : Writer → Table → List ℕ → Writing
+said_written write t buffer = written_of (write t buffer).0
+
 abbrev pub WritesNoTable : Writer → Type 0
-WritesNoTable write = (t : Table) (buffer : List ℕ) → CanWrite t buffer → (write t buffer).0.number ≡ 0 → ⊥
+WritesNoTable write = (t : Table) (buffer : List ℕ) → CanWrite t buffer → (said_written write t buffer).number ≡ 0 → ⊥
 
 abbrev pub JudgesNothing : Writer → Type 0
-JudgesNothing write = (t : Table) (buffer : List ℕ) → CanWrite t buffer → bytes_needed t ≤ length buffer → (write t buffer).0.number ≡ 0
+JudgesNothing write = (t : Table) (buffer : List ℕ) → CanWrite t buffer → bytes_needed t ≤ length buffer → (said_written write t buffer).number ≡ 0
 
 abbrev pub WritesNothing : Writer → Type 0
-WritesNothing write = (t : Table) (buffer : List ℕ) → CanWrite t buffer → (write t buffer).0.number ≡ 0 → (write t buffer).1 ≡ buffer
+WritesNothing write = (t : Table) (buffer : List ℕ) → CanWrite t buffer → (said_written write t buffer).number ≡ 0 → (write t buffer).1 ≡ buffer
 
 abbrev pub PadsTheRest : Writer → Type 0
 PadsTheRest write =
-    (t : Table) (buffer : List ℕ) → CanWrite t buffer → (write t buffer).0.number ≡ 0 → (i : ℕ) → bytes_needed t ≤ i → i < length buffer → get_or (write t buffer).1 i 1 ≡ 0
+    (t : Table) (buffer : List ℕ) → CanWrite t buffer → (said_written write t buffer).number ≡ 0 → (i : ℕ) → bytes_needed t ≤ i → i < length buffer → get_or (write t buffer).1 i 1 ≡ 0
 
 abbrev pub AsksForMore : Writer → Type 0
-AsksForMore write = (t : Table) (buffer : List ℕ) → CanWrite t buffer → length buffer ≡ bytes_needed t → (write t buffer).0.number ≡ 0 → ⊥
+AsksForMore write = (t : Table) (buffer : List ℕ) → CanWrite t buffer → length buffer ≡ bytes_needed t → (said_written write t buffer).number ≡ 0 → ⊥
 
 abbrev pub SaysWhatItWould : Writer → Type 0
-SaysWhatItWould write = (t : Table) (buffer : List ℕ) → CanWrite t buffer → (write t buffer).0.number ≡ 37 → (write t buffer).0.length ≡ bytes_needed t
+SaysWhatItWould write = (t : Table) (buffer : List ℕ) → CanWrite t buffer → (said_written write t buffer).number ≡ 37 → (said_written write t buffer).length ≡ bytes_needed t
 
 pub record ShutOutOfWriting (write : Writer) : Type 0 where
   pub writes_no_table : WritesNoTable write → ⊥
@@ -246,14 +255,14 @@ pub record ShutOutOfWriting (write : Writer) : Type 0 where
   pub says_what_it_would : SaysWhatItWould write → ⊥
 
 -- A checker keeps the promise of `check`, and the board's trace check that of `zb_trace_check`.
-abbrev pub IsChecker : (List ℕ → List ℕ → Checked) → Type 0
+abbrev pub IsChecker : (List ℕ → List ℕ → Result (Unit {0}) Finding) → Type 0
 IsChecker check = (bytes s : List ℕ) → Bytes bytes → Bytes s → checker·check bytes s (check bytes s)
 
 abbrev pub IsTraceCheck : (List ℕ → List ℕ → ℕ) → Type 0
 IsTraceCheck check = (bytes s : List ℕ) → Bytes bytes → Bytes s → firmware·zb_trace_check bytes s (check bytes s)
 
 -- the number that a checker answers
-abbrev pub number_checked : (List ℕ → List ℕ → Checked) → List ℕ → List ℕ → ℕ
+abbrev pub number_checked : (List ℕ → List ℕ → Result (Unit {0}) Finding) → List ℕ → List ℕ → ℕ
 number_checked check bytes s = (checked.said_of (check bytes s)).number
 
 -- "a checker that always passes or never", by the number that it answers: always for tables that are taken
@@ -264,15 +273,15 @@ abbrev pub NeverPasses : (List ℕ → List ℕ → ℕ) → Type 0
 NeverPasses number = (bytes s : List ℕ) → Bytes bytes → Bytes s → number bytes s ≡ 0 → ⊥
 
 pub record ShutOut : Type 0 where
-  pub reader : (read : List ℕ → Reading) → IsReader read → TakesNoTable (λ bytes. (read bytes).number) → ⊥
-  pub takes_no_whole_core : (read : List ℕ → Reading) → IsReader read → TakesNoWholeCore (λ bytes. (read bytes).number) → ⊥
-  pub takes_any_cost : (read : List ℕ → Reading) → IsReader read → TakesAnyCost (λ bytes. (read bytes).number) → ⊥
+  pub reader : (read : List ℕ → Result Table Fault) → IsReader read → TakesNoTable (number_read read) → ⊥
+  pub takes_no_whole_core : (read : List ℕ → Result Table Fault) → IsReader read → TakesNoWholeCore (number_read read) → ⊥
+  pub takes_any_cost : (read : List ℕ → Result Table Fault) → IsReader read → TakesAnyCost (number_read read) → ⊥
   pub dispatcher : (slot : Dispatcher) → IsDispatcher slot → ShutOutOf slot
   pub why : (explain : Explainer) → IsExplainer explain → ShutOutOfWhy explain
   pub window : (window : Answerer) → IsAnswerer window → ShutOutOfWindow window
   pub writing : (write : Writer) → IsWriter write → ShutOutOfWriting write
-  pub always_passes : (check : List ℕ → List ℕ → Checked) → IsChecker check → AlwaysPasses (number_checked check) → ⊥
-  pub never_passes : (check : List ℕ → List ℕ → Checked) → IsChecker check → NeverPasses (number_checked check) → ⊥
+  pub always_passes : (check : List ℕ → List ℕ → Result (Unit {0}) Finding) → IsChecker check → AlwaysPasses (number_checked check) → ⊥
+  pub never_passes : (check : List ℕ → List ℕ → Result (Unit {0}) Finding) → IsChecker check → NeverPasses (number_checked check) → ⊥
   -- the same of what the board calls
   pub board_takes_none : (check : List ℕ → ℕ) → IsTableCheck check → TakesNoTable check → ⊥
   pub board_takes_no_whole_core : (check : List ℕ → ℕ) → IsTableCheck check → TakesNoWholeCore check → ⊥

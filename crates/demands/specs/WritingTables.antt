@@ -1,7 +1,7 @@
 -- "Writing tables" (02, Five): "Given a cycle, cores and rows, write the table bytes into a lent buffer."
 use Rattle.std.specs.Prelude.{ℕ, ◌≡◌, List, ◌++◌, replicate}
 use Rattle.fields.specs.Numbers.{WrittenIsRead, ReadIsWritten, FieldsAreNumbers}
-use Rattle.table.specs.declared.Writing.{Writing}
+use Rattle.table.specs.Reply.{Writing}
 use Rattle.table.specs.Bytes.{table_in}
 use Rattle.table.specs.Example.{example}
 use Rattle.table.specs.Writing.{writing, buffer_after}
