@@ -1,12 +1,24 @@
 -- What each case of an answer says is so by definition. Assumes nothing.
 use mathlib.Core.Path.{refl}
-use Rattle.demands.specs.Cases.{WindowCases, StoredCases, SlotCases, WhyCases, TableCases, CheckCases, OwnCases, Cases}
+use Rattle.demands.specs.Cases.{WindowCases, TableAnswerCases, StoredCases, SlotCases, WhyCases, TableCases, CheckCases, OwnCases, Cases}
 
 window_cases : WindowCases
 window_cases = record { window = λ r d D b. refl; refused = refl }
 
+table_answer_cases : TableAnswerCases
+table_answer_cases =
+    record {
+      taken = λ table. refl;
+      refused = λ f. refl;
+      no_fault = refl;
+      fault_is = λ f. refl;
+      written = λ many. refl;
+      faulty = λ f. refl;
+      no_room = refl;
+    }
+
 stored_cases : StoredCases
-stored_cases = record { written = refl; no_room = refl }
+stored_cases = record { written = refl; no_room = λ reason. refl }
 
 slot_cases : SlotCases
 slot_cases =
@@ -87,4 +99,5 @@ own_cases =
     }
 
 pub cases : Cases
-cases = record { windows = window_cases; stored = stored_cases; slots = slot_cases; why = why_cases; checks = check_cases; own = own_cases }
+cases = record { windows = window_cases;
+      tables = table_answer_cases; stored = stored_cases; slots = slot_cases; why = why_cases; checks = check_cases; own = own_cases }

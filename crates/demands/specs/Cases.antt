@@ -1,5 +1,5 @@
 -- "For every answer that is an enum, a definition states this paper's number and values for each of the enum's cases" (01, "Our forms for each place"):
--- what each case says, written out. (The row that is read is an enum inside `table`: table/specs/RowRead.antt.)
+-- what each case says, written out. (The row that is read is a result inside `table`: table/specs/RowRead.antt.)
 use Rattle.std.specs.Prelude.{ℕ, ◌≡◌, Bool, true, false, Option, Some, None, Result, Ok, Err}
 use Rattle.counts.specs.declared.Slot.{Slot}
 use Rattle.windows.specs.Question.{reply_of}
@@ -15,7 +15,9 @@ use Rattle.why.specs.declared.Answer.TheVariants as why
 use Rattle.why.specs.Answer.{rule_place, told, told_of}
 use Rattle.table.specs.declared.faults.Fault.{Fault}
 use Rattle.table.specs.declared.faults.Fault.TheVariants as fault
-use Rattle.table.specs.Reply.{fault_number}
+use Rattle.table.specs.declared.Table.{Table}
+use Rattle.table.specs.declared.faults.Unwritten.TheVariants as unwritten
+use Rattle.table.specs.Reply.{no_table, fault_number, reply_of as table_reply_of, fault_said, written_of}
 use Rattle.checker.specs.declared.Finding.TheVariants as check
 use Rattle.checker.specs.Answer as checked
 use Rattle.printer.specs.declared.Printed.TheVariants.{Text, TooShort}
@@ -58,6 +60,16 @@ pub record WhyCases : Type 0 where
   pub at_limit : told_of why.AtLimit ≡ told 32 0 0 0 0
   pub too_many_cores : told_of why.TooManyCores ≡ told 33 0 0 0 0
   pub no_such_row : told_of why.NoSuchRow ≡ told 36 0 0 0 0
+
+-- the reader of a table, the fault of a value, and the writer: 0 with what is handed back, or a refusal with nothing
+pub record TableAnswerCases : Type 0 where
+  pub taken : (table : Table) → table_reply_of (Ok table) ≡ record { number = 0; table = table }
+  pub refused : (f : Fault) → table_reply_of (Err f) ≡ record { number = fault_number f; table = no_table }
+  pub no_fault : fault_said None ≡ 0
+  pub fault_is : (f : Fault) → fault_said (Some f) ≡ fault_number f
+  pub written : (many : ℕ) → written_of (Ok many) ≡ record { number = 0; length = many }
+  pub faulty : (f : Fault) → written_of (Err (unwritten.Faulty f)) ≡ record { number = fault_number f; length = 0 }
+  pub no_room : written_of (Err unwritten.NoRoom) ≡ record { number = 37; length = 0 }
 
 -- a check: the table's refusals,
 pub record TableCases : Type 0 where
@@ -102,6 +114,7 @@ pub record OwnCases : Type 0 where
 
 pub record Cases : Type 0 where
   pub windows : WindowCases
+  pub tables : TableAnswerCases
   pub stored : StoredCases
   pub slots : SlotCases
   pub why : WhyCases

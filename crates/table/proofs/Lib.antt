@@ -4,6 +4,7 @@ pub mod Value
 pub mod Bytes
 pub mod Answers
 pub mod Taken
+pub mod Determined
 pub mod Faultless
 pub mod Fits
 pub mod Spelled

@@ -176,10 +176,3 @@ boards_rise t h = passed_rise board_tests board_above (λ board. board) (λ boar
 
 pub tanks_rise : (t : Table) → fault_of t ≡ 0 → (i j : ℕ) → i < j → j < length (rows_of t) → (get_or (rows_of t) i zero_row).tank < (get_or (rows_of t) j zero_row).tank
 tanks_rise t h = passed_rise (row_tests t.cycle) tank_above (λ row. row.tank) (λ row. refl) zero_row (tank_enough t.cycle) 0 (rows_of t) (none_in_value t h).3
-
--- The promises of `read` and `fault` give the answer itself, so they determine it.
-pub read_is_determined : (s : List ℕ) → Determined {R = Reading} (λ r. r ≡ reading s)
-read_is_determined s = by_value
-
-pub fault_is_determined : (t : Table) → Determined {R = ℕ} (λ r. r ≡ fault_of t)
-fault_is_determined t = by_value
