@@ -99,5 +99,12 @@ own_cases =
     }
 
 pub cases : Cases
-cases = record { windows = window_cases;
-      tables = table_answer_cases; stored = stored_cases; slots = slot_cases; why = why_cases; checks = check_cases; own = own_cases }
+cases = record {
+  windows = window_cases;
+  tables = table_answer_cases;
+  stored = stored_cases;
+  slots = slot_cases;
+  why = why_cases;
+  checks = check_cases;
+  own = own_cases;
+}
