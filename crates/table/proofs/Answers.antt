@@ -6,7 +6,7 @@ use Rattle.facts.proofs.Findings.{in_range}
 use Rattle.facts.proofs.Zero.{if0_other}
 use Rattle.table.specs.declared.faults.Fault.{Fault}
 use Rattle.table.specs.Reply.{fault_number, no_table, reply_of}
-use Rattle.table.specs.Bytes.{cycle_in, cores_in, row_count_in, rows_place, head_tests, row_count_tests_in, last_tests, table_number, table_in, reading_of, reading}
+use Rattle.table.specs.Bytes.{cycle_in, cores_in, row_count_in, rows_place, head_tests, row_count_tests_in, last_tests, table_number, table_in, reading}
 use Rattle.table.specs.Parts.{boards_fault_in, rows_fault_in}
 use Rattle.table.proofs.Numbers.{is_fault, in_turn, head_says, boards_say_in, rows_say_in}
 
@@ -34,6 +34,6 @@ is_refused s fault e = λ i. record { number = e i; table = (sym (if0_other (fau
 
 -- A fault of the rows is met where nothing before them has one.
 pub rows_decide : (s : List ℕ) → 0 ≡ first_found 0 (head_tests s) → 0 ≡ boards_fault_in s (cores_in s) → 0 ≡ first_found 0 (row_count_tests_in s) →
-    {k : ℕ} → k ≡ rows_fault_in s (cycle_in s) (rows_place s) (row_count_in s) → (k ≡ 0 → ⊥) → k ≡ table_number s
-rows_decide s head boards count {k} rows some =
-    rw (table_in_turn s, sym head, sym boards, sym count) (rw (sym rows) (sym (if0_other k (first_found 0 (last_tests s)) k some)))
+    (fault : Fault) → fault_number fault ≡ rows_fault_in s (cycle_in s) (rows_place s) (row_count_in s) → fault_number fault ≡ table_number s
+rows_decide s head boards count fault rows =
+    rw (table_in_turn s, sym head, sym boards, sym count) (rw (sym rows) (sym (if0_other (fault_number fault) (first_found 0 (last_tests s)) (fault_number fault) (is_fault fault))))

@@ -38,10 +38,14 @@ fault_number Sum = 22
 abbrev pub no_table : Table
 no_table = record { format = 0; cycle = 0; cores = 0; boards = replicate core_limit 0; n = 0; rows = replicate row_limit zero_row }
 
+-- a refusal
+abbrev pub refused_with : ℕ → Reading
+refused_with number = record { number = number; table = no_table }
+
 -- 01's number and values for each answer of the reader,
 abbrev pub reply_of : Result Table Fault → Reading
 reply_of (Ok table) = record { number = 0; table = table }
-reply_of (Err fault) = record { number = fault_number fault; table = no_table }
+reply_of (Err fault) = refused_with (fault_number fault)
 
 -- for the fault of a value,
 abbrev pub fault_said : Option Fault → ℕ

@@ -1,10 +1,10 @@
 // The rows of a table.
-ghost use Rattle.std.specs.Prelude.{◌≡◌, ◌+◌, ◌*◌, ◌/◌, ◌≤◌, ◌<◌, length, IfOk};
+ghost use Rattle.std.specs.Prelude.{◌≡◌, ◌+◌, ◌*◌, ◌/◌, ◌≤◌, ◌<◌, length, IfOk, MatchResult};
 ghost use Rattle.facts.specs.Findings.{first_found};
 ghost use Rattle.facts.specs.Rising.{rising};
 ghost use Rattle.table.specs.Parts.{load_limit, rows_fault_in, rows_in, rows_load_in};
 ghost use Rattle.table.specs.Causes.{row_tests, tank_above, load};
-ghost use Rattle.table.specs.Reply.{number_of};
+ghost use Rattle.table.specs.Reply.{fault_number, number_of};
 ghost use Rattle.table.specs.Bytes.{row_in_bytes};
 ghost use Rattle.table.specs.RowRead.{row_reply_of, row_reply};
 
@@ -26,8 +26,7 @@ pub(crate) struct Rows {
 // The n rows that begin at place `at`, or the first fault met. Each row is gone over once: it is read, tested and added.
 pub(crate) fn read(bytes: &[u8], at: usize, n: usize, cycle: u32) -> Result<Rows, Fault>
     requires { (at ≤ length bytes.now) × (n ≤ 32) }
-    ensures number { number_of result ≡ rows_fault_in bytes.now cycle at n }
-    ensures rows { IfOk result (λ read. (read.rows ≡ rows_in bytes.now at n) × (read.sum ≡ rows_load_in bytes.now cycle at n)) }
+    ensures { let first = rows_fault_in bytes.now cycle at n in MatchResult result (λ read. (0 ≡ first) × (read.rows ≡ rows_in bytes.now at n) × (read.sum ≡ rows_load_in bytes.now cycle at n)) (λ fault. fault_number fault ≡ first) }
 {
     let mut rows = [Row::default(); 32];
     let mut cursor = Cursor { at };
@@ -74,8 +73,7 @@ fn row_at(bytes: &[u8], at: usize) -> Row
 // The quanta that rows take in a cycle, or the first fault 16 to 20. Each row is gone over once: it is tested and added.
 pub(crate) fn judge(rows: &[Row], cycle: u32) -> Result<u64, Fault>
     requires { length rows.now ≤ 32 }
-    ensures number { number_of result ≡ first_found 0 (rising (row_tests cycle) tank_above 0 rows.now) }
-    ensures sum { IfOk result (λ sum. sum ≡ load cycle rows.now) }
+    ensures { let first = first_found 0 (rising (row_tests cycle) tank_above 0 rows.now) in MatchResult result (λ sum. (0 ≡ first) × (sum ≡ load cycle rows.now)) (λ fault. fault_number fault ≡ first) }
 {
     let mut sum: u64 = 0;
     let mut least: u32 = 0;

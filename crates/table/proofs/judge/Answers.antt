@@ -1,13 +1,21 @@
-use Rattle.std.proofs.Common.{arith}
+use Rattle.std.proofs.Common.{sym, ◌∙◌}
 use Rattle.std.proofs.lemmas.Result.{err_from_is_err_and}
-use Rattle.facts.specs.Findings.{first_found}
-use Rattle.table.proofs.Numbers.{is_fault}
-use Rattle.table.proofs.Value.{fault_in_turn}
+use borrow.Author.Tests.{le-ltb}
+use Rattle.facts.specs.Findings.{NoneFound}
+use Rattle.facts.proofs.Findings.{none_says_otherwise}
+use Rattle.table.specs.Limits.{row_limit}
+use Rattle.table.specs.Value.{front_tests, row_count_tests}
+use Rattle.table.proofs.Value.{rows_decide}
 use Rattle.table.proofs.judge.Goals as goal
 
 pub returns-in_err-sum : goal.returns-in_err-sum
-unfolding first_found
 returns-in_err-sum c =
-    let told = c.in_err-sum.ensures.number in
+    let t = c.args.table.now in
+    let front : NoneFound (front_tests t) =
+    NoneFound.later (sym c.format_is_unknown.ensures ∙ c.if-format_is_unknown.false)
+    (NoneFound.later (sym c.cycle_is_outside.ensures ∙ c.if-cycle_is_outside.false)
+    (NoneFound.later (sym c.cores_are_outside.ensures ∙ c.if-cores_are_outside.false) NoneFound.end)) in
+    let count : NoneFound (row_count_tests t) = NoneFound.later (le-ltb row_limit t.n c.if-table-gt-ROW_LIMIT.false) NoneFound.end in
     let handed = err_from_is_err_and c.from_residual-in_err-sum.result c.from_residual-in_err-sum.ensures.1 in
-    rw (handed.1, handed.2) (grind (arith, told, fault_in_turn, is_fault))
+    rw (handed.1, handed.2)
+    (rows_decide t _ (sym (none_says_otherwise 0 front)) c.in_ok-judge.ensures (sym (none_says_otherwise 0 count)) c.in_err-sum.ensures)

@@ -1,4 +1,4 @@
-use Rattle.std.proofs.Common.{refl, sym, ap, ◌∙◌, ◌+◌, ◌≤◌, ◌<◌, arith}
+use Rattle.std.proofs.Common.{refl, sym, ap, ◌+◌, ◌≤◌, ◌<◌, arith}
 use Rattle.facts.proofs.Loops.{reading_begins, reading_ends, reading_stops, reading_goes_on}
 use Rattle.fields.specs.Fields.{byte}
 use Rattle.table.specs.Causes.{board_above}

@@ -1,5 +1,6 @@
-use Rattle.std.proofs.Common.{get_or, refl, sym, ◌∙◌, arith}
+use Rattle.std.proofs.Common.{get_or, length, refl, sym, ◌∙◌, arith}
 use Rattle.std.proofs.lemmas.Result.{err_from_is_err_and}
+use Rattle.std.proofs.lemmas.List.{take_all}
 use Rattle.facts.proofs.Loops.{none_passed, all_passed, stops_at_fault, one_more_passed}
 use Rattle.table.specs.Causes.{zero_row}
 use Rattle.table.proofs.Numbers.{is_fault, none_met, row_says}
@@ -9,8 +10,8 @@ use Rattle.table.proofs.rows.judge.Goals as goal
 pub loop-row-init : goal.loop-row-init
 loop-row-init c = (none_passed _ _ _, added_none _ _ _ (omega arith))
 
-pub returns-in_err-judge_one-clause-number : goal.returns-in_err-judge_one-clause-number
-returns-in_err-judge_one-clause-number c =
+pub returns-in_err-judge_one : goal.returns-in_err-judge_one
+returns-in_err-judge_one c =
     let told = c.in_err-judge_one.ensures in
     let handed = err_from_is_err_and c.from_residual.result c.from_residual.ensures.1 in
     rw (handed.1, handed.2) (told ∙ sym (stops_at_fault _ _ _ c.loop-row.invariant.0 (omega arith) zero_row refl (λ z. is_fault _ (told ∙ z))))
@@ -24,5 +25,7 @@ loop-row-preserved c =
       added_next c.loop-row.invariant.1 (omega arith) quanta.1 zero_row quanta.0,
     )
 
-pub returns-clause-number : goal.returns-clause-number
-returns-clause-number c = sym (all_passed _ _ _ c.loop-row.invariant.0 (omega arith))
+pub returns : goal.returns
+returns c =
+    let inv = c.loop-row.invariant in
+    (sym (all_passed _ _ _ inv.0 (omega arith)), rw (← take_all (length c.args.rows.now) c.args.rows.now (omega arith)) (added_all inv.1 (omega arith)))

@@ -1,4 +1,4 @@
-use Rattle.std.proofs.Common.{refl, sym, ap, ◌∙◌, ◌≡◌, arith}
+use Rattle.std.proofs.Common.{refl, ap, ◌∙◌, ◌≡◌, arith}
 use Rattle.std.proofs.lemmas.Result.{err_from_is_err_and}
 use lib.ListN.{replicate, length-replicate}
 use Rattle.facts.proofs.Loops.{reading_begins, reading_ends, reading_stops, reading_goes_on}
@@ -22,8 +22,8 @@ loop-i-init c =
       c.requires.0,
     )
 
-pub returns-in_err-row-clause-number : goal.returns-in_err-row-clause-number
-returns-in_err-row-clause-number c =
+pub returns-in_err-row : goal.returns-in_err-row
+returns-in_err-row c =
     let was = row_was_faulty _ _ _ _ _ c.in_err-row.ensures in
     let handed = err_from_is_err_and c.from_residual.result c.from_residual.ensures.1 in
     rw (handed.1, handed.2) (reading_stops _ _ _ _ _ _ _ _ c.loop-i.invariant.0 c.loop-i-test.true c.loop-i.invariant.1 was (λ z. is_fault _ z)).first
@@ -40,10 +40,12 @@ loop-i-preserved c =
       omega (arith, past, row_was_there c.args.bytes.now c.args.cycle c.loop-i.least c.loop-i.cursor.at was.0),
     )
 
-pub returns-clause-number : goal.returns-clause-number
-returns-clause-number c = (reading_ends _ _ _ _ _ _ _ _ c.loop-i.invariant.0 c.loop-i-test.false).first
-
-pub returns-clause-rows : goal.returns-clause-rows
-returns-clause-rows c =
-    let rows = (reading_ends _ _ _ _ _ _ _ _ c.loop-i.invariant.0 c.loop-i-test.false).content refl in
-    (rows, added_all c.loop-i.invariant.2 c.loop-i-test.false ∙ rw rows (ap (load c.args.cycle) (first_are_read (row_in_bytes c.args.bytes.now) zero_row row_limit c.args.at 9 c.args.n)))
+pub returns : goal.returns
+returns c =
+    let read = reading_ends _ _ _ _ _ _ _ _ c.loop-i.invariant.0 c.loop-i-test.false in
+    let rows = read.content refl in (
+      read.first,
+      rows,
+      added_all c.loop-i.invariant.2 c.loop-i-test.false
+          ∙ rw rows (ap (load c.args.cycle) (first_are_read (row_in_bytes c.args.bytes.now) zero_row row_limit c.args.at 9 c.args.n)),
+    )
