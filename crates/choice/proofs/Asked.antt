@@ -1,20 +1,23 @@
 -- What the lower crates answer about a row, and what the functions here make of it. Assumes nothing.
 use Prim.Native.Nat.{ℕ, ◌+◌, ◌-◌, ◌*◌, ◌<◌}
-use mathlib.Core.Path.{◌≡◌, refl, sym, ◌∙◌}
+use mathlib.Core.Path.{◌≡◌, refl, sym, ap, ◌∙◌}
 use mathlib.Core.Bool.{Bool, true, false, false≢true}
 use mathlib.Core.Logic.{◌⊎◌, inl, inr}
 use native.Mathlib.Omega.{arith}
+use Rattle.std.specs.Prelude.{Option, Some, None, MatchOption, unwrap_or}
 use Rattle.counts.specs.Limits.{most}
+use Rattle.windows.specs.declared.times.Due.{Due}
+use Rattle.windows.specs.Next.{next_due}
 use Rattle.windows.proofs.Windows.{bit_is_0_or_1}
 use Rattle.table.specs.declared.Row.{Row}
-use Rattle.pd2.specs.Ready.{ready}
+use Rattle.pd2.specs.Ready.{origin_of, ready}
 use Rattle.pd2.specs.Order.{rank_of, with_favour}
-use Rattle.pd2.specs.Verdict.{answered}
+use Rattle.pd2.specs.Verdict.{is_yes, answered, verdict}
 use Rattle.pd2.specs.Near.{HasWindow}
-use Rattle.pd2.proofs.Verdicts.{in_reach, yes_when_answered, yes_is_answered}
+use Rattle.pd2.proofs.Verdicts.{due_is_said, in_reach, yes_when_answered, yes_is_answered}
 use Rattle.pd2.proofs.Readiness.{ready_is_due_within_period}
 use Rattle.choice.specs.Choice.{says_ready}
-use Rattle.choice.specs.Keys.{behind, end_of, key_for, HasKey, key_of}
+use Rattle.choice.specs.Keys.{behind, end_of, key_for, HasKey, key_of, KeyIs}
 use Rattle.choice.proofs.KeyOrder.{rank_has_key, behind_fits}
 
 -- A row that is answered to be ready has a window,
@@ -31,18 +34,33 @@ ready_is_due_soon row q t period h =
     let is : ready row q t ≡ true = sym (yes_when_answered (ready row q t) asked) ∙ h in
     omega (arith, numbers.3, ready_is_due_within_period row q t numbers.0 is)
 
--- The key of a row that is not ready,
-pub unready_key : (row : Row) (i q : ℕ) (favoured : Bool) (t : ℕ) → says_ready row q t ≡ false →
-    (most ≡ key_of row i q favoured t) × (says_ready row q t ≡ true → (most < most) × HasKey (with_favour (rank_of row i q) favoured))
-unfolding key_of
-unready_key row i q favoured t h = rw h (refl, λ e. absurd (false≢true e))
+-- Whether it is ready, and when it is due, as the lower crates answer.
+pub due_if_ready : (row : Row) (q t : ℕ) → row.phase < 65_536 → {answer : Option Bool} {yes : Bool} {o : ℕ} {due : Option Due} →
+    answer ≡ verdict (answered row q t) (ready row q t) → yes ≡ is_yes answer → yes ≡ true → o ≡ origin_of row → due ≡ next_due row.cost row.period o q →
+    (says_ready row q t ≡ true) × (due ≡ Some (record { deadline = record { 0 = (rank_of row 0 q).d }; bit = (rank_of row 0 q).b }))
+due_if_ready row q t small said is so same asked =
+    let is_ready = sym (is ∙ ap is_yes said) ∙ so in
+    (is_ready, due_is_said row q (window_if_ready row q t is_ready) small same asked)
 
--- and of one that is.
-pub ready_key : (row : Row) (i q : ℕ) (favoured : Bool) (t : ℕ) → says_ready row q t ≡ true → {d b far end key : ℕ} →
+-- The key of a ready row, by its parts.
+pub ready_key : (row : Row) (i q : ℕ) (favoured : Bool) (t : ℕ) → i < 32 → row.cost < 65_536 → says_ready row q t ≡ true → {d b far end key : ℕ} →
     d ≡ (rank_of row 0 q).d → b ≡ (rank_of row 0 q).b → far ≡ behind (rank_of row 0 q) → end ≡ end_of favoured i →
-    key ≡ ((2 * d + (1 - b)) * 65_536 + (65_535 - far)) * 64 + end → key ≡ key_of row i q favoured t
+    (key ≡ ((2 * d + (1 - b)) * 65_536 + (65_535 - far)) * 64 + end) × (key < most) → KeyIs row i q favoured t key
 unfolding key_of key_for
-ready_key row i q favoured t h pd pb pf pe is = is ∙ rw (h, pd, pb, pf, pe) refl
+ready_key row i q favoured t few cost h pd pb pf pe is =
+    record {
+      ready = h;
+      is = is.0 ∙ rw (h, pd, pb, pf, pe) refl;
+      low = is.1;
+      has = rank_has_key row i q favoured (window_if_ready row q t h) cost few;
+    }
+
+-- As a number that stands for it, the key of a row is the largest where it has none.
+pub key_or_most : (row : Row) (i q : ℕ) (favoured : Bool) (t : ℕ) (answer : Option ℕ) → MatchOption answer (says_ready row q t ≡ false) (KeyIs row i q favoured t) →
+    (unwrap_or answer most ≡ key_of row i q favoured t) × (says_ready row q t ≡ true → (unwrap_or answer most < most) × HasKey (with_favour (rank_of row i q) favoured))
+unfolding key_of
+key_or_most row i q favoured t None h = (rw h refl, λ e. absurd (false≢true (sym h ∙ e)))
+key_or_most row i q favoured t (Some key) h = (h.is, λ e. (h.low, h.has))
 
 -- How far D lies behind d,
 module _ (row : Row) (q : ℕ) (has : HasWindow row q) (cost : row.cost < 65_536) where

@@ -6,11 +6,10 @@ use mathlib.Core.Bool.{Bool, false, ◌&&◌}
 use native.Mathlib.Decide.{dec_lt}
 use native.Mathlib.Omega.{arith}
 use borrow.Author.Tests.{lt-ltb}
-use lib.ListN.{length, get_or, take, length-take}
+use lib.ListN.{length, get_or, take}
 use lib.Seq.{take_all, ext_get_or}
 use Rattle.facts.specs.Determined.{Determined}
 use Rattle.facts.proofs.Listing.{same_list}
-use Rattle.counts.specs.declared.Quanta.{Quanta}
 use Rattle.table.specs.declared.Row.{Row}
 use Rattle.pd2.specs.Order.{before}
 use Rattle.pd2.specs.Picks.{picked}
@@ -20,8 +19,7 @@ use Rattle.pd2.proofs.Verdicts.{yes_when_answered}
 use Rattle.trace.specs.Record.{marked}
 use Rattle.trace.specs.Records.{names}
 use Rattle.trace.proofs.Names.{listed_are_named}
-use Rattle.choice.specs.Arrays.{InPlace}
-use Rattle.choice.specs.Choice.{says_ready_in, chosen, ChosenAsPd2}
+use Rattle.choice.specs.Choice.{says_ready_in, ChosenAsPd2}
 
 -- for callers
 
@@ -53,16 +51,10 @@ picks_are_determined picks a b p q = same_marks a b (p.0 ∙ sym q.0) (p.1 ∙ s
 
 -- for the function
 
--- No more rows are taken than there are: the first n of them stand in their array,
-pub first_in_place : (rows : List Row) (quanta : List Quanta) (n : ℕ) → length rows ≡ 32 → length quanta ≡ 32 → {few : ℕ} → few ≡ min n 32 → InPlace rows quanta few
-first_in_place rows quanta n many long {few} e =
-    record { few = omega arith; all = length-take few rows ∙ omega arith; long = long }
-
--- and they are the rows in question.
-pub same_chosen : (rows : List Row) (quanta : List ℕ) (favours : ℕ → Bool) (n t k : ℕ) → length rows ≡ 32 → {few cores : ℕ} → few ≡ min n 32 → cores ≡ min k 8 →
-    chosen (take few rows) quanta favours t cores ≡ chosen (take n rows) quanta favours t (min k 8)
-same_chosen rows quanta favours n t k many {few} e f = rw f (ap (λ first. chosen first quanta favours t (min k 8)) (go (dec_lt n 32)))
+-- No more rows are taken than there are.
+pub no_more_than_all : (rows : List Row) (n : ℕ) → length rows ≡ 32 → take (min n 32) rows ≡ take n rows
+no_more_than_all rows n many = go (dec_lt n 32)
   where
-    go : Dec (n < 32) → take few rows ≡ take n rows
-    go (yes l) = let same : few ≡ n = omega arith in ap (λ m. take m rows) same
-    go (no l) = take_all few rows (omega arith) ∙ sym (take_all n rows (omega arith))
+    go : Dec (n < 32) → take (min n 32) rows ≡ take n rows
+    go (yes l) = let same : min n 32 ≡ n = omega arith in ap (λ m. take m rows) same
+    go (no l) = take_all (min n 32) rows (omega arith) ∙ sym (take_all n rows (omega arith))

@@ -7,7 +7,8 @@ use mathlib.Core.Logic.{◌⊎◌, inl, inr}
 use native.Mathlib.Decide.{dec_lt}
 use native.Mathlib.Omega.{arith}
 use lib.Dec.{ltb, eqb}
-use lib.ListN.{replicate, get_or-replicate}
+use lib.ListN.{length, take, replicate, get_or-replicate, length-take}
+use Rattle.std.proofs.lemmas.List.{get_or-take}
 use borrow.Author.Tests.{lt-ltb, le-ltb, eq-eqb, ltb-true, eqb-true}
 use Rattle.facts.specs.Counting.{how_many}
 use Rattle.facts.specs.Determined.{Determined}
@@ -71,6 +72,18 @@ module _ (key : ℕ → ℕ) where
   -- and where there are no more than k, none is.
   pub none_left : {n k : ℕ} → n ≤ k → FirstLeft key n k most
   none_left {n} few = record { range = omega arith; few = omega (arith, no_more_than_all (λ j. ltb (key j) most) n); largest = λ l. absurd (omega arith) }
+
+-- The keys at the front of an array are its first.
+pub smallest_in_front : (keys : List ℕ) (n : ℕ) {k : ℕ} {best : List ℕ} → n ≤ length keys → Smallest (key_in (take n keys)) (length (take n keys)) k best → Smallest (key_in keys) n k best
+smallest_in_front keys n fits so = record { rises = so.rises; counts = λ v h. so.counts v h ∙ ap (min _) (front v) }
+  where
+    many : length (take n keys) ≡ n
+    many = length-take n keys ∙ omega arith
+
+    front : (v : ℕ) → how_many (λ i. ltb (key_in (take n keys) i) v) (length (take n keys)) ≡ how_many (λ i. ltb (key_in keys i) v) n
+    front v =
+        ap (how_many (λ i. ltb (key_in (take n keys) i) v)) many
+        ∙ same_count (λ i. ltb (key_in (take n keys) i) v) (λ i. ltb (key_in keys i) v) n (λ i l. ap (λ x. ltb x v) (get_or-take n keys i 0 l))
 
 -- There is one such number alone.
 pub first_left_is_determined : (key : ℕ → ℕ) (n k : ℕ) → Determined {R = ℕ} (FirstLeft key n k)

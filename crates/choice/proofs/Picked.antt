@@ -1,11 +1,12 @@
 -- The rows whose keys lie before the first that is left out are those that are chosen. Assumes nothing.
-use Prim.Native.Nat.{ℕ, ◌%◌, ◌<◌}
+use Prim.Native.Nat.{ℕ, ◌%◌, ◌≤◌, ◌<◌, min}
 use mathlib.Core.Path.{◌≡◌, refl, sym, ap, ◌∙◌}
 use mathlib.Core.List.{List}
 use mathlib.Core.Bool.{Bool, true, false}
 use native.Mathlib.Omega.{arith}
 use lib.Dec.{ltb}
-use lib.ListN.{length}
+use lib.ListN.{length, take, length-take}
+use Rattle.std.proofs.lemmas.List.{get_or-take}
 use Rattle.facts.specs.Counting.{those}
 use Rattle.facts.proofs.Listing.{same_list}
 use Rattle.counts.specs.Limits.{most}
@@ -61,8 +62,12 @@ module _ {rows : List Row} {quanta : List ℕ} {favours : ℕ → Bool} {t : ℕ
         none = λ i l h. keyed.each i l ∙ rw h refl;
       }
 
-  pub found_are_picks : {n k first : ℕ} → length rows ≡ n → FirstLeft (key_in keys) n k first → {found : List ℕ} → found ≡ those (λ i. ltb (key_in keys i) first) n →
-      found ≡ chosen rows quanta favours t k
-  found_are_picks {n} {k} {first} all left same =
-      same ∙ rw (← all) (same_list (λ i. ltb (key_in keys i) first) (picked (says_ready_in rows quanta t) (goes_before_by before rows quanta favours) (length rows) k) (length rows)
-      (picked_before keys_are (rw (← all) at left)))
+  pub found_are_picks : {k first : ℕ} → length rows ≤ 32 → length keys ≡ 32 → FirstLeft (key_in keys) (min (length rows) 32) k first →
+      those (λ i. ltb (key_in (take (length rows) keys) i) first) (length (take (length rows) keys)) ≡ chosen rows quanta favours t k
+  found_are_picks {k} {first} few long left =
+      ap (those (λ i. ltb (key_in (take (length rows) keys) i) first)) (length-take (length rows) keys ∙ omega arith)
+      ∙ same_list (λ i. ltb (key_in (take (length rows) keys) i) first) (picked (says_ready_in rows quanta t) (goes_before_by before rows quanta favours) (length rows) k) (length rows)
+      (λ i l. ap (λ x. ltb x first) (get_or-take (length rows) keys i 0 l) ∙ picked_before keys_are (rw all at left) i l)
+    where
+      all : min (length rows) 32 ≡ length rows
+      all = omega (arith, few)

@@ -37,6 +37,13 @@ KeysOrderAsPd2 = (x y : Rank) → HasKey x → HasKey y → before x y ≡ ltb (
 unfoldable pub key_of : Row → ℕ → ℕ → Bool → ℕ → ℕ
 key_of row i q favoured t = cond (says_ready row q t) (key_for (with_favour (rank_of row i q) favoured)) most
 
+-- A row that is ready has this key.
+pub record KeyIs (row : Row) (i q : ℕ) (favoured : Bool) (t key : ℕ) : Type 0 where
+  pub ready : says_ready row q t ≡ true
+  pub is : key ≡ key_of row i q favoured t
+  pub low : key < most
+  pub has : HasKey (with_favour (rank_of row i q) favoured)
+
 abbrev pub key_in : List ℕ → ℕ → ℕ
 key_in keys i = get_or keys i 0
 

@@ -4,22 +4,21 @@
 
 mod smallest;
 
-ghost use Rattle.std.specs.Prelude.{◌≡◌, ◌+◌, ◌-◌, ◌*◌, ◌≤◌, ◌<◌, min, true, ltb, length, take};
+ghost use Rattle.std.specs.Prelude.{◌≡◌, ◌+◌, ◌-◌, ◌*◌, ◌≤◌, ◌<◌, min, MatchOption, false, ltb, length, take};
 ghost use Rattle.trace.specs.Record.{marked};
 ghost use Rattle.facts.specs.Counting.{those};
 ghost use Rattle.counts.specs.Limits.{most};
 ghost use Rattle.pd2.specs.Near.{HasWindow};
-ghost use Rattle.pd2.specs.Order.{rank_of, with_favour};
-ghost use Rattle.choice.specs.Arrays.{InPlace};
+ghost use Rattle.pd2.specs.Order.{rank_of};
 ghost use Rattle.counts.specs.Numbers.{numbers_of};
 ghost use Rattle.choice.specs.Choice.{says_ready, favours_marked, chosen};
-ghost use Rattle.choice.specs.Keys.{behind, end_of, HasKey, key_of, key_in, KeysAre, FirstLeft};
+ghost use Rattle.choice.specs.Keys.{behind, end_of, KeyIs, key_in, KeysAre, FirstLeft};
 
 use counts::{Quanta, Slot};
 use table::Row;
-use windows::{Due, Moment};
+use windows::Due;
 
-// The key of a row that is not ready: it lies past all others.
+// Stands for the key of a row that is not ready: it lies past all others.
 const NOT_READY: u64 = 18_446_744_073_709_551_615;
 
 // The rows that are picked of the first n, with k cores free, as marks; `favoured` marks those that go first among full ties. Rows and numbers may be wild:
@@ -35,21 +34,25 @@ pub fn picks(
     ensures result_len { length result ≡ 32 }
     ensures result_value { marked result ≡ chosen (take n rows) (numbers_of quanta) (favours_marked favoured) time.0 (min k 8) }
 {
-    choose(rows, quanta, favoured, at_most_32(n), time, k)
+    let rows = &rows[..n.min(32)];
+    let keys = keys_of(rows, &quanta, &favoured, time);
+    let first = first_left(&keys, rows.len(), k);
+    rows_before(&keys[..rows.len()], first)
 }
 
 // The first key that is left out when the k smallest of the first n are taken, at most 8: NOT_READY where none is.
 pub fn first_left(keys: &[u64; 32], n: usize, k: u8) -> u64
     ensures { FirstLeft (key_in keys.now) (min n 32) (min k 8) result }
 {
-    let many = at_most_32(n);
+    let many = n.min(32);
     // Two calls and not one with the lesser number: with a bound in sight the compiler unrolls the search, and a slot takes 90 instructions more.
     if 8 < k {
         return left_out(keys, many, 8);
     }
-    left_out(keys, many, k as usize)
+    left_out(keys, many, usize::from(k))
 }
 
+#[tactic(auto, using(crate::proofs::Left::none_left))]
 fn left_out(keys: &[u64; 32], n: usize, k: usize) -> u64
     requires { (n ≤ 32) × (k ≤ 8) }
     ensures { FirstLeft (key_in keys.now) n k result }
@@ -57,84 +60,44 @@ fn left_out(keys: &[u64; 32], n: usize, k: usize) -> u64
     if n <= k {
         return NOT_READY;
     }
-    let best = smallest::smallest(keys, n, k);
-    best[k]
+    smallest::smallest(&keys[..n], k)[k]
 }
 
-fn at_most_32(n: usize) -> usize
-    ensures { (result ≡ min n 32) × (result ≤ 32) }
-{
-    if n < 32 { n } else { 32 }
-}
-
-// As `picks`, of n rows that stand in their array.
-fn choose(
-    rows: [Row; 32],
-    quanta: [Quanta; 32],
-    favoured: [bool; 32],
-    n: usize,
-    time: Slot,
-    k: u8,
-) -> [bool; 32]
-    requires { InPlace rows quanta n }
-    ensures { (length result ≡ 32) × (marked result ≡ chosen (take n rows) (numbers_of quanta) (favours_marked favoured) time.0 (min k 8)) }
-{
-    let keys = keys(rows, quanta, favoured, n, time);
-    let first = first_left(&keys, n, k);
-    before(&keys, n, first)
-}
-
-// The key of each row.
-fn keys(
-    rows: [Row; 32],
-    quanta: [Quanta; 32],
-    favoured: [bool; 32],
-    n: usize,
-    time: Slot,
-) -> [u64; 32]
-    requires { InPlace rows quanta n }
-    ensures { KeysAre (take n rows) (numbers_of quanta) (favours_marked favoured) time.0 result }
+// The key of each row, and NOT_READY past the last. The keys are plain numbers, since a slot compares them by the hundred.
+fn keys_of(rows: &[Row], quanta: &[Quanta; 32], favoured: &[bool; 32], time: Slot) -> [u64; 32]
+    requires { length rows.now ≤ 32 }
+    ensures { KeysAre rows.now (numbers_of quanta.now) (favours_marked favoured.now) time.0 result }
 {
     let mut keys = [NOT_READY; 32];
-    let mut i: usize = 0;
-    while i < n {
-        let row = rows[i];
-        let given = quanta[i];
-        keys[i] = key(row, i, given, favoured[i], time);
-        i += 1;
+    for (i, row) in rows.iter().enumerate() {
+        keys[i] = key(*row, i, quanta[i], favoured[i], time).unwrap_or(NOT_READY);
     }
     keys
 }
 
-fn key(row: Row, i: usize, given: Quanta, favoured: bool, slot: Slot) -> u64
+// The key of a row that is ready.
+fn key(row: Row, i: usize, given: Quanta, favoured: bool, slot: Slot) -> Option<u64>
     requires { i < 32 }
-    ensures { (result ≡ key_of row i given.0 favoured slot.0) × (says_ready row given.0 slot.0 ≡ true → (result < most) × HasKey (with_favour (rank_of row i given.0) favoured)) }
+    ensures { MatchOption result (says_ready row given.0 slot.0 ≡ false) (KeyIs row i given.0 favoured slot.0) }
 {
-    let verdict = pd2::ready(row, given, slot);
-    if !verdict.is_yes() {
-        return NOT_READY;
+    if !pd2::is_yes(pd2::ready(row, given, slot)) {
+        return None;
     }
-    let due = windows::next_due(row.cost, row.period, pd2::origin(row), given);
-    let Due::By { deadline, bit } = due else {
-        return NOT_READY;
-    };
-    let far = how_far_behind(row, given, deadline, bit);
-    packed(deadline.time(), bit, far, end(favoured, i))
+    let due = windows::next_due(row.cost, row.period, pd2::origin(row), given)?;
+    let far = how_far_behind(row, given, due);
+    Some(packed(due.deadline.time(), due.bit, far, end(favoured, i)))
 }
 
 // How far the group deadline lies behind the deadline. "If both have b = 1": where the bit is 0 none is asked for.
-fn how_far_behind(row: Row, given: Quanta, deadline: Slot, bit: u8) -> u64
-    requires { HasWindow row given.0 × (deadline.0 ≡ (rank_of row 0 given.0).d) × (bit ≡ (rank_of row 0 given.0).b) }
+fn how_far_behind(row: Row, given: Quanta, due: Due) -> u64
+    requires { HasWindow row given.0 × (due.deadline.0 ≡ (rank_of row 0 given.0).d) × (due.bit ≡ (rank_of row 0 given.0).b) }
     ensures { (result ≡ behind (rank_of row 0 given.0)) × (result < 65_536) }
 {
-    if bit == 0 {
+    if due.bit == 0 {
         return 0;
     }
     let group = windows::next_group_deadline(row.cost, row.period, pd2::origin(row), given);
-    match group {
-        Moment::At(time) => time.since(deadline),
-        Moment::Unanswered => 0,
-    }
+    group.map_or(0, |time| time.since(due.deadline))
 }
 
 // How the key of a row ends: a favoured row goes first, then the lower row.
@@ -151,21 +114,18 @@ fn packed(deadline: u64, bit: u8, far: u64, end: usize) -> u64
     requires { (deadline < 2_000_000_000_000) × (bit ≤ 1) × (far < 65_536) × (end < 64) }
     ensures { (result ≡ ((2 * deadline + (1 - bit)) * 65_536 + (65_535 - far)) * 64 + end) × (result < most) }
 {
-    let class = 2 * deadline + (1 - bit) as u64;
+    let class = 2 * deadline + u64::from(1 - bit);
     (class * 65_536 + (65_535 - far)) * 64 + end as u64
 }
 
 // The rows whose keys lie before this one.
-fn before(keys: &[u64; 32], n: usize, first: u64) -> [bool; 32]
-    requires { n ≤ 32 }
-    ensures { (length result ≡ 32) × (marked result ≡ those (λ i. ltb (key_in keys.now i) first) n) }
+fn rows_before(keys: &[u64], first: u64) -> [bool; 32]
+    requires { length keys.now ≤ 32 }
+    ensures { (length result ≡ 32) × (marked result ≡ those (λ i. ltb (key_in keys.now i) first) (length keys.now)) }
 {
     let mut marks = [false; 32];
-    let mut i: usize = 0;
-    while i < n {
-        let key = keys[i];
-        marks[i] = key < first;
-        i += 1;
+    for (i, key) in keys.iter().enumerate() {
+        marks[i] = *key < first;
     }
     marks
 }

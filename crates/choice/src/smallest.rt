@@ -1,32 +1,24 @@
 // The smallest of some keys.
-ghost use Rattle.std.specs.Prelude.{◌+◌, ◌≤◌, min, ◌≡◌};
+ghost use Rattle.std.specs.Prelude.{◌+◌, ◌≤◌, length};
 ghost use Rattle.choice.specs.Keys.{key_in, Smallest, OneKeyMore};
 
 use crate::NOT_READY;
 
-// The k smallest of n keys and one more, in order: the largest number where there are fewer.
-pub(crate) fn smallest(keys: &[u64; 32], n: usize, k: usize) -> [u64; 9]
-    requires { (n ≤ 32) × (k ≤ 8) }
-    ensures { Smallest (key_in keys.now) n (k + 1) result }
+// The k smallest of some keys and one more, in order: the largest number where there are fewer. While there are fewer keys than places, the last place that
+// counts is the first that none has taken.
+pub(crate) fn smallest(keys: &[u64], k: usize) -> [u64; 9]
+    requires { k ≤ 8 }
+    ensures { Smallest (key_in keys.now) (length keys.now) (k + 1) result }
 {
     let mut best = [NOT_READY; 9];
-    let mut i: usize = 0;
-    while i < n {
-        let key = keys[i];
-        with_key(&mut best, last_place(i, k), key);
-        i += 1;
+    for (i, key) in keys.iter().enumerate() {
+        with_key(&mut best, i.min(k), *key);
     }
     best
 }
 
-// The last place that counts: while there are fewer keys than places, the first that none has taken.
-fn last_place(i: usize, k: usize) -> usize
-    ensures { result ≡ min i k }
-{
-    if i < k { i } else { k }
-}
-
 // The smallest with one key more: those that are larger move one place on, up to the last; what stood there is dropped.
+#[tactic(auto, using(crate::proofs::Inserted::moving_begins, crate::proofs::Inserted::moves_on))]
 fn with_key(best: &mut [u64; 9], last: usize, key: u64)
     requires { last ≤ 8 }
     ensures { OneKeyMore best.old last key best.new }
@@ -35,14 +27,9 @@ fn with_key(best: &mut [u64; 9], last: usize, key: u64)
         return;
     }
     let mut at = last;
-    while 0 < at {
-        let before = best[at - 1];
-        if before <= key {
-            best[at] = key;
-            return;
-        }
-        best[at] = before;
+    while 0 < at && key < best[at - 1] {
+        best[at] = best[at - 1];
         at -= 1;
     }
-    best[0] = key;
+    best[at] = key;
 }

@@ -1,19 +1,17 @@
-use mathlib.Core.Path.{◌≡◌, refl, ◌∙◌}
-use lib.ListN.{length}
-use Rattle.counts.specs.Numbers.{numbers_of}
-use Rattle.choice.specs.Choice.{favours_marked}
-use Rattle.choice.proofs.Chosen.{first_in_place, same_chosen}
+use mathlib.Core.Path.{◌≡◌, ap, ◌∙◌}
+use Prim.Native.Nat.{◌≤◌}
+use native.Mathlib.Omega.{arith}
+use lib.ListN.{length, take, length-take}
+use Rattle.choice.proofs.Chosen.{no_more_than_all}
+use Rattle.choice.proofs.Picked.{found_are_picks}
 use borrow.Author.Rules.{rules}
 use Rattle.choice.proofs.picks.Goals as goal
 
-pub choose-requires : goal.choose-requires
-choose-requires c =
+pub returns-clause-result_value : goal.returns-clause-result_value
+returns-clause-result_value c =
     let many : length c.args.rows ≡ 32 = search rules in
-    let long : length c.args.quanta ≡ 32 = search rules in
-    first_in_place c.args.rows c.args.quanta c.args.n many long c.at_most_32.ensures.0
-
-pub returns : goal.returns
-returns c =
-    let many : length c.args.rows ≡ 32 = search rules in
-    let same = same_chosen c.args.rows (numbers_of c.args.quanta) (favours_marked c.args.favoured) c.args.n c.args.time.0 c.args.k many c.at_most_32.ensures.0 refl in
-    record { result_len = c.choose.ensures.0; result_value = c.choose.ensures.1 ∙ same }
+    let long : length c.keys_of-keys.result ≡ 32 = search rules in
+    let few : length (take c.min.result c.args.rows) ≤ 32 = omega (arith, length-take c.min.result c.args.rows, c.min.ensures) in
+    let picked = c.rows_before.ensures.1 ∙ found_are_picks c.keys_of-keys.ensures few long c.first_left-first.ensures in
+    let all = ap (λ m. take m c.args.rows) c.min.ensures ∙ no_more_than_all c.args.rows c.args.n many in
+    rw all at picked
