@@ -145,3 +145,6 @@ rows_there s place {c} e = go (dec_lt (place + 2 + picked_at s place) (length s)
     go (no l) =
         let long = length-drop (place + 2) s in
         take_all c rest (omega (arith, long)) ∙ sym (take_all (picked_at s place) rest (omega (arith, long)))
+
+-- What `raise` finds.
+pub ruleset rows_raised = (none_raised, no_rows_there, rows_there)

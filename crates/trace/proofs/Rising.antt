@@ -129,3 +129,6 @@ module _ (rows : List ℕ) (n : ℕ) where
   pub none_bad : {least j : ℕ} → NoneBadYet rows n least j → length rows ≤ j → false ≡ bad_rows n 0 rows
   unfolding bad_rows
   none_bad {j = j} so h = sym (so.rest ∙ rw (drop_of_length-le rows {i = j} h) refl)
+
+-- The steps of the loop that looks for a bad number.
+pub ruleset badness_found = (badness_begins, is_bad, rises_on, none_bad)

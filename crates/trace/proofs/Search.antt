@@ -130,10 +130,6 @@ module _ (s : List ℕ) (t : ℕ) where
         simp (lt-leb _ _ past)
 
     module _ {n : ℕ} (whole : Some n ≡ some_length (length_inside s start)) where
-      -- a whole one lies inside,
-      pub walk_inside : start + n ≤ length s
-      walk_inside = (whole_ends s start whole).1
-
       -- at the slot's own record it ends with that,
       pub walk_ends : i ≡ t → Some (start, start + n) ≡ place_inside s t
       unfolding place_inside
@@ -151,3 +147,8 @@ module _ (s : List ℕ) (t : ℕ) where
             place = sym (whole_ends s start whole).0 ∙ (ap (past_record s) so.place ∙ sym (next_begins s i));
             within = omega arith;
           }
+
+-- What `find` meets, and the steps of the walk.
+pub ruleset search_found = (no_count, past_count, below_slot_count)
+
+pub ruleset walk_steps = (whole_ends, walk_cut, walk_ends, walk_on)

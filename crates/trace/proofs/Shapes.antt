@@ -160,6 +160,9 @@ module _ (M n : ℕ) (s : List ℕ) (place : ℕ) where
               let is = none_is_0 (none_in_shape.1 sound) in
               rw (is, e) refl
 
+-- What `shape` meets, in turn.
+pub ruleset shape_found = (head_is_cut, cores_are_too_many, rows_are_too_many, rows_are_cut, rows_are_bad, record_is_sound)
+
 -- Worked values, computed from the definitions: a count of four bytes may be above its limit,
 count_above_the_limit : too_long (255 ∷ 255 ∷ 255 ∷ 255 ∷ []) ≡ true
 count_above_the_limit = refl

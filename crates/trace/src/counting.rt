@@ -3,6 +3,7 @@ ghost use Rattle.std.specs.Prelude.{◌≡◌, true, false, cond, get_or, set};
 ghost use Rattle.trace.specs.Raising.{raised_if, raised};
 
 // Raises the counts of the rows that are named. A record names few, so this goes from number to number, and not over all counts.
+#[tactic(auto, using(crate::proofs::Raising::raising_begins, crate::proofs::Raising::raising_ends))]
 pub(crate) fn raise_named(rows: &[u8], counts: &mut [u32; 32])
     ensures { counts.new ≡ raised rows.now 0 counts.old }
 {

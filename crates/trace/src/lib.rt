@@ -85,6 +85,7 @@ pub fn begins(trace: &[u8], slot: Slot) -> usize
 }
 
 // Where the record of a slot begins and ends. Looks for it only if the count says that there is one.
+#[tactic(auto, using(crate::proofs::Search::search_found))]
 fn find(trace: &[u8], slot: u64) -> Option<(usize, usize)>
     ensures { result ≡ place_found trace.now slot }
 {
@@ -99,6 +100,7 @@ fn find(trace: &[u8], slot: u64) -> Option<(usize, usize)>
 }
 
 // Walks from record to record up to the slot's own, or to one that is cut.
+#[tactic(auto, using(crate::proofs::Search::walk_steps))]
 fn walk(trace: &[u8], slot: u64) -> Option<(usize, usize)>
     ensures { result ≡ place_inside trace.now slot }
 {
@@ -134,6 +136,7 @@ pub enum Misshape {
 
 // Judges the shape of the record at a place, for a table of so many cores and of n rows, and gives the place behind it.
 // A place past the end is one where the trace is cut.
+#[tactic(auto, using(crate::proofs::Shapes::shape_found))]
 pub fn shape(cores: u8, n: u8, trace: &[u8], at: usize) -> Result<usize, Misshape>
     ensures { shaped_of result ≡ shape_of cores n trace.now at }
 {
@@ -161,6 +164,7 @@ pub fn shape(cores: u8, n: u8, trace: &[u8], at: usize) -> Result<usize, Misshap
 }
 
 // Raises the count of each row below 32 that the record at a place names, by one however often it does. Rows past the trace's end are not there.
+#[tactic(auto, using(crate::proofs::Raising::rows_raised))]
 pub fn raise(trace: &[u8], place: usize, counts: &mut [u32; 32])
     ensures { counts.new ≡ raised (rows_at trace.now place) 0 counts.old }
 {

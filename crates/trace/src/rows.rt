@@ -3,6 +3,7 @@ ghost use Rattle.std.specs.Prelude.{◌≡◌};
 ghost use Rattle.trace.specs.Shape.{bad_rows};
 
 // Whether one of the row numbers is not below n, or they do not rise.
+#[tactic(auto, using(crate::proofs::Rising::badness_found))]
 pub(crate) fn are_bad(rows: &[u8], n: u8) -> bool
     ensures { result ≡ bad_rows n 0 rows.now }
 {
