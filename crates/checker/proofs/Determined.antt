@@ -7,16 +7,16 @@ use lib.Dec.{eqb}
 use Rattle.std.proofs.Common.{Result, Ok, Err}
 use Rattle.facts.specs.Determined.{Determined, TellsApart}
 use Rattle.facts.proofs.Determined.{by_meaning, by_way_back}
+use Rattle.table.specs.declared.faults.Fault.{Fault}
+use Rattle.table.specs.declared.faults.Fault.TheVariants.{Ends, Format, Cycle, Cores, Boards, RowCount, Tanks, Cost, Weight, Period, Kind, After, Sum}
 use Rattle.trace.specs.Said.{Said}
-use Rattle.checker.specs.declared.TableFault.{TableFault}
-use Rattle.checker.specs.declared.TableFault.TheVariants.{Ends, Format, Cycle, Cores, Boards, RowCount, Tanks, Cost, Weight, Period, Kind, After, Sum}
 use Rattle.checker.specs.declared.Finding.{Finding}
 use Rattle.checker.specs.declared.Finding.TheVariants.{Table, Cut, TooManyCores, TooManyRows, BadRow, Early, Late, Extra, TooLong}
 use Rattle.checker.specs.Answer.{said_of}
 use Rattle.checker.specs.Check.{check_of}
 
 -- the refusal of a table with a number
-fault_for : ℕ → TableFault
+fault_for : ℕ → Fault
 fault_for n =
     cond (eqb n 10) Ends
     (cond (eqb n 11) Format

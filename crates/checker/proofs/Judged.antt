@@ -1,13 +1,12 @@
 -- What judging a record leads to. Assumes nothing.
-use Prim.Native.Nat.{ℕ, ◌+◌, ◌≤◌, ◌<◌}
+use Prim.Native.Nat.{ℕ, ◌+◌, ◌-◌, ◌≤◌, ◌<◌}
 use mathlib.Core.Path.{◌≡◌, refl, sym, ap, subst, ◌∙◌}
 use mathlib.Core.List.{List, [], ◌∷◌}
 use mathlib.Core.Bool.{Bool, true, false}
 use native.Mathlib.Numerals.{add-one}
 use native.Mathlib.Omega.{arith}
 use lib.Dec.{leb}
-use lib.ListN.{length, get_or, drop, length-drop}
-use lib.Seq.{length-take-le}
+use lib.ListN.{length, get_or, take, drop}
 use Rattle.counts.specs.declared.Slot.{Slot}
 use Rattle.facts.specs.First.{Lowest}
 use Rattle.facts.specs.Findings.{◌says◌, FirstFound, NoneFound}
@@ -21,15 +20,16 @@ use Rattle.table.specs.Value.{rows_of}
 use Rattle.pd2.specs.Choice.{row_at}
 use Rattle.pd2.proofs.Readiness.{late_from_deadline}
 use Rattle.trace.specs.Said.{Said, named}
-use Rattle.trace.specs.Records.{picked_at, past_record, named_in, first_place, place_in, rows_of_slot, times_named}
+use Rattle.trace.specs.Records.{rows_at, past_record, named_in, first_place, place_in, rows_of_slot, times_named}
 use Rattle.trace.proofs.Records.{ends_at_next}
 use Rattle.checker.specs.declared.Finding.{Finding}
 use Rattle.checker.specs.declared.giving.Walk.{Walk}
 use Rattle.checker.specs.Answer.{said_by}
 use Rattle.checker.specs.Causes.{too_early, too_late, lowest, any_row}
 use Rattle.checker.specs.Check.{shape_at, time_findings, record_findings}
-use Rattle.checker.specs.Walking.{AreKept, CanJudge, Walked, Read, CanGiveOn, GaveAll, FoundEarly, is_early}
+use Rattle.checker.specs.Walking.{AreKept, CanJudge, Walked, CanGiveOn, GaveAll, FoundEarly, is_early}
 use Rattle.checker.proofs.Kept.{same_kept}
+use Rattle.checker.proofs.Shape.{SoundShape}
 
 -- The lowest row that is so is the one that is named.
 is_lowest : (table : Table) (is : ℕ → Bool) (i : ℕ) → Lowest is (length (rows_of table)) i → i < length (rows_of table) → (any_row table is ≡ true) × (lowest table is ≡ i)
@@ -49,19 +49,23 @@ module _ (table : Table) (s : List ℕ) (slot : Slot) (at : ℕ) (walk : Walk) (
       first_in_front {a = shape_at table.cores (length (rows_of table)) s (place_in s t)} (time_findings table s t)
       (rw (can.can.all, ← can.reached.place) f)
 
-  module _ {rows : List ℕ} (read : Read table.cores table.n s at rows) where
+  module _ {next : ℕ} (shape : SoundShape table.cores table.n s at next) where
     sound : NoneFound (shape_at table.cores (length (rows_of table)) s (place_in s t))
-    sound = rw (can.can.all, ← can.reached.place) read.sound
+    sound = rw (can.can.all, ← can.reached.place) shape.none
+
+    -- the rows that the record names
+    abbrev rows : List ℕ
+    rows = take (next - (at + 2)) (drop (at + 2) s)
 
     rows_are : rows ≡ rows_of_slot s t
-    rows_are = rw (read.all, can.reached.place) refl
+    rows_are = shape.rows ∙ ap (rows_at s) can.reached.place
 
     -- its rows can be given quanta,
     pub can_give : CanGiveOn table rows t walk (λ i. times_named s i t)
     can_give =
         record {
           can = can.can;
-          rise = rw (can.can.all, read.all) read.rise;
+          rise = rw (can.can.all, shape.rows) shape.rise;
           kept = can.reached.kept;
           time = can.time;
         }
@@ -103,7 +107,7 @@ module _ (table : Table) (s : List ℕ) (slot : Slot) (at : ℕ) (walk : Walk) (
 
       -- and else the walk goes on.
       pub goes_on : {time : ℕ} → time ≡ t + 1 → Lowest (λ i. leb (get_or after.dues i 0) time) table.n table.n →
-          Walked table s t after (at + 2 + length rows)
+          Walked table s t after next
       goes_on e low =
           record {
             none =
@@ -111,17 +115,8 @@ module _ (table : Table) (s : List ℕ) (slot : Slot) (at : ℕ) (walk : Walk) (
                 (NoneFound.later no_early (NoneFound.later (none_is table (too_late table s (t + 1)) (same_late (rw can.can.all (rw e at low)))) NoneFound.end));
             reached =
                 record {
-                  place = place_is;
-                  inside = rows_inside;
+                  place = shape.behind ∙ (ap (past_record s) can.reached.place ∙ (ends_at_next s first_place t ∙ ap (place_in s) (sym (add-one t))));
+                  inside = shape.inside;
                   kept = kept_after;
                 };
           }
-        where
-          past : at + 2 + length rows ≡ past_record s at
-          past = omega (arith, read.inside, ap length read.all, length-take-le (picked_at s at) (drop (at + 2) s) (omega (arith, read.inside, length-drop (at + 2) s)))
-
-          place_is : at + 2 + length rows ≡ place_in s (t + 1)
-          place_is = past ∙ (ap (past_record s) can.reached.place ∙ (ends_at_next s first_place t ∙ ap (place_in s) (sym (add-one t))))
-
-          rows_inside : at + 2 + length rows ≤ length s
-          rows_inside = omega (arith, past, read.inside)

@@ -1,4 +1,4 @@
--- The rows that a record names: whether their numbers are bad, and what is done with them if they are not. Assumes nothing.
+-- The rows that a record names, if their numbers are not bad. Assumes nothing.
 use Prim.Native.Nat.{ℕ, ◌+◌, ◌≤◌, ◌<◌}
 use mathlib.Core.Path.{◌≡◌, refl, sym, ap, ◌∙◌}
 use mathlib.Core.List.{List, ◌∷◌}
@@ -15,40 +15,6 @@ use Rattle.trace.proofs.Names.{names_nothing, names_either, named_at, not_named,
 use Rattle.checker.specs.Causes.{bad_rows}
 use Rattle.checker.specs.Walking.{gave_to}
 use Rattle.checker.proofs.Sound.{rising_exactly}
-
--- For the loop that looks for a bad number: of the first j none is, so what is left tells.
-pub record NoneBadYet (rows : List ℕ) (n least j : ℕ) : Type 0 where
-  pub within : j ≤ length rows
-  pub rest : bad_rows n 0 rows ≡ bad_rows n least (drop j rows)
-
-module _ (rows : List ℕ) (n : ℕ) where
-  -- It begins,
-  pub badness_begins : NoneBadYet rows n 0 0
-  badness_begins = record { within = omega arith; rest = refl }
-
-  module _ {least j row : ℕ} (so : NoneBadYet rows n least j) (l : j < length rows) (here : row ≡ get_or rows j 0) where
-    next : drop j rows ≡ row ∷ drop (j + 1) rows
-    next = drop-cons rows j 0 l ∙ rw (here, add-one j) refl
-
-    -- a number that is not below n is bad,
-    pub bad_not_below : n ≤ row → true ≡ bad_rows n 0 rows
-    unfolding bad_rows
-    bad_not_below h = sym (so.rest ∙ rw (next, le-ltb row n h) refl)
-
-    -- so is one that does not rise,
-    pub bad_not_rising : row < n → row < least → true ≡ bad_rows n 0 rows
-    unfolding bad_rows
-    bad_not_rising b h = sym (so.rest ∙ rw (next, lt-ltb row n b, lt-ltb row least h) refl)
-
-    -- and else the loop goes on.
-    pub rises_on : row < n → least ≤ row → NoneBadYet rows n (row + 1) (j + 1)
-    unfolding bad_rows
-    rises_on b h = record { within = omega arith; rest = so.rest ∙ rw (next, lt-ltb row n b, le-ltb row least h) refl }
-
-  -- At the end none is bad.
-  pub none_bad : {least j : ℕ} → NoneBadYet rows n least j → length rows ≤ j → false ≡ bad_rows n 0 rows
-  unfolding bad_rows
-  none_bad {j = j} so h = sym (so.rest ∙ rw (drop_of_length-le rows {i = j} h) refl)
 
 -- For the loop that looks for a named row that fails a test: the first j pass.
 pub record PassSoFar (rows : List ℕ) (a : ℕ → Bool) (j : ℕ) : Type 0 where

@@ -1,26 +1,15 @@
 -- What the trace check answers: number, row and time (01, "What comes back").
 use Rattle.std.specs.Prelude.{ℕ, Result, Ok, Err}
+use Rattle.table.specs.Reply.{fault_number}
+use Rattle.trace.specs.declared.Misshape.{Misshape}
 use Rattle.trace.specs.Said.{Said, bare, named}
-use Rattle.checker.specs.declared.TableFault.{TableFault}
-use Rattle.checker.specs.declared.TableFault.TheVariants.{Ends, Format, Cycle, Cores, Boards, RowCount, Tanks, Cost, Weight, Period, Kind, After, Sum}
+use Rattle.trace.specs.Shaped.{shaped_of}
 use Rattle.checker.specs.declared.Finding.{Finding}
 use Rattle.checker.specs.declared.Finding.TheVariants.{Table, Cut, TooManyCores, TooManyRows, BadRow, Early, Late, Extra, TooLong}
 
--- 01's number for each refusal of the table.
-abbrev pub fault_number : TableFault → ℕ
-fault_number Ends = 10
-fault_number Format = 11
-fault_number Cycle = 12
-fault_number Cores = 13
-fault_number Boards = 14
-fault_number RowCount = 15
-fault_number Tanks = 16
-fault_number Cost = 17
-fault_number Weight = 18
-fault_number Period = 19
-fault_number Kind = 20
-fault_number After = 21
-fault_number Sum = 22
+-- 01's number for what is found in the shape of a record.
+abbrev pub shape_said : Misshape → ℕ
+shape_said misshape = (shaped_of (Err misshape)).number
 
 -- 01's number, row and time for each finding,
 abbrev pub said_by : Finding → Said

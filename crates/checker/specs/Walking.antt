@@ -10,14 +10,14 @@ use Rattle.table.specs.Value.{fault_of, rows_of}
 use Rattle.pd2.specs.Ready.{ready}
 use Rattle.pd2.specs.Share.{CanBe}
 use Rattle.pd2.specs.Choice.{row_at}
-use Rattle.trace.specs.Records.{rows_at, past_record, names, place_in, times_named}
+use Rattle.trace.specs.Records.{names, place_in, times_named}
 use Rattle.checker.specs.declared.Finding.{Finding}
 use Rattle.checker.specs.declared.Finding.TheVariants.{Early}
 use Rattle.checker.specs.declared.giving.Kept.{Kept}
 use Rattle.checker.specs.declared.giving.Walk.{Walk}
 use Rattle.checker.specs.Answer.{said_by}
-use Rattle.checker.specs.Causes.{slot_limit, bad_rows, bad_row}
-use Rattle.checker.specs.Check.{shape_at, record_findings}
+use Rattle.checker.specs.Causes.{slot_limit, bad_rows}
+use Rattle.checker.specs.Check.{record_findings}
 use Rattle.checker.specs.Passes.{first_allowed, due}
 
 -- A table without fault, whose rows stand in their array.
@@ -79,13 +79,6 @@ pub record Walked (table : Table) (s : List ℕ) (t : ℕ) (walk : Walk) (at : �
 
 abbrev pub Leads : Table → List ℕ → ℕ → Walk → Result ℕ Finding → Type 0
 Leads table s t walk result = MatchResult result (Walked table s t walk) (λ finding. FirstFound (record_findings table s t) (said_by finding))
-
--- What reading the record at a place leads to, for a table of M cores and n rows: its rows, if it is sound; or what is found first.
-pub record Read (M n : ℕ) (s : List ℕ) (at : ℕ) (rows : List ℕ) : Type 0 where
-  pub sound : NoneFound (shape_at M n s at)
-  pub all : rows ≡ rows_at s at
-  pub inside : past_record s at ≤ length s
-  pub rise : bad_row n s at ≡ false
 
 -- Row i is among the rows named, and is not ready in slot t with the quanta that it has been given.
 abbrev pub is_early : Table → (ℕ → ℕ) → List ℕ → ℕ → ℕ → Bool

@@ -5,36 +5,21 @@ mod giving;
 mod record;
 
 ghost use Rattle.std.specs.Prelude.{◌≡◌, ◌≤◌};
-ghost use Rattle.checker.specs.Answer.{said_of, fault_number};
+ghost use Rattle.table.specs.Reply.{fault_number};
+ghost use Rattle.trace.specs.Said.{bare};
+ghost use Rattle.checker.specs.Answer.{shape_said, said_by, said_of};
 ghost use Rattle.checker.specs.Check.{trace_said, check_of};
 ghost use Rattle.checker.specs.Walking.{CanCheck};
 
 use counts::Slot;
 use giving::Walk;
-use table::Table;
-
-// Why a table was refused.
-#[derive(Clone, Copy, PartialEq, Eq)]
-pub enum TableFault {
-    Ends,
-    Format,
-    Cycle,
-    Cores,
-    Boards,
-    RowCount,
-    Tanks,
-    Cost,
-    Weight,
-    Period,
-    Kind,
-    After,
-    Sum,
-}
+use table::{Fault, Table};
+use trace::Misshape;
 
 // What is found: by the table, or in the trace, first.
 #[derive(Clone, Copy, PartialEq, Eq)]
 pub enum Finding {
-    Table(TableFault),
+    Table(Fault),
     Cut,
     TooManyCores,
     TooManyRows,
@@ -48,6 +33,27 @@ pub enum Finding {
 // What the check answers: the trace passes, or what is found first.
 pub type Answer = Result<(), Finding>;
 
+impl From<Fault> for Finding {
+    ghost from_gives = { λ fault finding. said_by finding ≡ bare (fault_number fault) };
+
+    fn from(fault: Fault) -> Finding {
+        Finding::Table(fault)
+    }
+}
+
+impl From<Misshape> for Finding {
+    ghost from_gives = { λ misshape finding. said_by finding ≡ bare (shape_said misshape) };
+
+    fn from(misshape: Misshape) -> Finding {
+        match misshape {
+            Misshape::Cut => Finding::Cut,
+            Misshape::TooManyCores => Finding::TooManyCores,
+            Misshape::TooManyRows => Finding::TooManyRows,
+            Misshape::BadRow => Finding::BadRow,
+        }
+    }
+}
+
 // The most slots that a trace may have, whatever the time limit is: so the slots of a check have 32 bits, as their count has.
 const SLOT_LIMIT: u32 = 1_000_000_000;
 
@@ -55,11 +61,8 @@ const SLOT_LIMIT: u32 = 1_000_000_000;
 pub fn check(table: &[u8], trace: &[u8]) -> Answer
     ensures { said_of result ≡ check_of table.now trace.now }
 {
-    let reading = table::read(table);
-    if reading.number != 0 {
-        return Err(Finding::Table(fault_of(reading.number)));
-    }
-    check_trace(&reading.table, trace)
+    let table = table::read(table)?;
+    check_trace(&table, trace)
 }
 
 // The number of an answer.
@@ -70,7 +73,7 @@ pub fn number(answer: Answer) -> u8
         return 0;
     };
     match finding {
-        Finding::Table(fault) => fault_number(fault),
+        Finding::Table(fault) => fault.number(),
         Finding::Cut => 40,
         Finding::TooManyCores => 41,
         Finding::TooManyRows => 42,
@@ -79,48 +82,6 @@ pub fn number(answer: Answer) -> u8
         Finding::Late { row: _, time: _ } => 45,
         Finding::Extra => 46,
         Finding::TooLong => 47,
-    }
-}
-
-fn fault_number(fault: TableFault) -> u8
-    ensures { result ≡ fault_number fault }
-{
-    match fault {
-        TableFault::Ends => 10,
-        TableFault::Format => 11,
-        TableFault::Cycle => 12,
-        TableFault::Cores => 13,
-        TableFault::Boards => 14,
-        TableFault::RowCount => 15,
-        TableFault::Tanks => 16,
-        TableFault::Cost => 17,
-        TableFault::Weight => 18,
-        TableFault::Period => 19,
-        TableFault::Kind => 20,
-        TableFault::After => 21,
-        TableFault::Sum => 22,
-    }
-}
-
-// The refusal of a table, by its number.
-fn fault_of(number: u8) -> TableFault
-    requires { (10 ≤ number) × (number ≤ 22) }
-    ensures { fault_number result ≡ number }
-{
-    match number {
-        10 => TableFault::Ends,
-        11 => TableFault::Format,
-        12 => TableFault::Cycle,
-        13 => TableFault::Cores,
-        14 => TableFault::Boards,
-        15 => TableFault::RowCount,
-        16 => TableFault::Tanks,
-        17 => TableFault::Cost,
-        18 => TableFault::Weight,
-        19 => TableFault::Period,
-        20 => TableFault::Kind,
-        21 => TableFault::After,
-        _ => TableFault::Sum,
     }
 }
 

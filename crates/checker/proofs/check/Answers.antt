@@ -1,14 +1,14 @@
-use Rattle.checker.proofs.Checked.{refusal_is_numbered, refusal_is_said, taken_can_be_checked, trace_decides}
+use Rattle.std.proofs.lemmas.Result.{err_from_is_err_and}
+use Rattle.checker.proofs.Checked.{refusal_is_said, taken_can_be_checked, trace_decides}
 use Rattle.checker.proofs.check.Goals as goal
 
-pub fault_of-requires : goal.fault_of-requires
-fault_of-requires c = refusal_is_numbered c.args.table.now c.args.trace.now c.read-reading.ensures c.if-reading-ne0.true
-
-pub returns-then-reading-ne0 : goal.returns-then-reading-ne0
-returns-then-reading-ne0 c = refusal_is_said c.args.table.now c.args.trace.now c.read-reading.ensures c.if-reading-ne0.true c.fault_of.ensures
+pub returns-in_err-table : goal.returns-in_err-table
+returns-in_err-table c =
+    let p = err_from_is_err_and c.from_residual.result c.from_residual.ensures.1 in
+    rw (p.1, p.2) (refusal_is_said _ _ _ c.in_err-table.ensures)
 
 pub check_trace-requires : goal.check_trace-requires
-check_trace-requires c = taken_can_be_checked c.args.table.now c.args.trace.now c.read-reading.ensures c.if-reading-ne0.false
+check_trace-requires c = taken_can_be_checked _ c.args.trace.now c.in_ok-table.ensures
 
 pub returns : goal.returns
-returns c = trace_decides c.args.table.now c.args.trace.now c.read-reading.ensures c.if-reading-ne0.false c.check_trace.ensures
+returns c = trace_decides _ _ c.in_ok-table.ensures c.check_trace.ensures
