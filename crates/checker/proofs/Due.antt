@@ -2,7 +2,7 @@
 use Prim.Native.Nat.{ℕ, ◌≤◌, ◌<◌}
 use mathlib.Core.Path.{◌≡◌, sym, ap, ◌∙◌}
 use mathlib.Core.List.{List}
-use mathlib.Core.Bool.{Bool, true, false}
+use mathlib.Core.Bool.{Bool, false}
 use native.Mathlib.Decide.{dec_lt}
 use native.Mathlib.Omega.{arith}
 use borrow.Author.Tests.{lt-ltb, le-ltb}
@@ -12,8 +12,7 @@ use lib.Seq.{length-take-le, get_or-take}
 use Rattle.std.proofs.Common.{None, position}
 use Rattle.std.specs.List.{position_or_len}
 use Rattle.std.proofs.lemmas.List.Sums.{passes_at_first, fails_before_first}
-use Rattle.facts.specs.First.{Lowest}
-use Rattle.facts.specs.Counting.{how_many, some}
+use Rattle.facts.specs.Counting.{how_many}
 use Rattle.facts.proofs.Some.{each_fails}
 use Rattle.checker.specs.Walking.{IsLowest}
 

@@ -6,7 +6,7 @@ use mathlib.Core.Bool.{false, not, ◌||◌}
 use native.Mathlib.Omega.{arith}
 use lib.Dec.{ltb}
 use lib.ListN.{length, take, drop}
-use Rattle.std.specs.Prelude.{Ok, Err}
+use Rattle.std.specs.Prelude.{Err}
 use Rattle.facts.specs.Findings.{◌says◌, FirstFound, NoneFound}
 use Rattle.trace.specs.declared.Misshape.{Misshape}
 use Rattle.trace.specs.declared.Misshape.TheVariants.{Cut, TooManyCores, TooManyRows, BadRow}
