@@ -75,13 +75,13 @@ every_promise_determines =
       cores_names_past = λ free cores. by_value;
       cores_first = λ k. by_value;
       cores_place = λ rows free last. by_value;
-      dispatcher_answer_told = λ self. dispatcher.told_is_determined self;
+      dispatcher_told_of = λ answer. dispatcher.told_is_determined answer;
       dispatcher_state_fresh = λ table. dispatcher.fresh_is_determined table;
       dispatcher_state_is_broken = λ self. by_value;
       dispatcher_state_favoured = λ self. by_value;
       dispatcher_state_slot = λ self free buffer place a b p q.
           dispatcher.slot_is_determined self free buffer place a b (p.0, (p.1, (p.2, p.3))) (q.0, (q.1, (q.2, q.3)));
-      dispatcher_state_refusal = λ self free buffer place. by_meaning dispatcher.answers_tell_apart;
+      dispatcher_state_refusal = λ self free buffer place. dispatcher.refusal_is_determined;
       why_answer_told = λ self. by_value;
       why_of_row = λ state k row. by_value;
       checker_check = λ table trace. check_is_determined table trace;

@@ -7,7 +7,8 @@ use Rattle.pd2.specs.Verdict.{is_yes, verdict}
 use Rattle.trace.specs.declared.NoRoom.{NoRoom}
 use Rattle.trace.specs.Record.{stored_number}
 use Rattle.trace.specs.Said.{bare, named}
-use Rattle.dispatcher.specs.declared.Answer.TheVariants as slot
+use Rattle.dispatcher.specs.declared.Ran.TheVariants as ran
+use Rattle.dispatcher.specs.declared.Refusal.TheVariants as slot
 use Rattle.dispatcher.specs.Answer.{said_of}
 use Rattle.why.specs.declared.Rule.{Rule}
 use Rattle.why.specs.declared.Rule.TheVariants as rule
@@ -35,13 +36,13 @@ pub record StoredCases : Type 0 where
 
 -- a slot: "names the lowest such row and that time"
 pub record SlotCases : Type 0 where
-  pub done : said_of slot.Done ≡ bare 0
-  pub late : (row : ℕ) (time : Slot) → said_of (slot.Late row time) ≡ named 1 row time.0
-  pub broken : said_of slot.Broken ≡ bare 30
-  pub stopped : said_of slot.Stopped ≡ bare 31
-  pub at_limit : said_of slot.AtLimit ≡ bare 32
-  pub no_such_core : said_of slot.NoSuchCore ≡ bare 35
-  pub no_room : said_of slot.NoRoom ≡ bare 34
+  pub done : said_of (Ok ran.InTime) ≡ bare 0
+  pub late : (row : ℕ) (time : Slot) → said_of (Ok (ran.Late row time)) ≡ named 1 row time.0
+  pub broken : said_of (Err slot.Broken) ≡ bare 30
+  pub stopped : said_of (Err slot.Stopped) ≡ bare 31
+  pub at_limit : said_of (Err slot.AtLimit) ≡ bare 32
+  pub no_such_core : said_of (Err slot.NoSuchCore) ≡ bare 35
+  pub no_room : said_of (Err slot.NoRoom) ≡ bare 34
 
 -- why a row waits: number, reason, slot, row and rule. "picked; not ready, with the first slot in which it will be; no core free; or passed over", in this order,
 -- and for the last "the lowest-ranked picked row and the rule that put it ahead (deadline, bit, group deadline, row number)" (02, Two)

@@ -11,12 +11,13 @@ use Rattle.table.specs.declared.faults.Unwritten.{Unwritten}
 use Rattle.trace.specs.declared.NoRoom.{NoRoom}
 use Rattle.cores.specs.declared.Placement.{Placement}
 use Rattle.dispatcher.specs.declared.State.{State}
-use Rattle.dispatcher.specs.declared.Answer.{Answer}
+use Rattle.dispatcher.specs.declared.Refusal.{Refusal}
+use Rattle.dispatcher.specs.declared.Ran.{Ran}
 use Rattle.dispatcher.specs.declared.Outcome.{Outcome}
 use Rattle.why.specs.declared.Answer.{Answer as WhyAnswer}
 use Rattle.checker.specs.declared.Finding.{Finding}
 use Rattle.printer.specs.declared.Printed.{Printed}
-use Rattle.demands.specs.Promises.{counts·Slot·at, counts·Slot·time, counts·Slot·later, counts·Slot·before, counts·Slot·since, counts·Quanta·of, counts·Quanta·count, counts·Quanta·one_more, counts·Quanta·next_subtask, counts·Subtask·numbered, counts·Subtask·number, counts·Subtask·next, counts·Subtask·quanta_before, fields·byte, fields·half, fields·word, fields·long, fields·put, windows·window, windows·window_by_walk, windows·next_due, windows·next_start, windows·next_job_start, windows·next_group_deadline, table·Fault·number, table·read, table·fault, table·write, pd2·is_yes, pd2·origin, pd2·ready, pd2·late, pd2·within, pd2·give, pd2·lowest_late, trace·write, trace·record, trace·begins, trace·length_inside, trace·shape, trace·raise, summary·quanta_before, choice·picks, choice·first_left, cores·Placement·nobody, cores·Placement·is_faulty, cores·Placement·ran, cores·how_many, cores·names_past, cores·first, cores·place, dispatcher·Answer·told, dispatcher·State·fresh, dispatcher·State·is_broken, dispatcher·State·favoured, dispatcher·State·slot, dispatcher·State·refusal, why·Answer·told, why·of_row, checker·check, checker·number, values·row, values·rows, values·quanta, values·table, values·state, values·put_quanta, values·put_table, values·put_placement, values·put_state, firmware·zb_table_check, firmware·zb_trace_check, printer·Printed·length, printer·print, slots_run·zb_slots, desk_run·zb_run, desk_run·zb_judge}
+use Rattle.demands.specs.Promises.{counts·Slot·at, counts·Slot·time, counts·Slot·later, counts·Slot·before, counts·Slot·since, counts·Quanta·of, counts·Quanta·count, counts·Quanta·one_more, counts·Quanta·next_subtask, counts·Subtask·numbered, counts·Subtask·number, counts·Subtask·next, counts·Subtask·quanta_before, fields·byte, fields·half, fields·word, fields·long, fields·put, windows·window, windows·window_by_walk, windows·next_due, windows·next_start, windows·next_job_start, windows·next_group_deadline, table·Fault·number, table·read, table·fault, table·write, pd2·is_yes, pd2·origin, pd2·ready, pd2·late, pd2·within, pd2·give, pd2·lowest_late, trace·write, trace·record, trace·begins, trace·length_inside, trace·shape, trace·raise, summary·quanta_before, choice·picks, choice·first_left, cores·Placement·nobody, cores·Placement·is_faulty, cores·Placement·ran, cores·how_many, cores·names_past, cores·first, cores·place, dispatcher·Told·of, dispatcher·State·fresh, dispatcher·State·is_broken, dispatcher·State·favoured, dispatcher·State·slot, dispatcher·State·refusal, why·Answer·told, why·of_row, checker·check, checker·number, values·row, values·rows, values·quanta, values·table, values·state, values·put_quanta, values·put_table, values·put_placement, values·put_state, firmware·zb_table_check, firmware·zb_trace_check, printer·Printed·length, printer·print, slots_run·zb_slots, desk_run·zb_run, desk_run·zb_judge}
 
 pub record EveryPromiseDetermines : Type 0 where
   pub counts_slot_at : (time : ℕ) → Determined (counts·Slot·at time)
@@ -70,7 +71,7 @@ pub record EveryPromiseDetermines : Type 0 where
   pub cores_names_past : (free : List Bool) (cores : ℕ) → Determined (cores·names_past free cores)
   pub cores_first : (k : ℕ) → Determined (cores·first k)
   pub cores_place : (rows : List ℕ) (free : List Bool) (last : Placement) → Determined (cores·place rows free last)
-  pub dispatcher_answer_told : (self : Answer) → Determined (dispatcher·Answer·told self)
+  pub dispatcher_told_of : (answer : Result Ran Refusal) → Determined (dispatcher·Told·of answer)
   pub dispatcher_state_fresh : (table : Table) → Determined (dispatcher·State·fresh table)
   pub dispatcher_state_is_broken : (self : State) → Determined (dispatcher·State·is_broken self)
   pub dispatcher_state_favoured : (self : State) → Determined (dispatcher·State·favoured self)

@@ -30,7 +30,6 @@ use Rattle.pd2.specs.Verdict.{is_yes, answered, verdict}
 use Rattle.pd2.specs.Rows.{GaveMarked, says_late_in}
 use Rattle.trace.specs.declared.NoRoom.{NoRoom}
 use Rattle.trace.specs.declared.Misshape.{Misshape}
-use Rattle.trace.specs.Said.{bare}
 use Rattle.trace.specs.Records.{rows_at}
 use Rattle.trace.specs.Search.{length_inside, some_length}
 use Rattle.trace.specs.Shaped.{shaped_of, shape_of}
@@ -48,11 +47,12 @@ use Rattle.cores.specs.Placement.{nobody, ran_marks}
 use Rattle.cores.specs.Cores.{placed_for}
 use Rattle.cores.specs.Fault.{below, misremembers}
 use Rattle.dispatcher.specs.declared.State.{State}
-use Rattle.dispatcher.specs.declared.Answer.{Answer}
+use Rattle.dispatcher.specs.declared.Refusal.{Refusal}
+use Rattle.dispatcher.specs.declared.Ran.{Ran}
 use Rattle.dispatcher.specs.declared.Told.{Told}
 use Rattle.dispatcher.specs.declared.Outcome.{Outcome}
 use Rattle.dispatcher.specs.State.{time_of, fresh_of}
-use Rattle.dispatcher.specs.Answer.{said_of, said_by}
+use Rattle.dispatcher.specs.Answer.{number_of, said_of, said_by}
 use Rattle.dispatcher.specs.Slot.{slot_of, refusal}
 use Rattle.dispatcher.specs.Favoured.{favoured_marks}
 use Rattle.dispatcher.specs.Broken.{broken}
@@ -277,9 +277,9 @@ cores·first k r = r ≡ first_cores k
 abbrev pub cores·place : List ℕ → List Bool → Placement → Placement → Type 0
 cores·place rows free last r = r ≡ placed_for last (marked free) rows
 
--- dispatcher::Answer::told
-abbrev pub dispatcher·Answer·told : Answer → Told → Type 0
-dispatcher·Answer·told self r = said_by r ≡ said_of self
+-- dispatcher::Told::of
+abbrev pub dispatcher·Told·of : Result Ran Refusal → Told → Type 0
+dispatcher·Told·of answer r = said_by r ≡ said_of answer
 
 -- dispatcher::State::fresh
 abbrev pub dispatcher·State·fresh : Table → State → Type 0
@@ -302,8 +302,8 @@ dispatcher·State·slot self free buffer place r buffer_new =
     × (buffer_new ≡ (slot_of self free buffer place).bytes)
 
 -- dispatcher::State::refusal
-abbrev pub dispatcher·State·refusal : State → List Bool → List ℕ → ℕ → Answer → Type 0
-dispatcher·State·refusal self free buffer place r = said_of r ≡ bare (refusal self free buffer place)
+abbrev pub dispatcher·State·refusal : State → List Bool → List ℕ → ℕ → Option Refusal → Type 0
+dispatcher·State·refusal self free buffer place r = number_of r ≡ refusal self free buffer place
 
 -- why::Answer::told
 abbrev pub why·Answer·told : WhyAnswer → ToldWhy → Type 0
