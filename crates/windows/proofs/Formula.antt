@@ -226,6 +226,14 @@ module _ (e p o i a lacking : ℕ) (he : 0 < e) (sum : i * p ≡ lacking + a * e
 
 -- for the function
 
+-- Past the test of the bit the row is below weight one.
+pub below_one : {e p o i : ℕ} → Fits e p o i → (bit e p i ≡ 0 → ⊥) → e < p
+below_one {e} {p} {o} {i} fits one = go (dec_lt e p)
+  where
+    go : Dec (e < p) → e < p
+    go (yes l) = l
+    go (no l) = absurd (one (whole_has_bit_0 e p i (omega (arith, fits.weight))))
+
 module _ {e p o i : ℕ} (fits : Fits e p o i) (near : i ≤ reach + 1) (half : p ≤ 2 * e) {d : ℕ} (due : d ≡ deadline e p o i - o) where
   -- p - e is at most e, so d·(p-e) is at most d·e, and that is below (i+1)·p.
   rest_is_near : d * (p - e) < (i + 1) * p
@@ -244,22 +252,15 @@ module _ {e p o i : ℕ} (fits : Fits e p o i) (near : i ≤ reach + 1) (half : 
       let rounds = ceil_is_near (d * (p - e)) {b = p} (omega (arith, fits.cost, fits.weight)) in
       omega (arith, rest_is_near, product_fits {n = i + 2} {p = p} (omega (arith, near)) fits.period)
 
-  -- Past the test of the bit the row is below weight one, and the formula gives its group deadline.
-  module _ (one : bit e p i ≡ 0 → ⊥) where
-    pub below_one : e < p
-    below_one = go (dec_lt e p)
-      where
-        go : Dec (e < p) → e < p
-        go (yes l) = l
-        go (no l) = absurd (one (whole_has_bit_0 e p i (omega (arith, fits.weight))))
-
+  -- Below weight one the formula gives its group deadline.
+  module _ (below : e < p) where
     pub formula_is : {g slots t : ℕ} → g ≡ ceil_div (d * (p - e)) p → slots ≡ ceil_div (g * p) (p - e) → t ≡ kept (o + slots) → t ≡ group_deadline e p o i
     unfolding group_by_formula formula gaps
     formula_is {g} {slots} {t} g_is slots_are t_is =
-        let near = ceil_is_near (g * p) {b = p - e} (omega (arith, below_one)) in
-        let few : slots * 1 ≤ slots * (p - e) = mul-le-mul_left {m = 1} {n = p - e} slots (omega (arith, below_one)) in
+        let near = ceil_is_near (g * p) {b = p - e} (omega arith) in
+        let few : slots * 1 ≤ slots * (p - e) = mul-le-mul_left {m = 1} {n = p - e} slots (omega arith) in
         let same : slots * (p - e) ≡ ceil_div (g * p) (p - e) * (p - e) = ap (λ x. x * (p - e)) slots_are in
         let exact : t ≡ o + slots = omega (arith, gaps_product_fits g_is, fits.origin, fits.period) in
         exact
         ∙ ap (λ x. o + x) (slots_are ∙ ap (λ x. ceil_div (x * p) (p - e)) (g_is ∙ ap (λ x. ceil_div (x * (p - e)) p) due))
-        ∙ formula_gives_walk e p o i fits.cost below_one half fits.first
+        ∙ formula_gives_walk e p o i fits.cost below half fits.first

@@ -1,35 +1,21 @@
 -- What the answers about a next window mean. Assumes nothing.
 use Rattle.std.specs.Prelude.{Option, Some, None}
 use mathlib.Core.Path.{◌≡◌, refl, sym, ◌∙◌}
-use mathlib.Core.Bool.{Bool, true, false, ◌&&◌}
+use mathlib.Core.Bool.{Bool, true, false}
 use Prim.Native.Nat.{ℕ, ◌+◌}
-use borrow.Author.Tests.{ltb-true, leb-true, lt-ltb, le-leb}
-use lib.Dec.{ltb, leb}
+use borrow.Author.Tests.{lt-ltb, le-leb}
 use Rattle.facts.specs.Determined.{Determined}
-use Rattle.facts.proofs.Tests.{both}
 use Rattle.facts.proofs.Determined.{by_value}
 use Rattle.counts.specs.declared.Slot.{Slot}
 use Rattle.windows.specs.declared.times.Due.{Due}
 use Rattle.windows.specs.Windows.{deadline, bit}
-use Rattle.windows.specs.Next.{reach, next_answered, next_due, next}
+use Rattle.windows.specs.Next.{next_answered, next_due, next}
 use Rattle.windows.specs.Fits.{InReach}
 
--- within reach is answered, and the other way round
+-- within reach is answered
 in_reach_is_answered : {e p o q : ℕ} → InReach e p o q → next_answered e p o q ≡ true
 in_reach_is_answered r =
     simp (lt-ltb _ _ r.cost, le-leb _ _ r.weight, le-leb _ _ r.origin, le-leb _ _ r.quanta)
-
-answered_is_in_reach : (e p o q : ℕ) → next_answered e p o q ≡ true → InReach e p o q
-answered_is_in_reach e p o q y =
-    let quanta = both (ltb 0 e && leb e p && leb o reach) (leb q reach) y in
-    let origin = both (ltb 0 e && leb e p) (leb o reach) quanta.0 in
-    let row = both (ltb 0 e) (leb e p) origin.0 in
-    record {
-      cost = ltb-true 0 e row.0;
-      weight = leb-true e p row.1;
-      origin = leb-true o reach origin.1;
-      quanta = leb-true q reach quanta.1;
-    }
 
 -- for callers
 

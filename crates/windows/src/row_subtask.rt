@@ -123,6 +123,7 @@ impl RowSubtask {
     }
 
     // Whether its row is light, of weight below one half.
+    #[tactic(auto, using(facts::proofs::Tests::below_is_not), unfolding(crate::specs::Group::heavy))]
     fn is_light(self) -> bool
         ensures { result ≡ not (heavy self.cost self.period) }
     {

@@ -1,6 +1,6 @@
 use mathlib.Core.Path.{◌≡◌, sym, ◌∙◌}
 use mathlib.Core.Logic.{⊎_elim}
-use Prim.Native.Nat.{ℕ, ◌+◌, ◌*◌, ◌≤◌, ◌<◌}
+use Prim.Native.Nat.{ℕ, ◌+◌, ◌≤◌}
 use native.Mathlib.Omega.{arith}
 use Rattle.windows.specs.Fits.{Fits}
 use Rattle.windows.specs.Next.{reach}
@@ -35,7 +35,7 @@ invariant_of-here c = record { fits = fits_on_walk c.args.self.fits c.requires c
 pub loop-self-smaller : goal.loop-self-smaller
 loop-self-smaller c =
     let fits = fits_on_walk c.args.self.fits c.requires c.loop-self.invariant.0 in
-    let next_is : c.next-number.result.0 ≡ c.loop-self.number.0 + 1 = omega (arith, c.next-number.ensures, fits.last) in
+    let next_is : c.next-number.result.0 ≡ c.loop-self.number.0 + 1 = omega arith in
     omega (arith, next_is, walk_is_near _ _ _ _ _ fits.cost c.loop-self.invariant.0)
 
 pub loop-self-preserved : goal.loop-self-preserved
@@ -43,39 +43,34 @@ unfolding window_length
 loop-self-preserved c =
     let fits = fits_on_walk c.args.self.fits c.requires c.loop-self.invariant.0 in
     let no-bit : bit c.args.self.cost c.args.self.period c.loop-self.number.0 ≡ 0 → ⊥ = λ z. c.if-due-eq0.false (c.due-due.ensures.1 ∙ z) in
-    let next_is : c.next-number.result.0 ≡ c.loop-self.number.0 + 1 = omega (arith, c.next-number.ensures, fits.last) in
+    let next_is : c.next-number.result.0 ≡ c.loop-self.number.0 + 1 = omega arith in
     let args = c.args.self in
-    let end = c.due-due.ensures.0 in
     let next_start = next_start_is_deadline_less_bit args.cost args.period args.origin.0 fits.cost c.loop-self.number.0 in
     let one = bit_is_0_or_1 args.cost args.period c.loop-self.number.0 in
     rw next_is (
       walks_on _ _ _ _ _ fits.cost c.loop-self.invariant.0 no-bit
           (elim c.else-number.branch [
-            | else-number-via-then-number+else-since-eq3 w ↦ λ l k. w.if-since-eq3.false (omega (arith, w.since.ensures, c.loop-self.invariant.1, end))
-            | else-number-via-else-number w ↦ λ l k. omega (arith, w.if-number.false, c.number-in-loop-self.ensures, c.number.ensures)
+            | else-number-via-then-number+else-since-eq3 w ↦ λ l k. w.if-since-eq3.false (omega arith)
+            | else-number-via-else-number w ↦ λ l k. omega arith
           ]),
-      ⊎_elim (λ z. absurd (no-bit z)) (λ b. omega (arith, c.before-start.ensures, end, next_start, b)) one,
+      ⊎_elim (λ z. absurd (no-bit z)) (λ b. omega arith) one,
     )
 
 pub returns-then-due-eq0 : goal.returns-then-due-eq0
 returns-then-due-eq0 c =
     let fits = fits_on_walk c.args.self.fits c.requires c.loop-self.invariant.0 in
-    let is-heavy : let x = c.args.self in x.period ≤ 2 * x.cost = said_heavy _ _ c.is_light.ensures c.if-is_light.false in
+    let half = said_heavy _ _ c.is_light.ensures c.if-is_light.false in
     c.due-due.ensures.0
-    ∙ ends_by_bit _ _ _ _ _ fits.cost c.loop-self.invariant.0 is-heavy (sym c.due-due.ensures.1 ∙ c.if-due-eq0.true)
+    ∙ ends_by_bit _ _ _ _ _ fits.cost c.loop-self.invariant.0 half (sym c.due-due.ensures.1 ∙ c.if-due-eq0.true)
 
 pub returns-then-since-eq3 : goal.returns-then-since-eq3
 unfolding window_length
 returns-then-since-eq3 c =
     let fits = fits_on_walk c.args.self.fits c.requires c.loop-self.invariant.0 in
-    let is-heavy : let x = c.args.self in x.period ≤ 2 * x.cost = said_heavy _ _ c.is_light.ensures c.if-is_light.false in
+    let half = said_heavy _ _ c.is_light.ensures c.if-is_light.false in
     let no-bit : bit c.args.self.cost c.args.self.period c.loop-self.number.0 ≡ 0 → ⊥ = λ z. c.if-due-eq0.false (c.due-due.ensures.1 ∙ z) in
-    let past : c.args.self.number.0 < c.loop-self.number.0 =
-    omega (arith, c.if-number.true, c.number-in-loop-self.ensures, c.number.ensures) in
     omega (
       arith,
-      c.before-then-since-eq3.ensures,
-      c.due-due.ensures.0,
-      ends_by_length _ _ _ _ _ fits.cost c.loop-self.invariant.0 is-heavy no-bit past
-          (omega (arith, c.if-since-eq3.true, c.since.ensures, c.loop-self.invariant.1, c.due-due.ensures.0)),
+      ends_by_length _ _ _ _ _ fits.cost c.loop-self.invariant.0 half no-bit (omega arith)
+          (omega (arith, c.due-due.ensures.0)),
     )
