@@ -2,35 +2,30 @@
 use Prim.Native.Nat.{ℕ, ◌+◌, ◌*◌, ◌≤◌, ◌<◌}
 use mathlib.Core.Path.{◌≡◌, refl, sym, ap, subst, ◌∙◌}
 use mathlib.Core.List.{List, [], ◌∷◌, ◌++◌}
-use mathlib.Core.Bool.{Bool, true, false, not, true≢false, or-false}
+use mathlib.Core.Bool.{Bool, true, false, true≢false, or-false}
 use native.Mathlib.Decide.{dec_lt, ℕ_discrete}
 use native.Mathlib.Omega.{arith}
-use borrow.Author.Tests.{ltb-false, not-false}
 use lib.Dec.{ltb}
-use lib.ListN.{length, get_or, take, set, length-append, length-set, get_or-append}
-use lib.Seq.{get_or-set_same, get_or-set_other, get_or-append_seam}
+use lib.ListN.{length, get_or, take, set, length-append, length-set, length-take, get_or-append}
+use lib.Seq.{get_or-set_same, get_or-set_other, get_or-append_seam, get_or-take}
 use Rattle.facts.specs.Counting.{those, some}
 use Rattle.facts.proofs.Counting.{same_count, no_more_than_all}
 use Rattle.facts.proofs.Listing.{listed_if_passed, unlisted_if_failed, none_listed, as_many_listed, listed_pass}
-use Rattle.facts.proofs.Tests.{neither_holds}
 use Rattle.counts.specs.declared.Quanta.{Quanta}
 use Rattle.counts.specs.Limits.{most}
 use Rattle.counts.specs.Numbers.{numbers_of}
-use Rattle.counts.proofs.Numbers.{number_there}
+use Rattle.counts.proofs.Numbers.{number_at}
 use Rattle.table.specs.declared.Row.{Row}
 use Rattle.pd2.specs.Ready.{ready}
 use Rattle.pd2.specs.Order.{rank_of, with_favour}
-use Rattle.pd2.specs.Share.{within}
 use Rattle.pd2.specs.Choice.{row_at, quanta_at, ready_in}
-use Rattle.pd2.proofs.Choice.{row_there}
 use Rattle.choice.specs.Keys.{front_of, end_of, key_for, HasKey, key_in}
 use Rattle.choice.proofs.KeyOrder.{end_fits}
 use Rattle.dispatcher.specs.declared.Stand.{Stand}
 use Rattle.dispatcher.specs.declared.Stand.TheVariants.{Breaks, Waits, Ready}
 use Rattle.dispatcher.specs.Broken.{of_row_at}
 use Rattle.dispatcher.specs.Usable.{broken_row, Testable}
-use Rattle.dispatcher.specs.Looking.{exceeding, stand_of, CanBeReady, EndsAre, key_at, ReadyKeys, LooksAt}
-use Rattle.dispatcher.proofs.Asked.{can_be_there, as_read}
+use Rattle.dispatcher.specs.Looking.{exceeding, stand_of, EndsAre, key_at, ReadyKeys}
 
 -- What is said of a row, by its stand.
 pub record Told (s : Stand) (breaks is_ready : Bool) : Type 0 where
@@ -161,42 +156,33 @@ module _ (rows : List Row) (quanta : List ℕ) (ends : List ℕ) (t : ℕ) where
 pub end_is_small : {favours : ℕ → Bool} {ends : List ℕ} → EndsAre favours ends → {i : ℕ} → i < 32 → get_or ends i 0 < 64
 end_is_small {favours} says {i} l = omega (arith, says.each i l, end_fits (favours i) i l)
 
+-- What is said of row i,
+pub told : (rows : List Row) (quanta : List ℕ) (i : ℕ) {time t given : ℕ} {stand : Stand} → time ≡ t → given ≡ quanta_at quanta i →
+    stand ≡ stand_of (broken_row false time (row_at rows i) given) (ready (row_at rows i) given time) →
+    Told stand (of_row_at rows quanta (broken_row false t) i) (ready_in rows quanta t i)
+told rows quanta i now many is = record { is = rw (now, many) at is }
+
+-- and its key.
+pub key_told : (rows : List Row) (quanta ends : List ℕ) (i : ℕ) {given key : ℕ} → given ≡ quanta_at quanta i →
+    (key ≡ front_of (rank_of (row_at rows i) 0 given) * 64 + get_or ends i 0) × (key < most) × HasKey (rank_of (row_at rows i) 0 given) →
+    (key ≡ key_with rows quanta ends i) × (key < most) × HasKey (rank_of (row_at rows i) 0 (quanta_at quanta i))
+key_told rows quanta ends i many is = rw many at is
+
 module _ {rows : List Row} {quanta : List Quanta} {n t : ℕ} (can : Testable rows quanta n t) where
-  -- A row as the code reads it.
-  module _ (r : Row) (q : Quanta) {i : ℕ} (l : i < length (take n rows)) where
-    there : i < length quanta
-    there = omega (arith, l, can.place.few, can.place.all, can.place.long)
-
-    -- A ready row is one of the state,
-    pub can_be_ready : broken_row false t (get_or rows i r) (get_or quanta i q).0 ≡ false → ready (get_or rows i r) (get_or quanta i q).0 t ≡ true →
-        CanBeReady (get_or rows i r) (get_or quanta i q).0 t
-    can_be_ready whole next =
-        let sound = neither_holds (ltb t (get_or quanta i q).0) (not (within (get_or rows i r) (get_or quanta i q).0 t)) whole in
-        record {
-          can = can_be_there can l r;
-          quanta = ltb-false t (get_or quanta i q).0 sound.0;
-          time = can.time;
-          inside = not-false _ sound.1;
-          next = next;
-        }
-
-    pub broken_as_read : (stopped : Bool) → broken_row stopped t (get_or rows i r) (get_or quanta i q).0 ≡ of_row_at (take n rows) (numbers_of quanta) (broken_row stopped t) i
-    broken_as_read stopped = as_read can.place l r q (broken_row stopped t)
-
-    pub ready_as_read : ready (get_or rows i r) (get_or quanta i q).0 t ≡ ready_in (take n rows) (numbers_of quanta) t i
-    ready_as_read = as_read can.place l r q (λ row given. ready row given t)
-
-    pub key_as_read : (end : ℕ) {key : ℕ} → (key ≡ front_of (rank_of (get_or rows i r) 0 (get_or quanta i q).0) * 64 + end) × (key < most) × HasKey (rank_of (get_or rows i r) 0 (get_or quanta i q).0) →
-        (key ≡ front_of (rank_of (row_at (take n rows) i) 0 (quanta_at (numbers_of quanta) i)) * 64 + end) × (key < most) × HasKey (rank_of (row_at (take n rows) i) 0 (quanta_at (numbers_of quanta) i))
-    key_as_read end is = rw (row_there rows n i r l, number_there quanta i q there) at is
-
   -- In a stopped state only the quanta are asked.
-  pub looks_at_quanta : {favours : ℕ → Bool} {keys : List ℕ} {breaks : Bool} → breaks ≡ some (exceeding (numbers_of quanta) t) n → LooksAt (take n rows) (numbers_of quanta) favours t true keys breaks 0
-  looks_at_quanta {favours} {keys} {breaks} is =
-      record {
-        broken = is ∙ (ap (some (exceeding (numbers_of quanta) t)) (sym can.place.all) ∙ same_some (exceeding (numbers_of quanta) t) (of_row_at (take n rows) (numbers_of quanta) (broken_row true t)) (length (take n rows)) (λ i l. sym (or-false _)));
-        ready = λ runs. absurd (true≢false runs);
-      }
+  pub looks_at_quanta : {m : ℕ} → m ≡ n → {breaks : Bool} → breaks ≡ some (exceeding (numbers_of (take m quanta)) t) (length (take m quanta)) →
+      breaks ≡ some (of_row_at (take n rows) (numbers_of quanta) (broken_row true t)) (length (take n rows))
+  looks_at_quanta all is =
+      rw all at is
+      ∙ (ap (some (exceeding (numbers_of (take n quanta)) t)) long
+      ∙ same_some (exceeding (numbers_of (take n quanta)) t) (of_row_at (take n rows) (numbers_of quanta) (broken_row true t)) (length (take n rows))
+      (λ i l. ap (ltb t) (same i (omega (arith, l, can.place.all))) ∙ sym (or-false _)))
     where
+      long : length (take n quanta) ≡ length (take n rows)
+      long = omega (arith, length-take n quanta, can.place.few, can.place.long, can.place.all)
+
+      same : (i : ℕ) → i < n → quanta_at (numbers_of (take n quanta)) i ≡ quanta_at (numbers_of quanta) i
+      same i l = sym (number_at (take n quanta) i) ∙ (ap (λ q. q.0) (get_or-take n quanta i _ l) ∙ number_at quanta i)
+
       same_some : (a b : ℕ → Bool) (m : ℕ) → ((i : ℕ) → i < m → a i ≡ b i) → some a m ≡ some b m
       same_some a b m h = ap (ltb 0) (same_count a b m h)

@@ -5,28 +5,28 @@ use mathlib.Core.Bool.{Bool, false}
 use Prim.Native.Nat.{ℕ, ◌≤◌, min}
 use native.Mathlib.Omega.{arith}
 use lib.ListN.{length}
-use Rattle.facts.specs.Counting.{some}
+use Rattle.std.specs.Prelude.{Option, Some, None, Result, Ok, Err, ok_or}
 use Rattle.counts.specs.Limits.{time_limit}
 use Rattle.table.specs.Limits.{row_limit}
 use Rattle.table.specs.Value.{fault_of}
 use Rattle.choice.specs.Arrays.{InPlace}
 use Rattle.choice.specs.Choice.{favours_marked}
-use Rattle.cores.specs.Sets.{size, names_past}
+use Rattle.cores.specs.Sets.{size}
 use Rattle.cores.specs.Fault.{misremembers, below}
 use Rattle.dispatcher.specs.declared.State.{State}
-use Rattle.dispatcher.specs.declared.Answer.TheVariants.{AtLimit}
 use Rattle.dispatcher.specs.State.{rows_in, quanta_in, time_of}
-use Rattle.dispatcher.specs.Broken.{of_row, broken}
-use Rattle.dispatcher.specs.Slot.{favoured_in, picks_in}
+use Rattle.dispatcher.specs.declared.Refusal.{Refusal}
+use Rattle.dispatcher.specs.declared.Refusal.TheVariants.{Broken, AtLimit}
+use Rattle.dispatcher.specs.Broken.{broken}
+use Rattle.dispatcher.specs.Slot.{picks_in}
 use Rattle.dispatcher.specs.Favoured.{favoured_marks}
-use Rattle.dispatcher.specs.Usable.{broken_row}
-use Rattle.dispatcher.specs.Looking.{ReadyKeys}
+use Rattle.dispatcher.specs.Looking.{row_breaks, ReadyKeys}
+use Rattle.dispatcher.specs.Tests.{KeysReady, ReadyOrBroken, RefusesAny, Refuses}
+use Rattle.dispatcher.proofs.Refused.{first_30, first_32}
+use Rattle.dispatcher.proofs.Whole.{is_whole}
 use Rattle.dispatcher.proofs.Favoured.{keys_by_marks}
 use Rattle.dispatcher.proofs.BrokenBy.{in_place, by_memory}
-use Rattle.dispatcher.proofs.Refused.{first_32, cause_is}
 use Rattle.dispatcher.proofs.Picking.{picks_are_counted}
-use Rattle.dispatcher.specs.declared.Answer.{Answer}
-use Rattle.dispatcher.specs.Tests.{CauseIs}
 
 -- What the first tests say where they pass, and the arrays,
 pub record Sound (s : State) : Type 0 where
@@ -42,35 +42,36 @@ so_far s is none now early rows quanta =
 
 module _ {s : State} (sound : Sound s) where
   -- then the state is broken, where no row breaks it, exactly if its memory is,
-  module _ {breaks : Bool} (rows : breaks ≡ some (of_row s (broken_row s.stopped (time_of s))) (length (rows_in s))) (none : breaks ≡ false)
-      {faulty : Bool} (is : faulty ≡ misremembers s.last (below s.table.n) s.table.cores) where
-    pub by_last : faulty ≡ broken s
-    by_last = is ∙ (ap (λ n. misremembers s.last (below n) s.table.cores) (sym sound.arrays.all) ∙ by_memory s sound.no_fault sound.in_time (sym rows ∙ none))
+  pub by_last : row_breaks (rows_in s) (quanta_in s) (time_of s) s.stopped ≡ false → {faulty : Bool} → faulty ≡ misremembers s.last (below s.table.n) s.table.cores → faulty ≡ broken s
+  by_last none is =
+      is ∙ (ap (λ n. misremembers s.last (below n) s.table.cores) (sym sound.arrays.all) ∙ by_memory s sound.no_fault sound.in_time none)
 
-    pub not_broken : faulty ≡ false → broken s ≡ false
-    not_broken well = sym by_last ∙ well
-
-  -- and the keys that were found are those of its ready rows,
-  module _ {marks : List Bool} (same : marks ≡ favoured_marks s) {keys : List ℕ} {found : ℕ} (ready : ReadyKeys (rows_in s) (quanta_in s) (favours_marked marks) (time_of s) keys found) where
-    pub keys_found : ReadyKeys (rows_in s) (quanta_in s) (favoured_in s) (time_of s) keys found
-    keys_found = keys_by_marks s (omega (arith, sound.arrays.few, sound.arrays.all)) same ready
-
-    -- so that the picked rows are counted.
-    pub counted : (free : List Bool) {picked k : ℕ} → picked ≡ min k found → k ≡ size free → picked ≡ length (picks_in s (size free))
-    counted free is all = is ∙ (ap (λ k. min k found) all ∙ sym (picks_are_counted s (size free) keys_found))
-
--- What the later tests say.
-pub there : (s : State) (free : List Bool) {past : Bool} → past ≡ names_past s.table.cores free → past ≡ false → names_past s.table.cores free ≡ false
-there s free is none = sym is ∙ none
+  -- and the keys that were found are those of its ready rows.
+  pub keys_found : {keys : List ℕ} {found : ℕ} → ReadyKeys (rows_in s) (quanta_in s) (favours_marked (favoured_marks s)) (time_of s) keys found → KeysReady s keys found
+  keys_found ready = keys_by_marks s (omega (arith, sound.arrays.few, sound.arrays.all)) refl ready
 
 -- At the time limit a slot is refused with 32, whatever comes behind: said of all that the tests before have found, so that the test for the limit alone is asked for.
-pub at_limit_then : (s : State) (free : List Bool) (len place : ℕ) {keys : List ℕ} {found fault now later : ℕ} {breaks faulty : Bool} {answer : Answer} →
-    answer ≡ AtLimit → fault ≡ fault_of s.table → fault ≡ 0 → now ≡ time_of s → now ≤ time_limit → length s.table.rows ≡ row_limit → length s.quanta ≡ row_limit →
-    breaks ≡ some (of_row s (broken_row s.stopped (time_of s))) (length (rows_in s)) → breaks ≡ false →
-    faulty ≡ misremembers s.last (below s.table.n) s.table.cores → faulty ≡ false → s.stopped ≡ false → later ≡ time_of s → time_limit ≤ later →
-    CauseIs s free len place answer keys found
-at_limit_then s free len place said is none now early rows quanta breaks calm memory well runs at late =
-    let sound = so_far s is none now early rows quanta in
-    let whole = not_broken sound breaks calm memory well in
-    let at_limit : time_of s ≡ time_limit = omega (arith, at, late, sound.in_time) in
-    rw said (cause_is s free len place AtLimit refl (λ buffer long. first_32 s free buffer place whole runs at_limit))
+pub at_limit_then : (s : State) (free : List Bool) {now : ℕ} → broken s ≡ false → s.stopped ≡ false → now ≡ time_of s → time_limit ≤ now → RefusesAny s free AtLimit
+at_limit_then s free whole runs is late =
+    let at_limit : time_of s ≡ time_limit = omega (arith, is, late, (is_whole s whole).time) in
+    record { met = λ buffer place. sym (first_32 s free buffer place whole runs at_limit) }
+
+-- A state that is broken is refused, and else what its rows say is kept.
+module _ (s : State) (keys : List ℕ) (answer : Option ℕ) (so : ReadyOrBroken s keys answer) {result : Result ℕ Refusal} (is : result ≡ ok_or answer Broken) where
+  pub found_whole : {found : ℕ} → result ≡ Ok found → (broken s ≡ false) × (s.stopped ≡ false → KeysReady s keys found)
+  found_whole {found} e = go answer so (sym e ∙ is)
+    where
+      go : (answer : Option ℕ) → ReadyOrBroken s keys answer → Ok found ≡ ok_or answer Broken → (broken s ≡ false) × (s.stopped ≡ false → KeysReady s keys found)
+      go None so e = absurd (cc)
+      go (Some x) so e = let same : x ≡ found = cc in rw (sym same) so
+
+  pub refused_as_broken : {why : Refusal} → result ≡ Err why → (free : List Bool) (len place : ℕ) → Refuses s free len place why
+  refused_as_broken {why} e free len place = go answer so (sym e ∙ is)
+    where
+      go : (answer : Option ℕ) → ReadyOrBroken s keys answer → Err why ≡ ok_or answer Broken → Refuses s free len place why
+      go None so e = let same : why ≡ Broken = cc in λ buffer long. rw same (sym (first_30 s free buffer place so))
+      go (Some x) so e = absurd (cc)
+
+-- The picked rows are counted.
+pub counted : (s : State) (free : List Bool) {keys : List ℕ} {found picked k : ℕ} → KeysReady s keys found → picked ≡ min k found → k ≡ size free → picked ≡ length (picks_in s (size free))
+counted s free {found = found} ready is all = is ∙ (ap (λ k. min k found) all ∙ sym (picks_are_counted s (size free) ready))

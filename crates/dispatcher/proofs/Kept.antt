@@ -45,7 +45,7 @@ use Rattle.dispatcher.specs.Slot.{favoured_in, picks_in, record_in, late_at, lat
 use Rattle.dispatcher.specs.Places.{RefusalChangesNothing, FaultAnswers30}
 use Rattle.counts.proofs.Numbers.{as_many_numbers, as_counted}
 use Rattle.dispatcher.proofs.Rows.{late_rows}
-use Rattle.dispatcher.proofs.Ran.{places_stay}
+use Rattle.dispatcher.proofs.Stepping.{places_stay}
 use Rattle.dispatcher.proofs.Refused.{has_room_for, first_30, first_31, by_room}
 use Rattle.dispatcher.proofs.Whole.{Whole, is_whole, is_not_broken, rows_have_places, nothing_given}
 use Rattle.dispatcher.proofs.Placing.{placed_has_no_fault}

@@ -6,7 +6,7 @@ pub mod Favoured
 pub mod Recorded
 pub mod Giving
 pub mod BrokenBy
-pub mod Ran
+pub mod Stepping
 pub mod Refused
 pub mod Whole
 pub mod Picking

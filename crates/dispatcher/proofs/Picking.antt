@@ -2,8 +2,8 @@
 use Prim.Native.Nat.{ℕ, ◌+◌, ◌%◌, ◌≤◌, ◌<◌, min}
 use mathlib.Core.Path.{◌≡◌, refl, sym, ap, subst, ◌∙◌}
 use mathlib.Core.List.{List, map}
+use Rattle.std.specs.Prelude.{Option, Some, None}
 use mathlib.Core.Bool.{Bool, true, false, cond, not, ◌&&◌, true≢false}
-use native.Mathlib.Decide.{dec_lt}
 use native.Mathlib.Omega.{arith}
 use borrow.Author.Tests.{lt-ltb, le-ltb}
 use lib.Dec.{ltb}
@@ -36,6 +36,7 @@ use Rattle.dispatcher.specs.declared.State.{State}
 use Rattle.dispatcher.specs.State.{rows_in, quanta_in, time_of}
 use Rattle.dispatcher.specs.Slot.{favoured_in, picks_in}
 use Rattle.dispatcher.specs.Looking.{key_at, ReadyKeys, rows_before, later_keys, is_due, LateRow}
+use Rattle.dispatcher.specs.Tests.{LowestIs}
 use Rattle.dispatcher.proofs.Whole.{Whole}
 
 module _ (s : State) (k : ℕ) {keys : List ℕ} {found : ℕ} (so : ReadyKeys (rows_in s) (quanta_in s) (favoured_in s) (time_of s) keys found) where
@@ -165,16 +166,23 @@ module _ (s : State) (k : ℕ) {keys : List ℕ} {found : ℕ} (so : ReadyKeys (
             go true h = absurd (true≢false (sym (late_was_ready it q (time_of s) can.cost can.weight h) ∙ e))
             go false h = h
 
-      pub late_row : {m lowest : ℕ} → m ≡ n → LateRow keys found first (later_keys (time_of s)) m lowest → Lowest late_then n lowest
-      late_row {m} {lowest} all is =
-          subst (Lowest late_then n) (sym (is.same ∙ named (dec_lt is.place found)))
+      -- by the place of its key
+      lowest_then : {place : ℕ} → Lowest (λ j. is_due first (later_keys (time_of s)) (key_in keys j)) found place → Lowest late_then n (cond (ltb place found) (row place) n)
+      lowest_then {place} low =
+          rw so.count
           (same_lowest (λ i. is_ready i && is_due first (later_keys (time_of s)) (key i)) late_then n _
           (λ i l. due i l (is_picked i) refl (is_ready i) refl ∙ ap (is_late i l) (sym (has_then i l)))
-          (lowest_by_place is_ready (λ i. is_due first (later_keys (time_of s)) (key i)) 0 n is.place
-          (subst (λ x. Lowest (λ j. is_due first (later_keys (time_of s)) (key (row j))) x is.place) so.count
-          (same_lowest (λ j. is_due first (later_keys (time_of s)) (key_in keys j)) (λ j. is_due first (later_keys (time_of s)) (key (row j))) found is.place
-          (λ j l. ap (is_due first (later_keys (time_of s))) (so.each j l)) is.lowest))))
-        where
-          named : Dec (is.place < found) → cond (ltb is.place found) (key_in keys is.place % 32) m ≡ cond (ltb is.place (length (those is_ready n))) (row is.place) n
-          named (yes l) = rw (lt-ltb is.place found l, lt-ltb is.place (length (those is_ready n)) (omega (arith, so.count))) (row_of is.place l)
-          named (no l) = rw (le-ltb is.place found (omega arith), le-ltb is.place (length (those is_ready n)) (omega (arith, so.count))) all
+          (lowest_by_place is_ready (λ i. is_due first (later_keys (time_of s)) (key i)) 0 n place
+          (subst (λ x. Lowest (λ j. is_due first (later_keys (time_of s)) (key (row j))) x place) so.count
+          (same_lowest (λ j. is_due first (later_keys (time_of s)) (key_in keys j)) (λ j. is_due first (later_keys (time_of s)) (key (row j))) found place
+          (λ j l. ap (is_due first (later_keys (time_of s))) (so.each j l)) low))))
+
+      pub late_row : (lowest : Option ℕ) → LateRow keys found first (later_keys (time_of s)) lowest → LowestIs late_then n lowest
+      late_row None none =
+          let low = lowest_then {place = found} (record { within = omega arith; passes = λ m. absurd (omega arith); none_before = none }) in
+          (subst (Lowest late_then n) (ap (λ b. cond b (row found) n) (le-ltb found found (omega arith))) low).none_before
+      late_row (Some lowest) is =
+          let same : cond (ltb is.place found) (row is.place) n ≡ lowest = ap (λ b. cond b (row is.place) n) (lt-ltb is.place found is.there) ∙ (sym (row_of is.place is.there) ∙ sym is.same) in (
+            omega (arith, is.same, row_of is.place is.there, (listed_pass is_ready n is.place 0 (omega (arith, is.there, so.count))).0),
+            subst (Lowest late_then n) same (lowest_then is.lowest),
+          )

@@ -31,7 +31,7 @@ use Rattle.dispatcher.specs.Slot.{picks_in, record_in, placed_in, SlotReply, don
 use Rattle.dispatcher.specs.Run.{Step, step_of, record_by, Run, place_by, run_with, one_more, run}
 use Rattle.dispatcher.specs.RunKept.{run_for, QuantaAreRecords, MemoryIsLastRecord, RecordsStandInTurn}
 use Rattle.dispatcher.proofs.Whole.{Whole, is_whole, nothing_given}
-use Rattle.dispatcher.proofs.Ran.{places_stay}
+use Rattle.dispatcher.proofs.Stepping.{places_stay}
 use Rattle.dispatcher.proofs.Placing.{gets_best_cores}
 use Rattle.dispatcher.proofs.Kept.{After, done_is_not_refused, Goes, goes, refusal_changes_nothing, done_makes_the_step, quanta_after, done_keeps_whole, fresh_is_whole}
 

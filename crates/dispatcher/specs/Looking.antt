@@ -1,5 +1,5 @@
 -- Between functions: how a slot goes over its rows, and what it makes of the keys of those that are ready. No part of what 01 says.
-use Rattle.std.specs.Prelude.{ℕ, ◌+◌, ◌*◌, ◌%◌, ◌≤◌, ◌<◌, ◌≡◌, List, map, Bool, true, false, cond, not, ◌&&◌, ltb, length, get_or}
+use Rattle.std.specs.Prelude.{ℕ, ◌+◌, ◌*◌, ◌%◌, ◌≤◌, ◌<◌, ◌≡◌, List, map, Bool, true, false, cond, not, ◌&&◌, ltb, length, get_or, Option, MatchOption}
 use Rattle.facts.specs.Counting.{some, those}
 use Rattle.facts.specs.First.{Lowest}
 use Rattle.facts.specs.Rounding.{ceil_div}
@@ -66,10 +66,14 @@ pub record ReadyKeys (rows : List Row) (quanta : List ℕ) (favours : ℕ → Bo
   pub low : (i : ℕ) → i < length rows → ready_in rows quanta t i ≡ true → key_at rows quanta favours i < most
   pub has : (i : ℕ) → i < length rows → ready_in rows quanta t i ≡ true → HasKey (rank_at rows quanta favours i)
 
--- What one pass over the rows finds: whether one breaks the state and, in a state that runs on, the keys of the ready rows.
-pub record LooksAt (rows : List Row) (quanta : List ℕ) (favours : ℕ → Bool) (t : ℕ) (stopped : Bool) (keys : List ℕ) (breaks : Bool) (found : ℕ) : Type 0 where
-  pub broken : breaks ≡ some (of_row_at rows quanta (broken_row stopped t)) (length rows)
-  pub ready : stopped ≡ false → breaks ≡ false → ReadyKeys rows quanta favours t keys found
+-- What one pass over the rows finds: that one breaks the state or, in a state that runs on, the keys of the ready rows.
+abbrev pub row_breaks : List Row → List ℕ → ℕ → Bool → Bool
+row_breaks rows quanta t stopped = some (of_row_at rows quanta (broken_row stopped t)) (length rows)
+
+abbrev pub LooksAt : List Row → List ℕ → (ℕ → Bool) → ℕ → Bool → List ℕ → Option ℕ → Type 0
+LooksAt rows quanta favours t stopped keys answer =
+    MatchOption answer (row_breaks rows quanta t stopped ≡ true)
+    (λ found. (row_breaks rows quanta t stopped ≡ false) × (stopped ≡ false → ReadyKeys rows quanta favours t keys found))
 
 -- The rows whose keys lie before the first that is left out: a key ends with its row's number, and 32 more where the row is not favoured.
 abbrev pub rows_before : List ℕ → ℕ → ℕ → List ℕ
@@ -83,11 +87,17 @@ later_keys t = (2 * t + 4) * 4_194_304
 abbrev pub is_due : ℕ → ℕ → ℕ → Bool
 is_due first soon key = not (ltb key first) && ltb key soon
 
--- The lowest of these rows, or n where there is none.
-pub record LateRow (keys : List ℕ) (found first soon n row : ℕ) : Type 0 where
+-- One of them stands at the lowest place of any,
+pub record LateAt (keys : List ℕ) (found first soon row : ℕ) : Type 0 where
   pub place : ℕ
+  pub there : place < found
   pub lowest : Lowest (λ j. is_due first soon (key_in keys j)) found place
-  pub same : row ≡ cond (ltb place found) (key_in keys place % 32) n
+  pub same : row ≡ key_in keys place % 32
+
+-- or there is none.
+abbrev pub LateRow : List ℕ → ℕ → ℕ → ℕ → Option ℕ → Type 0
+LateRow keys found first soon answer =
+    MatchOption answer ((j : ℕ) → j < found → is_due first soon (key_in keys j) ≡ false) (λ row. LateAt keys found first soon row)
 
 -- Rows that can be given a quantum each: they rise, and each has fewer quanta than the largest number.
 pub record GivesTo (rows : List ℕ) (quanta : List Quanta) : Type 0 where

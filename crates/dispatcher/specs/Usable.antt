@@ -1,10 +1,11 @@
 -- Between functions: what those of this crate ask of a state and of its rows. No part of what 01 says. Those that go through the rows are
 -- handed the arrays alone: n rows, their quanta and a time.
-use Rattle.std.specs.Prelude.{ℕ, ◌≤◌, ◌<◌, List, Bool, not, ◌&&◌, ◌||◌, length, take}
+use Rattle.std.specs.Prelude.{ℕ, ◌≡◌, ◌≤◌, ◌<◌, List, Bool, not, ◌&&◌, ◌||◌, length, take}
 use Rattle.counts.specs.declared.Quanta.{Quanta}
 use Rattle.counts.specs.Limits.{time_limit}
 use Rattle.counts.specs.Numbers.{numbers_of}
 use Rattle.table.specs.declared.Row.{Row}
+use Rattle.table.specs.Limits.{row_limit}
 use Rattle.pd2.specs.Share.{CanBe}
 use Rattle.pd2.specs.Choice.{row_at, quanta_at}
 use Rattle.choice.specs.Arrays.{InPlace}
@@ -37,3 +38,7 @@ pub record Usable (rows : List Row) (quanta : List Quanta) (n t : ℕ) : Type 0 
 -- The same of a state.
 abbrev pub UsableState : State → Type 0
 UsableState s = Usable s.table.rows s.quanta s.table.n (time_of s)
+
+-- The arrays of a state have all their places.
+abbrev pub ArraysLong : State → Type 0
+ArraysLong s = (length s.table.rows ≡ row_limit) × (length s.quanta ≡ row_limit)

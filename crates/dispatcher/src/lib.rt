@@ -4,21 +4,16 @@
 mod look;
 mod picked;
 
-ghost use Rattle.std.specs.Prelude.{◌≡◌, cond, ◌≤◌, ◌<◌, min, ltb, length};
+ghost use Rattle.std.specs.Prelude.{◌≡◌, false, min, length, Err};
 ghost use Rattle.trace.specs.Record.{marked};
-ghost use Rattle.trace.specs.Records.{rows_at, past_record, names};
-ghost use Rattle.trace.specs.Said.{bare, named};
 ghost use Rattle.cores.specs.Placement.{nobody};
-ghost use Rattle.cores.specs.Cores.{placed_for};
-ghost use Rattle.counts.specs.Numbers.{numbers_of, counted};
-ghost use Rattle.pd2.specs.Choice.{given};
 ghost use Rattle.dispatcher.specs.State.{fresh_of};
 ghost use Rattle.dispatcher.specs.Broken.{broken};
-ghost use Rattle.dispatcher.specs.Answer.{said_of, said_by};
+ghost use Rattle.dispatcher.specs.Answer.{refusal_number, number_of, said_of, said_by, ran_of};
 ghost use Rattle.dispatcher.specs.Slot.{stepped, refusal, slot_of};
 ghost use Rattle.dispatcher.specs.Favoured.{favoured_marks};
-ghost use Rattle.dispatcher.specs.Looking.{GivesTo};
-ghost use Rattle.dispatcher.specs.Tests.{CauseIs, CanStep, Judged};
+ghost use Rattle.dispatcher.specs.Usable.{ArraysLong};
+ghost use Rattle.dispatcher.specs.Tests.{ReadyOrBroken, RunsOn, CauseIs, CanStep, Judged};
 
 use cores::Placement;
 use counts::{Quanta, Slot};
@@ -33,17 +28,25 @@ pub struct State {
     pub last: Placement,
 }
 
-// What a slot answers.
-#[derive(Clone, Copy)]
-pub enum Answer {
-    Done,
-    Late { row: u8, time: Slot },
+// Why a slot is refused.
+#[derive(Clone, Copy, PartialEq, Eq)]
+pub enum Refusal {
     Broken,
     Stopped,
     AtLimit,
     NoSuchCore,
     NoRoom,
 }
+
+// How a slot that was run ended: every row is in time, or some are late at this time, and the lowest of them is named.
+#[derive(Clone, Copy)]
+pub enum Ran {
+    InTime,
+    Late { row: u8, time: Slot },
+}
+
+// What a slot answers.
+pub type Answer = Result<Ran, Refusal>;
 
 // What an answer says: the paper's number, and the row and the time that it names.
 #[derive(Clone, Copy)]
@@ -61,23 +64,34 @@ pub struct Outcome {
     pub state: State,
 }
 
-impl Answer {
+impl Told {
     // The paper's number, row and time for each answer.
-    pub fn told(self) -> Told
-        ensures { said_by result ≡ said_of self }
+    pub fn of(answer: Answer) -> Told
+        ensures { said_by result ≡ said_of answer }
     {
-        match self {
-            Answer::Done => bare(0),
-            Answer::Late { row, time } => Told {
+        match answer {
+            Ok(Ran::InTime) => bare(0),
+            Ok(Ran::Late { row, time }) => Told {
                 number: 1,
                 row,
                 time: time.time(),
             },
-            Answer::Broken => bare(30),
-            Answer::Stopped => bare(31),
-            Answer::AtLimit => bare(32),
-            Answer::NoSuchCore => bare(35),
-            Answer::NoRoom => bare(34),
+            Err(refusal) => bare(refusal.number()),
+        }
+    }
+}
+
+impl Refusal {
+    // The paper's number.
+    fn number(self) -> u8
+        ensures { result ≡ refusal_number self }
+    {
+        match self {
+            Refusal::Broken => 30,
+            Refusal::Stopped => 31,
+            Refusal::AtLimit => 32,
+            Refusal::NoRoom => 34,
+            Refusal::NoSuchCore => 35,
         }
     }
 }
@@ -116,13 +130,7 @@ impl State {
         ensures { result ≡ broken self }
     {
         let mut ready = [0u64; 32];
-        let nobody = [false; 32];
-        let cause = self.cause(nobody, 0, 0, &mut ready);
-        let answer = cause.answer;
-        match answer {
-            Answer::Broken => true,
-            _ => false,
-        }
+        self.ready_rows(&mut ready).is_none()
     }
 
     // The rows that go first among full ties, as marks: in format 2 those that ran in the slot before, in format 1 none.
@@ -144,104 +152,110 @@ impl State {
         ensures buffer_after { buffer.new ≡ (slot_of self free buffer.old place).bytes }
     {
         let mut ready = [0u64; 32];
-        let cause = self.cause(free, buffer.len(), place, &mut ready);
-        let answer = cause.answer;
-        let Answer::Done = answer else {
-            return self.refused(answer);
+        let found = match self.cause(free, buffer.len(), place, &mut ready) {
+            Ok(found) => found,
+            Err(refusal) => return self.refused(refusal),
         };
-        let found = cause.found;
         let k = cores::how_many(free);
         let picked = picked_of(found, k);
+        let keys = &ready[..found];
         let first = choice::first_left(&ready, found, k);
-        picked::put_record(&mut buffer[place..], k, picked, &ready, found, first);
-        let late = picked::lowest_late(&ready, found, first, self.time, self.table.n);
-        let placed = cores_for(buffer, place, free, self.last);
-        self.one_on(buffer, place, placed, late)
+        picked::put_record(&mut buffer[place..], k, picked, keys, first);
+        let late = picked::lowest_late(keys, first, self.time);
+        let begin = place + 2;
+        let rows = &buffer[begin..begin + picked as usize];
+        let placed = cores::place(rows, free, self.last);
+        self.one_on(rows, placed, late)
     }
 
-    // What a slot would answer if it is refused; Done where it would not be. Nothing is run and nothing written.
-    pub fn refusal(self, free: [bool; 32], buffer: &[u8], place: usize) -> Answer
-        ensures { said_of result ≡ bare (refusal self free buffer.now place) }
+    // Why a slot would be refused; None where it would not be. Nothing is run and nothing written.
+    pub fn refusal(self, free: [bool; 32], buffer: &[u8], place: usize) -> Option<Refusal>
+        ensures { number_of result ≡ refusal self free buffer.now place }
     {
         let mut ready = [0u64; 32];
-        let cause = self.cause(free, buffer.len(), place, &mut ready);
-        cause.answer
+        self.cause(free, buffer.len(), place, &mut ready).err()
     }
 
-    // The refusal that is met, for a buffer of so many bytes; Done where none is, with the keys of the rows that are ready.
-    #[tactic(auto, using(crate::proofs::Judging::at_limit_then))]
-    fn cause(self, free: [bool; 32], len: usize, place: usize, ready: &mut [u64; 32]) -> Cause
-        requires { length ready.old ≡ 32 }
-        ensures { CauseIs self free len place result.answer ready.new result.found }
+    // How many rows are ready in a slot that is not refused, for a buffer of so many bytes; their keys come to the front of the lent array.
+    fn cause(
+        &self,
+        free: [bool; 32],
+        len: usize,
+        place: usize,
+        ready: &mut [u64; 32],
+    ) -> Result<usize, Refusal>
+        requires { ArraysLong self.now × (length ready.old ≡ 32) }
+        ensures { CauseIs self.now free len place result ready.new }
     {
-        if table::fault(self.table) != 0 {
-            return refusal(Answer::Broken);
+        let found = self.ready_rows(ready).ok_or(Refusal::Broken)?;
+        self.runs_on(free)?;
+        let picked = picked_of(found, cores::how_many(free));
+        if len < place {
+            return Err(Refusal::NoRoom);
         }
-        if counts::TIME_LIMIT < self.time.time() {
-            return refusal(Answer::Broken);
+        if len - place < 2 + picked as usize {
+            return Err(Refusal::NoRoom);
         }
-        let n = self.table.n as usize;
-        let rows = self.table.rows;
-        let quanta = self.quanta;
-        let favoured = self.favoured();
-        let looked = look::look(rows, quanta, favoured, n, self.time, self.stopped, ready);
-        if looked.broken {
-            return refusal(Answer::Broken);
-        }
-        if self.last.is_faulty(self.table.cores, self.table.n) {
-            return refusal(Answer::Broken);
-        }
+        Ok(found)
+    }
+
+    // That a state which is not broken can run one slot more, on these cores.
+    #[tactic(auto, using(crate::proofs::Judging::at_limit_then))]
+    fn runs_on(&self, free: [bool; 32]) -> Result<(), Refusal>
+        requires { broken self.now ≡ false }
+        ensures { RunsOn self.now free result }
+    {
         if self.stopped {
-            return refusal(Answer::Stopped);
+            return Err(Refusal::Stopped);
         }
         if counts::TIME_LIMIT <= self.time.time() {
-            return refusal(Answer::AtLimit);
+            return Err(Refusal::AtLimit);
         }
         if cores::names_past(free, self.table.cores) {
-            return refusal(Answer::NoSuchCore);
+            return Err(Refusal::NoSuchCore);
         }
-        if len < place {
-            return refusal(Answer::NoRoom);
+        Ok(())
+    }
+
+    // How many rows are ready; None in a broken state. In a state that runs on, their keys come to the front of the lent array.
+    fn ready_rows(&self, ready: &mut [u64; 32]) -> Option<usize>
+        requires { ArraysLong self.now × (length ready.old ≡ 32) }
+        ensures { ReadyOrBroken self.now ready.new result }
+    {
+        if table::fault(self.table) != 0 {
+            return None;
         }
-        let found = looked.found;
-        let picked = picked_of(found, cores::how_many(free));
-        if len - place < 2 + picked as usize {
-            return refusal(Answer::NoRoom);
+        if counts::TIME_LIMIT < self.time.time() {
+            return None;
         }
-        Cause {
-            answer: Answer::Done,
-            found,
+        let found = look::look(self, ready)?;
+        if self.last.is_faulty(self.table.cores, self.table.n) {
+            return None;
         }
+        Some(found)
     }
 
     // A refusal hands back the state as it came, and places nobody.
-    fn refused(self, answer: Answer) -> Outcome
-        ensures { result ≡ record { answer = answer; placed = nobody; state = self } }
+    fn refused(self, refusal: Refusal) -> Outcome
+        ensures { result ≡ record { answer = Err refusal; placed = nobody; state = self } }
     {
-        let placed = Placement::nobody();
-        let state = self;
         Outcome {
-            answer,
-            placed,
-            state,
+            answer: Err(refusal),
+            placed: Placement::nobody(),
+            state: self,
         }
     }
 
-    // The slot is over: the rows that its record names have one quantum more, time is one higher, and what ran where is remembered. With a late row the
-    // answer is 1 and the state is stopped, else it is 0.
-    fn one_on(mut self, buffer: &[u8], place: usize, placed: Placement, late: u8) -> Outcome
-        requires { CanStep self buffer.now place late }
-        ensures { Judged (stepped self (rows_at buffer.now place) placed) result }
+    // The slot is over: these rows have one quantum more, time is one higher, and what ran where is remembered. With a late row the state is stopped.
+    fn one_on(mut self, rows: &[u8], placed: Placement, late: Option<u8>) -> Outcome
+        requires { CanStep self rows.now late }
+        ensures { Judged (stepped self rows.now placed) result }
     {
-        let had = self.quanta;
-        let quanta = given_to(had, buffer, place);
-        self.quanta = quanta;
-        let time = self.time.later(1);
-        self.time = time;
+        self.quanta = picked::give(self.quanta, rows);
+        self.time = self.time.later(1);
         self.last = placed;
-        let n = self.table.n;
-        self.stopped = late < n;
-        let answer = done(late, n, self.time);
+        self.stopped = late.is_some();
+        let answer = Ok(ended(late, self.time));
         Outcome {
             answer,
             placed,
@@ -258,26 +272,6 @@ enum Stand {
     Ready,
 }
 
-// Whether a row breaks the state; if not, and the state runs on, so many rows are ready.
-#[derive(Clone, Copy)]
-struct Looked {
-    broken: bool,
-    found: usize,
-}
-
-// What is found before a slot is run: its refusal, or Done and how many rows are ready.
-#[derive(Clone, Copy)]
-struct Cause {
-    answer: Answer,
-    found: usize,
-}
-
-fn refusal(answer: Answer) -> Cause
-    ensures { result.answer ≡ answer }
-{
-    Cause { answer, found: 0 }
-}
-
 // How many rows are picked: "the first min(free cores, ready rows) are picked".
 fn picked_of(ready: usize, free: u8) -> u8
     ensures { result ≡ min free ready }
@@ -289,39 +283,12 @@ fn picked_of(ready: usize, free: u8) -> u8
     }
 }
 
-// The quanta after the slot whose record stands at the place.
-fn given_to(quanta: [Quanta; 32], buffer: &[u8], place: usize) -> [Quanta; 32]
-    requires { (past_record buffer.now place ≤ length buffer.now) × GivesTo (rows_at buffer.now place) quanta }
-    ensures { result ≡ counted (given (names (rows_at buffer.now place)) 0 (numbers_of quanta)) }
+// How a slot with this lowest late row ended.
+fn ended(late: Option<u8>, time: Slot) -> Ran
+    ensures { result ≡ ran_of late time }
 {
-    let first = place + 2;
-    let past = first + wide(buffer[place + 1]);
-    picked::give(quanta, &buffer[first..past])
-}
-
-// The cores of the rows that were picked: those that the record at the place names, where they stand rising and can be lent.
-fn cores_for(buffer: &[u8], place: usize, free: [bool; 32], last: Placement) -> Placement
-    requires { past_record buffer.now place ≤ length buffer.now }
-    ensures { result ≡ placed_for last (marked free) (rows_at buffer.now place) }
-{
-    let first = place + 2;
-    let past = first + wide(buffer[place + 1]);
-    cores::place(&buffer[first..past], free, last)
-}
-
-fn wide(x: u8) -> usize
-    ensures { (result ≡ x) × (result < 256) }
-{
-    x as usize
-}
-
-// What a slot that is done answers: the lowest late row is named.
-fn done(late: u8, n: u8, time: Slot) -> Answer
-    ensures { said_of result ≡ cond (ltb late n) (named 1 late time.0) (bare 0) }
-{
-    if late < n {
-        let row = late;
-        return Answer::Late { row, time };
+    match late {
+        Some(row) => Ran::Late { row, time },
+        None => Ran::InTime,
     }
-    Answer::Done
 }

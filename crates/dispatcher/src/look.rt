@@ -1,6 +1,6 @@
 // One pass over the rows of a state: whether one breaks it, and the keys of those that are ready. A row's share, whether it is ready and when it is due all come from the
 // same two products, so that a row is looked at once.
-ghost use Rattle.std.specs.Prelude.{◌≡◌, false, cond, ◌+◌, ◌-◌, ◌*◌, ◌≤◌, ◌<◌, ltb, length, take};
+ghost use Rattle.std.specs.Prelude.{◌≡◌, false, cond, ◌+◌, ◌-◌, ◌*◌, ◌≤◌, ◌<◌, ltb, length};
 ghost use Rattle.facts.specs.Counting.{some};
 ghost use Rattle.facts.specs.Rounding.{ceil_div};
 ghost use Rattle.counts.specs.Limits.{most, time_limit};
@@ -10,56 +10,44 @@ ghost use Rattle.pd2.specs.Ready.{ready};
 ghost use Rattle.pd2.specs.Order.{rank_of};
 ghost use Rattle.choice.specs.Choice.{favours_marked};
 ghost use Rattle.choice.specs.Keys.{front_of, end_of, HasKey};
+ghost use Rattle.dispatcher.specs.State.{rows_in, quanta_in, time_of};
+ghost use Rattle.dispatcher.specs.Favoured.{favoured_marks};
 ghost use Rattle.dispatcher.specs.Usable.{Testable, broken_row};
 ghost use Rattle.dispatcher.specs.Looking.{exceeding, stand_of, LooksAt, EndsAre, CanBeReady, InLimits, ahead_stand};
 
-use crate::{Looked, Stand};
+use crate::{Stand, State};
 use counts::{Quanta, Slot};
 use table::Row;
 
 // The keys of the ready rows come to the front of the lent array, by rising row number. In a stopped state no row is asked for its share, and no key is looked for.
-pub(crate) fn look(
-    rows: [Row; 32],
-    quanta: [Quanta; 32],
-    favoured: [bool; 32],
-    n: usize,
-    time: Slot,
-    stopped: bool,
-    ready: &mut [u64; 32],
-) -> Looked
-    requires { Testable rows quanta n time.0 × (length ready.old ≡ 32) }
-    ensures { LooksAt (take n rows) (numbers_of quanta) (favours_marked favoured) time.0 stopped ready.new result.broken result.found }
+pub(crate) fn look(state: &State, ready: &mut [u64; 32]) -> Option<usize>
+    requires { Testable state.now.table.rows state.now.quanta state.now.table.n (time_of state.now) × (length ready.old ≡ 32) }
+    ensures { LooksAt (rows_in state.now) (quanta_in state.now) (favours_marked (favoured_marks state.now)) (time_of state.now) state.now.stopped ready.new result }
 {
-    if stopped {
-        let broken = has_too_many(quanta, n, time);
-        return Looked { broken, found: 0 };
+    let rows = &state.table.rows[..state.table.n as usize];
+    if state.stopped {
+        return if has_too_many(&state.quanta[..rows.len()], state.time) {
+            None
+        } else {
+            Some(0)
+        };
     }
+    let favoured = state.favoured();
     let ends = ends(favoured);
-    let mut found: usize = 0;
-    let mut i: usize = 0;
-    while i < n {
-        let row = rows[i];
-        let given = quanta[i];
-        let stand = stands(row, given.count(), time.time());
-        match stand {
-            Stand::Breaks => {
-                return Looked {
-                    broken: true,
-                    found: 0,
-                };
-            }
+    let time = state.time.time();
+    let mut found = 0;
+    for (i, row) in rows.iter().enumerate() {
+        let given = state.quanta[i].count();
+        match stands(*row, given, time) {
+            Stand::Breaks => return None,
             Stand::Waits => {}
             Stand::Ready => {
-                ready[found] = key(row, ends[i], given.count(), time.time());
+                ready[found] = key(*row, ends[i], given, time);
                 found += 1;
             }
         }
-        i += 1;
     }
-    Looked {
-        broken: false,
-        found,
-    }
+    Some(found)
 }
 
 // How the key of each row ends: a favoured row goes first, then the lower row. It is said ahead of the pass for all rows at once, so that a row has one number to load.
@@ -67,10 +55,8 @@ fn ends(favoured: [bool; 32]) -> [u8; 32]
     ensures { EndsAre (favours_marked favoured) result }
 {
     let mut ends = [0u8; 32];
-    let mut i: usize = 0;
-    while i < 32 {
+    for i in 0..32 {
         ends[i] = end(favoured[i], i as u8);
-        i += 1;
     }
     ends
 }
@@ -83,17 +69,13 @@ fn end(favoured: bool, row: u8) -> u8
 }
 
 // Whether a row's quanta exceed the time.
-fn has_too_many(quanta: [Quanta; 32], n: usize, time: Slot) -> bool
-    requires { n ≤ 32 }
-    ensures { result ≡ some (exceeding (numbers_of quanta) time.0) n }
+fn has_too_many(quanta: &[Quanta], time: Slot) -> bool
+    ensures { result ≡ some (exceeding (numbers_of quanta.now) time.0) (length quanta.now) }
 {
-    let mut i: usize = 0;
-    while i < n {
-        let given = quanta[i];
+    for given in quanta {
         if time.time() < given.count() {
             return true;
         }
-        i += 1;
     }
     false
 }

@@ -11,68 +11,52 @@ ghost use Rattle.dispatcher.specs.Looking.{rows_before, is_due, later_keys, Late
 use counts::{Quanta, Slot};
 
 // Writes the record of a slot to the front of the lent part: cores free, rows picked and their numbers.
-pub(crate) fn put_record(
-    part: &mut [u8],
-    k: u8,
-    picked: u8,
-    keys: &[u64; 32],
-    found: usize,
-    first: u64,
-)
-    requires { (found ≤ 32) × (picked ≡ length (rows_before keys.now found first)) × (2 + picked ≤ length part.old) }
-    ensures { part.new ≡ with_front part.old (record_of k (rows_before keys.now found first)) }
+pub(crate) fn put_record(part: &mut [u8], k: u8, picked: u8, keys: &[u64], first: u64)
+    requires { (picked ≡ length (rows_before keys.now (length keys.now) first)) × (2 + picked ≤ length part.old) }
+    ensures { part.new ≡ with_front part.old (record_of k (rows_before keys.now (length keys.now) first)) }
 {
     part[0] = k;
     part[1] = picked;
-    put_rows(&mut part[2..], keys, found, first);
+    put_rows(&mut part[2..], keys, first);
 }
 
 // Writes the numbers of the picked rows to the front of the part.
-fn put_rows(part: &mut [u8], keys: &[u64; 32], found: usize, first: u64)
-    requires { (found ≤ 32) × (length (rows_before keys.now found first) ≤ length part.old) }
-    ensures { part.new ≡ with_front part.old (rows_before keys.now found first) }
+fn put_rows(part: &mut [u8], keys: &[u64], first: u64)
+    requires { length (rows_before keys.now (length keys.now) first) ≤ length part.old }
+    ensures { part.new ≡ with_front part.old (rows_before keys.now (length keys.now) first) }
 {
     let mut at: usize = 0;
-    let mut j: usize = 0;
-    while j < found {
-        let key = keys[j];
-        if key < first {
-            part[at] = (key % 32) as u8;
+    for key in keys {
+        if *key < first {
+            part[at] = (*key % 32) as u8;
             at += 1;
         }
-        j += 1;
     }
 }
 
-// The lowest row that is late after the slot, or n where none is: a row that is left out and due at the slot's end. If the first that is left out is due later, so
+// The lowest row that is late after the slot; None where none is: a row that is left out and due at the slot's end. If the first that is left out is due later, so
 // are all.
 #[tactic(auto, using(crate::proofs::Due::all_later_then))]
-pub(crate) fn lowest_late(keys: &[u64; 32], found: usize, first: u64, slot: Slot, n: u8) -> u8
-    requires { (found ≤ 32) × (slot.0 ≤ time_limit) }
-    ensures { LateRow keys.now found first (later_keys slot.0) n result }
+pub(crate) fn lowest_late(keys: &[u64], first: u64, slot: Slot) -> Option<u8>
+    requires { slot.0 ≤ time_limit }
+    ensures { LateRow keys.now (length keys.now) first (later_keys slot.0) result }
 {
     let soon = (2 * slot.time() + 4) * 4_194_304;
     if soon <= first {
-        return n;
+        return None;
     }
-    let mut j: usize = 0;
-    while j < found {
-        let key = keys[j];
-        if is_due(first, key, soon) {
-            return (key % 32) as u8;
+    for key in keys {
+        if is_due(first, *key, soon) {
+            return Some((*key % 32) as u8);
         }
-        j += 1;
     }
-    n
+    None
 }
 
 fn is_due(first: u64, key: u64, soon: u64) -> bool
     ensures { result ≡ is_due first soon key }
 {
-    if key < first {
-        return false;
-    }
-    key < soon
+    first <= key && key < soon
 }
 
 // One quantum more for each of these rows.
@@ -80,13 +64,9 @@ pub(crate) fn give(mut quanta: [Quanta; 32], rows: &[u8]) -> [Quanta; 32]
     requires { GivesTo rows.now quanta }
     ensures { result ≡ counted (given (names rows.now) 0 (numbers_of quanta)) }
 {
-    let mut j: usize = 0;
-    while j < rows.len() {
-        let row = rows[j];
-        let i = row as usize;
-        let given = quanta[i];
-        quanta[i] = given.one_more();
-        j += 1;
+    for row in rows {
+        let i = *row as usize;
+        quanta[i] = quanta[i].one_more();
     }
     quanta
 }

@@ -1,10 +1,10 @@
 use mathlib.Core.Path.{◌≡◌, refl, ap, ap₂, ◌∙◌}
 use mathlib.Core.List.{List}
 use mathlib.Core.Bool.{Bool}
-use Prim.Native.Nat.{ℕ, ◌-◌, min}
+use Prim.Native.Nat.{ℕ, ◌+◌, ◌-◌, ◌≤◌, min}
 use native.Mathlib.Omega.{arith}
 use borrow.Author.Rules.{rules}
-use lib.ListN.{length, length-drop}
+use lib.ListN.{length, take, length-drop}
 use borrow.Rule.Slice.PartMut.{put_mid, mid_of}
 use Rattle.facts.proofs.Lent.{lent_from, comes_back}
 use Rattle.trace.specs.Record.{marked, record_of, with_front, with_record}
@@ -12,101 +12,95 @@ use Rattle.cores.specs.Sets.{size}
 use Rattle.cores.specs.Cores.{placed_for}
 use Rattle.choice.specs.Keys.{key_in, FirstLeft}
 use Rattle.dispatcher.specs.declared.State.{State}
-use Rattle.dispatcher.specs.declared.Answer.{Answer}
-use Rattle.dispatcher.specs.declared.Answer.TheVariants.{Done, Late, Broken, Stopped, AtLimit, NoSuchCore, NoRoom}
-use Rattle.dispatcher.specs.Answer.{said_of}
-use Rattle.dispatcher.specs.State.{rows_in, quanta_in, time_of}
-use Rattle.dispatcher.specs.Slot.{favoured_in, record_in, stepped}
-use Rattle.dispatcher.specs.Looking.{ReadyKeys, rows_before}
-use Rattle.dispatcher.specs.Tests.{Admitted, CauseIs}
+use Rattle.dispatcher.specs.Slot.{picks_in, record_in, stepped}
+use Rattle.dispatcher.specs.Looking.{rows_before}
+use Rattle.dispatcher.specs.Tests.{Admitted, KeysReady}
 use Rattle.dispatcher.proofs.Refused.{refused_gives, done_gives}
 use Rattle.dispatcher.proofs.Whole.{is_whole, is_usable}
 use Rattle.dispatcher.proofs.BrokenBy.{in_place}
-use Rattle.dispatcher.proofs.Kept.{record_inside, record_names_picks}
-use Rattle.dispatcher.proofs.Ending.{goes_on, not_refused, left_out, as_many_picked, has_room, record_stands, can_step}
+use Rattle.dispatcher.proofs.Picking.{before_are_picks}
+use Rattle.dispatcher.proofs.Ending.{keys_lent, left_lent, not_refused, left_out, as_many_picked, rows_inside, rows_stand, record_stands, can_step}
 use Rattle.dispatcher.proofs.State.slot.Goals as goal
 
--- an answer other than `Done` has a number
-has_number : (a : Answer) → (a ≡ Done → ⊥) → (said_of a).number ≡ 0 → ⊥
-has_number Done h none = h refl
-has_number (Late row time) h none = omega arith
-has_number Broken h none = omega arith
-has_number Stopped h none = omega arith
-has_number AtLimit h none = omega arith
-has_number NoSuchCore h none = omega arith
-has_number NoRoom h none = omega arith
+-- what is known once no test refuses: the keys that are lent on, the first that is left out, and how many rows are picked
+module _ (s : State) (free : List Bool) (buffer : List ℕ) (place : ℕ) {keys : List ℕ} {found : ℕ} (so : Admitted s free (length buffer) place) (ready : KeysReady s keys found)
+    (long : length keys ≡ 32) {k : ℕ} (all : k ≡ size free) {first : ℕ} (left : FirstLeft (key_in keys) (min found 32) (min k 8) first) {picked : ℕ} (is : picked ≡ min k found) where
+  abbrev lent : List ℕ
+  lent = take found keys
 
--- what the tests leave where they answer `Done`
-module _ {s : State} {free : List Bool} {len place : ℕ} {answer : Answer} {keys : List ℕ} {found : ℕ} (cause : CauseIs s free len place answer keys found) (done : answer ≡ Done) where
-  no_number : (said_of answer).number ≡ 0
-  no_number = ap (λ answer. (said_of answer).number) done
+  lent_ready : KeysReady s lent (length lent)
+  lent_ready = keys_lent keys (omega (arith, ready.few)) s ready
 
-  admitted : Admitted s free len place
-  admitted = cause.admits no_number
+  lent_left : FirstLeft (key_in lent) (length lent) (size free) first
+  lent_left = left_lent keys (omega (arith, ready.few)) (left_out s free buffer place so ready all left)
 
-  keys_ready : ReadyKeys (rows_in s) (quanta_in s) (favoured_in s) (time_of s) keys found
-  keys_ready = cause.ready no_number
+  many : picked ≡ length (picks_in s (size free))
+  many = as_many_picked s free buffer place so ready all is
 
--- and then what stands in the buffer
-module _ (s : State) (free : List Bool) (buffer : List ℕ) (place : ℕ) {answer : Answer} {keys : List ℕ} {found : ℕ} (cause : CauseIs s free (length buffer) place answer keys found) (done : answer ≡ Done)
-    {k : ℕ} (all : k ≡ size free) {first : ℕ} (left : FirstLeft (key_in keys) (min found 32) (min k 8) first) where
-  first_left : FirstLeft (key_in keys) found (size free) first
-  first_left = left_out s free buffer place (admitted cause done) (keys_ready cause done) all left
+  counted : picked ≡ length (rows_before lent (length lent) first)
+  counted = omega (arith, many, ap length (before_are_picks s (size free) lent_ready lent_left))
 
-  stands : {part : List ℕ} → part ≡ with_front (mid_of place (length buffer - place) buffer) (record_of k (rows_before keys found first)) →
+  stands : {part : List ℕ} → part ≡ with_front (mid_of place (length buffer - place) buffer) (record_of k (rows_before lent (length lent) first)) →
       put_mid place (length buffer - place) buffer part ≡ with_record buffer place (record_in s (size free))
   stands {part} is =
-      comes_back buffer place part ∙ record_stands s free buffer place (admitted cause done) (keys_ready cause done) all first_left (rw (lent_from buffer place) at is)
+      comes_back buffer place part ∙ record_stands s free buffer place so lent_ready all lent_left (rw (lent_from buffer place) at is)
 
-pub returns-in_default : goal.returns-in_default
-returns-in_default c =
+pub returns-in-Err : goal.returns-in-Err
+returns-in-Err c =
     let a = c.args in
-    let all_hold = let refuses = has_number c.cause-cause.result.answer (search rules) in
-    refused_gives a.self a.free a.buffer.now a.place c.cause-cause.result.answer refuses (c.cause-cause.ensures.refuses refuses a.buffer.now refl) c.refused.ensures refl in
+    let all_hold = refused_gives a.self a.free a.buffer.now a.place c.in-Err.refusal (c.in-Err.ensures a.buffer.now refl) c.refused.ensures refl in
     record { answer_value = all_hold.0; placed_value = all_hold.1.0; state_value = all_hold.1.1.0; buffer_after = all_hold.1.1.1 }
-
-pub slice_bounds-put_record-count : goal.slice_bounds-put_record-count
-slice_bounds-put_record-count c = (admitted c.cause-cause.ensures (search rules)).inside
 
 pub put_record-requires : goal.put_record-requires
 put_record-requires c =
     let a = c.args in
-    let so = admitted c.cause-cause.ensures (search rules) in
-    let ready = keys_ready c.cause-cause.ensures (search rules) in
-    let all = c.how_many-k.ensures.0 in
-    let first = first_left a.self a.free a.buffer.now a.place c.cause-cause.ensures (search rules) all c.first_left-first.ensures in
-    let room = has_room a.self a.free a.buffer.now a.place so ready all first c.picked_of-picked.ensures in
-    (ready.few, as_many_picked a.self a.free a.buffer.now a.place so ready all first c.picked_of-picked.ensures, rw (lent_from a.buffer.now a.place, length-drop a.place a.buffer.now) room)
+    let so = c.in-Ok.ensures.0 in
+    let ready = c.in-Ok.ensures.1 in
+    let left = c.first_left-first.ensures in
+    let is = c.picked_of-picked.ensures in
+    let all = c.how_many-k.ensures.0 in (
+      counted a.self a.free a.buffer.now a.place so ready c.cause.array_long all left is,
+      rw (lent_from a.buffer.now a.place, length-drop a.place a.buffer.now) (omega (arith, so.room, many a.self a.free a.buffer.now a.place so ready c.cause.array_long all left is)),
+    )
 
-pub lowest_late-late-requires : goal.lowest_late-late-requires
-lowest_late-late-requires c = ((keys_ready c.cause-cause.ensures (search rules)).few, omega (arith, (admitted c.cause-cause.ensures (search rules)).slot_left))
-
-pub cores_for-placed-requires : goal.cores_for-placed-requires
-cores_for-placed-requires c =
+pub slice_bounds-rows-end : goal.slice_bounds-rows-end
+slice_bounds-rows-end c =
     let a = c.args in
-    let so = admitted c.cause-cause.ensures (search rules) in
-    record_inside a.self a.free a.buffer.now a.place (goes_on a.self a.free a.buffer.now a.place so)
-    (stands a.self a.free a.buffer.now a.place c.cause-cause.ensures (search rules) c.how_many-k.ensures.0 c.first_left-first.ensures c.put_record.ensures)
+    let so = c.in-Ok.ensures.0 in
+    let all = c.how_many-k.ensures.0 in
+    let inside : a.place + 2 + c.picked_of-picked.result ≤ length (put_mid a.place (length a.buffer.now - a.place) a.buffer.now c.put_record.new.part) =
+    rows_inside a.self a.free a.buffer.now a.place so
+    (stands a.self a.free a.buffer.now a.place so c.in-Ok.ensures.1 c.cause.array_long all c.first_left-first.ensures c.picked_of-picked.ensures c.put_record.ensures)
+    (many a.self a.free a.buffer.now a.place so c.in-Ok.ensures.1 c.cause.array_long all c.first_left-first.ensures c.picked_of-picked.ensures) in
+    inside
 
 pub one_on-requires : goal.one_on-requires
 one_on-requires c =
     let a = c.args in
-    let so = admitted c.cause-cause.ensures (search rules) in
+    let so = c.in-Ok.ensures.0 in
+    let ready = c.in-Ok.ensures.1 in
+    let long = c.cause.array_long in
+    let left = c.first_left-first.ensures in
+    let is = c.picked_of-picked.ensures in
     let all = c.how_many-k.ensures.0 in
     let w = is_whole _ so.whole in
     let usable = is_usable a.self w (in_place a.self w.table (search rules) (search rules)) in
-    can_step a.self a.free a.buffer.now a.place so (keys_ready c.cause-cause.ensures (search rules)) all
-    (first_left a.self a.free a.buffer.now a.place c.cause-cause.ensures (search rules) all c.first_left-first.ensures)
+    can_step a.self a.free a.buffer.now a.place so (lent_ready a.self a.free a.buffer.now a.place so ready long all left is) all (lent_left a.self a.free a.buffer.now a.place so ready long all left is)
     usable
-    (stands a.self a.free a.buffer.now a.place c.cause-cause.ensures (search rules) all c.first_left-first.ensures c.put_record.ensures)
-    c.lowest_late-late.ensures
+    (rows_stand a.self a.free a.buffer.now a.place so (stands a.self a.free a.buffer.now a.place so ready long all left is c.put_record.ensures) (many a.self a.free a.buffer.now a.place so ready long all left is))
+    c.lowest_late-late.result c.lowest_late-late.ensures
 
 pub returns : goal.returns
 returns c =
     let a = c.args in
-    let so = admitted c.cause-cause.ensures (search rules) in
-    let stands = stands a.self a.free a.buffer.now a.place c.cause-cause.ensures (search rules) c.how_many-k.ensures.0 c.first_left-first.ensures c.put_record.ensures in
-    let rows = record_names_picks a.self a.free a.buffer.now a.place (goes_on a.self a.free a.buffer.now a.place so) stands in
-    let all_hold = let cores = c.cores_for-placed.ensures ∙ ap (placed_for a.self.last (marked a.free)) rows in
-    done_gives a.self a.free a.buffer.now a.place (not_refused a.self a.free a.buffer.now a.place so) (ap₂ (stepped a.self) rows cores) c.one_on.result c.one_on.ensures stands in
+    let so = c.in-Ok.ensures.0 in
+    let ready = c.in-Ok.ensures.1 in
+    let long = c.cause.array_long in
+    let left = c.first_left-first.ensures in
+    let is = c.picked_of-picked.ensures in
+    let all = c.how_many-k.ensures.0 in
+    let stands = stands a.self a.free a.buffer.now a.place so ready long all left is c.put_record.ensures in
+    let rows = rows_stand a.self a.free a.buffer.now a.place so stands (many a.self a.free a.buffer.now a.place so ready long all left is) in
+    let cores = c.place-placed.ensures ∙ ap (placed_for a.self.last (marked a.free)) rows in
+    let all_hold = done_gives a.self a.free a.buffer.now a.place (not_refused a.self a.free a.buffer.now a.place so) (ap₂ (stepped a.self) rows cores) c.one_on.result c.one_on.ensures stands in
     record { answer_value = all_hold.0; placed_value = all_hold.1.0; state_value = all_hold.1.1.0; buffer_after = all_hold.1.1.1 }
