@@ -8,7 +8,7 @@ use lib.ListN.{length, get_or, take}
 use Rattle.counts.specs.declared.Quanta.{Quanta}
 use Rattle.table.specs.declared.Row.{Row}
 use Rattle.pd2.specs.Share.{CanBe}
-use Rattle.pd2.specs.declared.Verdict.{Verdict}
+use Rattle.std.specs.Prelude.{Option}
 use Rattle.pd2.specs.Verdict.{is_yes, answered, verdict}
 use Rattle.pd2.proofs.Verdicts.{answered_in_reach, yes_when_answered}
 use Rattle.choice.specs.Arrays.{InPlace}
@@ -51,7 +51,7 @@ module _ {rows : List Row} {quanta : List Quanta} {n t : ℕ} (u : Usable rows q
   usable_there = rw (row_there rows n i r l, number_there quanta i q there) (u.each i l)
 
   -- and a question about it is answered as row i is.
-  pub answered_there : (is : Row → ℕ → Bool) {answer : Bool} {v : Verdict} →
+  pub answered_there : (is : Row → ℕ → Bool) {answer : Bool} {v : Option Bool} →
       answer ≡ is_yes v →
       v ≡ verdict (answered (get_or rows i r) (get_or quanta i q).0 t) (is (get_or rows i r) (get_or quanta i q).0) →
       answer ≡ of_row_at (take n rows) (numbers_of quanta) is i

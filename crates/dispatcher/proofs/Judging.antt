@@ -1,13 +1,16 @@
 -- What the tests of a slot tell one after the other, for the cause that refuses it. Assumes nothing.
 use mathlib.Core.Path.{◌≡◌, refl, sym, ap, ◌∙◌}
 use mathlib.Core.List.{List}
-use mathlib.Core.Bool.{Bool, false}
+use mathlib.Core.Bool.{Bool, true, false}
 use Prim.Native.Nat.{ℕ, ◌≤◌, min}
 use native.Mathlib.Omega.{arith}
 use lib.ListN.{length}
-use Rattle.std.specs.Prelude.{Option, Some, None, Result, Ok, Err, ok_or}
+use Rattle.std.specs.Prelude.{Option, Some, None, is_some, Result, Ok, Err, ok_or}
 use Rattle.counts.specs.Limits.{time_limit}
-use Rattle.table.specs.Limits.{row_limit}
+use Rattle.table.specs.declared.Fault.{Fault}
+use Rattle.table.specs.declared.Table.{Table}
+use Rattle.table.specs.Reply.{fault_said}
+use Rattle.table.proofs.Numbers.{is_fault}
 use Rattle.table.specs.Value.{fault_of}
 use Rattle.choice.specs.Arrays.{InPlace}
 use Rattle.choice.specs.Choice.{favours_marked}
@@ -20,6 +23,7 @@ use Rattle.dispatcher.specs.declared.Refusal.TheVariants.{Broken, AtLimit}
 use Rattle.dispatcher.specs.Broken.{broken}
 use Rattle.dispatcher.specs.Slot.{picks_in}
 use Rattle.dispatcher.specs.Favoured.{favoured_marks}
+use Rattle.dispatcher.specs.Usable.{ArraysLong}
 use Rattle.dispatcher.specs.Looking.{row_breaks, ReadyKeys}
 use Rattle.dispatcher.specs.Tests.{KeysReady, ReadyOrBroken, RefusesAny, Refuses}
 use Rattle.dispatcher.proofs.Refused.{first_30, first_32}
@@ -28,17 +32,31 @@ use Rattle.dispatcher.proofs.Favoured.{keys_by_marks}
 use Rattle.dispatcher.proofs.BrokenBy.{in_place, by_memory}
 use Rattle.dispatcher.proofs.Picking.{picks_are_counted}
 
+-- Whether a table has a fault, by what is answered of it.
+module _ (t : Table) (fault : Option Fault) (said : fault_said fault ≡ fault_of t) {some : Bool} (asked : some ≡ is_some fault) where
+  pub faultless : some ≡ false → fault_of t ≡ 0
+  faultless none = sym said ∙ go fault (sym asked ∙ none)
+    where
+      go : (fault : Option Fault) → is_some fault ≡ false → fault_said fault ≡ 0
+      go None e = refl
+      go (Some fault) e = absurd (cc)
+
+  pub faulty : some ≡ true → fault_of t ≡ 0 → ⊥
+  faulty there none = go fault (sym asked ∙ there) (said ∙ none)
+    where
+      go : (fault : Option Fault) → is_some fault ≡ true → fault_said fault ≡ 0 → ⊥
+      go None e = absurd (cc)
+      go (Some fault) e = is_fault fault
+
 -- What the first tests say where they pass, and the arrays,
 pub record Sound (s : State) : Type 0 where
   pub no_fault : fault_of s.table ≡ 0
   pub in_time : time_of s ≤ time_limit
   pub arrays : InPlace s.table.rows s.quanta s.table.n
 
-pub so_far : (s : State) {fault time : ℕ} → fault ≡ fault_of s.table → fault ≡ 0 → time ≡ time_of s → time ≤ time_limit →
-    length s.table.rows ≡ row_limit → length s.quanta ≡ row_limit → Sound s
-so_far s is none now early rows quanta =
-    let no_fault = sym is ∙ none in
-    record { no_fault = no_fault; in_time = omega (arith, now, early); arrays = in_place s no_fault rows quanta }
+pub so_far : (s : State) {time : ℕ} → fault_of s.table ≡ 0 → time ≡ time_of s → time ≤ time_limit → ArraysLong s → Sound s
+so_far s no_fault now early long =
+    record { no_fault = no_fault; in_time = omega (arith, now, early); arrays = in_place s no_fault long.0 long.1 }
 
 module _ {s : State} (sound : Sound s) where
   -- then the state is broken, where no row breaks it, exactly if its memory is,

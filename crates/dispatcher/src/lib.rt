@@ -222,7 +222,7 @@ impl State {
         requires { ArraysLong self.now × (length ready.old ≡ 32) }
         ensures { ReadyOrBroken self.now ready.new result }
     {
-        if table::fault(self.table) != 0 {
+        if table::fault(self.table).is_some() {
             return None;
         }
         if counts::TIME_LIMIT < self.time.time() {
