@@ -1,4 +1,4 @@
--- The laws of the question's code: the loop over the rows of a record, the walk from record to record, and the tests around them. Assumes nothing.
+-- The laws of the question's code: the walk from record to record, and the tests around it. Assumes nothing.
 use Prim.Native.Nat.{ℕ, ◌+◌, ◌-◌, ◌*◌, ◌≤◌, ◌<◌, min}
 use mathlib.Core.Path.{◌≡◌, refl, sym, ap, ◌∙◌}
 use mathlib.Core.List.{List, [], ◌∷◌}

@@ -38,13 +38,13 @@ pub(crate) fn count_on(
         return Err(Unanswered::NoEntry);
     }
     let place = fields::long(summary, at);
-    match times_named(trace, place as usize, row, time % SPACING) {
-        Some(times) => Ok(Quanta::of(before + times)),
-        None => Err(Unanswered::NoEntry),
-    }
+    let walked = times_named(trace, place as usize, row, time % SPACING);
+    let times = walked.ok_or(Unanswered::NoEntry)?;
+    Ok(Quanta::of(before + times))
 }
 
 // How many of m records from a place on name a row, if all of them lie inside the trace.
+#[tactic(auto, using(trace::proofs::Search::whole_ends))]
 fn times_named(trace: &[u8], from: usize, row: u8, m: u64) -> Option<u64>
     ensures { result ≡ walk_of trace.now from row m }
 {

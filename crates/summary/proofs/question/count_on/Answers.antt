@@ -1,10 +1,12 @@
-use mathlib.Core.Path.{◌≡◌, ap, ◌∙◌}
+use mathlib.Core.Path.{◌≡◌, sym, ap, ◌∙◌}
 use Prim.Native.Nat.{ℕ, ◌+◌, ◌*◌}
 use native.Mathlib.Omega.{arith}
 use Rattle.fields.specs.Fields.{word}
 use mathlib.Core.List.{List}
 use Rattle.fields.proofs.Numbers.{fields_are_numbers}
 use Rattle.std.specs.Prelude.{Option}
+use Rattle.std.proofs.lemmas.Result.{err_from_is_err_and}
+use Rattle.summary.specs.declared.Unanswered.TheVariants.{NoEntry}
 use Rattle.summary.specs.Summary.{entry_size, place_said, quanta_said}
 use Rattle.summary.specs.Question.{last_entry, since_entry}
 use Rattle.summary.specs.Walking.{walk_of}
@@ -31,18 +33,23 @@ returns-then-entry-before c =
 pub overflow_add-before : goal.overflow_add-before
 overflow_add-before c =
     let a = c.args in
-    let told = told_times _ _ _ _ (from_place a.trace.now a.summary.now a.row a.time c.long-place.ensures c.in-Some.ensures) in
+    let told = told_times _ _ _ _ (from_place a.trace.now a.summary.now a.row a.time c.long-place.ensures (sym c.in_ok-times.ensures.ok_part ∙ c.times_named-walked.ensures)) in
     omega (arith, told.2, quanta_read a.summary.now a.row a.time c.word-before.ensures, c.if-entry-before.false, c.requires)
 
-pub returns-in-Some : goal.returns-in-Some
-returns-in-Some c =
+pub returns-in_err-times : goal.returns-in_err-times
+returns-in_err-times c =
+    let a = c.args in
+    let p = err_from_is_err_and c.from_residual.result c.from_residual.ensures.1 in
+    let given = c.in_err-times.ensures.value in
+    let none = c.in_err-times.ensures.ok_part in
+    let no_entry : c.in_err-times.field-0.0 ≡ NoEntry = let e = rw none at given in cc in
+    rw (p.1, p.2, no_entry)
+    (outside _ _ _ _ c.if-summary-at.false (omega (arith, c.if-entry-before.false, quanta_read a.summary.now a.row a.time c.word-before.ensures))
+    (told_outside _ _ _ _ (from_place a.trace.now a.summary.now a.row a.time c.long-place.ensures (sym none ∙ c.times_named-walked.ensures))))
+
+pub returns : goal.returns
+returns c =
     let a = c.args in
     let said = quanta_read a.summary.now a.row a.time c.word-before.ensures in
-    let told = told_times _ _ _ _ (from_place a.trace.now a.summary.now a.row a.time c.long-place.ensures c.in-Some.ensures) in
+    let told = told_times _ _ _ _ (from_place a.trace.now a.summary.now a.row a.time c.long-place.ensures (sym c.in_ok-times.ensures.ok_part ∙ c.times_named-walked.ensures)) in
     answered _ _ _ _ c.if-summary-at.false (omega (arith, c.if-entry-before.false, said)) told.0 (c.of.ensures ∙ omega (arith, told.1, said))
-
-pub returns-in-None : goal.returns-in-None
-returns-in-None c =
-    let a = c.args in
-    outside _ _ _ _ c.if-summary-at.false (omega (arith, c.if-entry-before.false, quanta_read a.summary.now a.row a.time c.word-before.ensures))
-    (told_outside _ _ _ _ (from_place a.trace.now a.summary.now a.row a.time c.long-place.ensures c.in-None.ensures))
