@@ -163,3 +163,8 @@ module _ (n : ℕ) (trace summary : List ℕ) (row t : ℕ) where
     pub is_on : past_count trace t ≡ false → on_reply trace summary row t ≡ reply_to n trace summary row t
     unfolding reply_to on_reply first_found
     is_on e = rw (lt-ltb row (min n row_limit) has, e)
+
+-- What the walk meets, and what the question meets.
+pub ruleset walk_met = (whole_ends, walk_ends, walk_cut)
+
+pub ruleset question_met = (no_row, is_past, is_on)

@@ -25,6 +25,7 @@ const SPACING: u64 = 1_024;
 const ENTRY_SIZE: usize = 136;
 
 // The quanta of a row before a time: those of the last entry at or before it, and one for each record since that names the row.
+#[tactic(auto, using(crate::proofs::Walking::question_met))]
 pub fn quanta_before(
     n: u8,
     trace: &[u8],

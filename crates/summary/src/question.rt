@@ -19,6 +19,7 @@ pub(crate) fn is_past(trace: &[u8], time: Slot) -> bool
 }
 
 // Counts on from the last entry at or before the time.
+#[tactic(auto, using(crate::proofs::Walking::is_missing))]
 pub(crate) fn count_on(
     trace: &[u8],
     summary: &[u8],
@@ -44,7 +45,7 @@ pub(crate) fn count_on(
 }
 
 // How many of m records from a place on name a row, if all of them lie inside the trace.
-#[tactic(auto, using(trace::proofs::Search::whole_ends))]
+#[tactic(auto, using(crate::proofs::Walking::walk_met))]
 fn times_named(trace: &[u8], from: usize, row: u8, m: u64) -> Option<u64>
     ensures { result ≡ walk_of trace.now from row m }
 {

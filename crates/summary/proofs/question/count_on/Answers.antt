@@ -10,7 +10,7 @@ use Rattle.summary.specs.declared.Unanswered.TheVariants.{NoEntry}
 use Rattle.summary.specs.Summary.{entry_size, place_said, quanta_said}
 use Rattle.summary.specs.Question.{last_entry, since_entry}
 use Rattle.summary.specs.Walking.{walk_of}
-use Rattle.summary.proofs.Walking.{told_times, told_outside, is_missing, exceeds, outside, answered}
+use Rattle.summary.proofs.Walking.{told_times, told_outside, exceeds, outside, answered}
 use Rattle.summary.proofs.question.count_on.Goals as goal
 
 -- what is read behind an entry's place is the row's quanta
@@ -21,9 +21,6 @@ quanta_read summary row t e = e ∙ fields_are_numbers.four summary (entry_size 
 from_place : (trace summary : List ℕ) (row t : ℕ) {place : ℕ} {walk : Option ℕ} → place ≡ place_said summary (last_entry t) → walk ≡ walk_of trace place row (since_entry t) →
     walk ≡ walk_of trace (place_said summary (last_entry t)) row (since_entry t)
 from_place trace summary row t at e = e ∙ ap (λ p. walk_of trace p row (since_entry t)) at
-
-pub returns-then-summary-at : goal.returns-then-summary-at
-returns-then-summary-at c = is_missing _ _ _ _ c.if-summary-at.true
 
 pub returns-then-entry-before : goal.returns-then-entry-before
 returns-then-entry-before c =
