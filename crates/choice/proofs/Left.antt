@@ -73,17 +73,16 @@ module _ (key : ℕ → ℕ) where
   pub none_left : {n k : ℕ} → n ≤ k → FirstLeft key n k most
   none_left {n} few = record { range = omega arith; few = omega (arith, no_more_than_all (λ j. ltb (key j) most) n); largest = λ l. absurd (omega arith) }
 
--- The keys at the front of an array are its first.
-pub smallest_in_front : (keys : List ℕ) (n : ℕ) {k : ℕ} {best : List ℕ} → n ≤ length keys → Smallest (key_in (take n keys)) (length (take n keys)) k best → Smallest (key_in keys) n k best
-smallest_in_front keys n fits so = record { rises = so.rises; counts = λ v h. so.counts v h ∙ ap (min _) (front v) }
+-- Of the keys at the front of an array the same is left out.
+pub left_in_front : (keys : List ℕ) (n k : ℕ) {m j first : ℕ} → FirstLeft (key_in (take m keys)) (length (take m keys)) j first → m ≡ min n 32 → j ≡ min k 8 → length keys ≡ 32 →
+    FirstLeft (key_in keys) (min n 32) (min k 8) first
+left_in_front keys n k {m} {j} {first} so some cores long =
+    record { range = so.range; few = omega (arith, so.few, front first); largest = λ l. omega (arith, so.largest l, front (first + 1)) }
   where
-    many : length (take n keys) ≡ n
-    many = length-take n keys ∙ omega arith
-
-    front : (v : ℕ) → how_many (λ i. ltb (key_in (take n keys) i) v) (length (take n keys)) ≡ how_many (λ i. ltb (key_in keys i) v) n
+    front : (v : ℕ) → how_many (λ i. ltb (key_in (take m keys) i) v) (length (take m keys)) ≡ how_many (λ i. ltb (key_in keys i) v) (min n 32)
     front v =
-        ap (how_many (λ i. ltb (key_in (take n keys) i) v)) many
-        ∙ same_count (λ i. ltb (key_in (take n keys) i) v) (λ i. ltb (key_in keys i) v) n (λ i l. ap (λ x. ltb x v) (get_or-take n keys i 0 l))
+        ap (how_many (λ i. ltb (key_in (take m keys) i) v)) (length-take m keys ∙ omega arith)
+        ∙ same_count (λ i. ltb (key_in (take m keys) i) v) (λ i. ltb (key_in keys i) v) (min n 32) (λ i l. ap (λ x. ltb x v) (get_or-take m keys i 0 (omega arith)))
 
 -- There is one such number alone.
 pub first_left_is_determined : (key : ℕ → ℕ) (n k : ℕ) → Determined {R = ℕ} (FirstLeft key n k)

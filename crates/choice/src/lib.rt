@@ -44,23 +44,23 @@ pub fn picks(
 pub fn first_left(keys: &[u64; 32], n: usize, k: u8) -> u64
     ensures { FirstLeft (key_in keys.now) (min n 32) (min k 8) result }
 {
-    let many = n.min(32);
+    let keys = &keys[..n.min(32)];
     // Two calls and not one with the lesser number: with a bound in sight the compiler unrolls the search, and a slot takes 90 instructions more.
     if 8 < k {
-        return left_out(keys, many, 8);
+        return left_out(keys, 8);
     }
-    left_out(keys, many, usize::from(k))
+    left_out(keys, usize::from(k))
 }
 
 #[tactic(auto, using(crate::proofs::Left::none_left))]
-fn left_out(keys: &[u64; 32], n: usize, k: usize) -> u64
-    requires { (n ≤ 32) × (k ≤ 8) }
-    ensures { FirstLeft (key_in keys.now) n k result }
+fn left_out(keys: &[u64], k: usize) -> u64
+    requires { k ≤ 8 }
+    ensures { FirstLeft (key_in keys.now) (length keys.now) k result }
 {
-    if n <= k {
+    if keys.len() <= k {
         return NOT_READY;
     }
-    smallest::smallest(&keys[..n], k)[k]
+    smallest::smallest(keys, k)[k]
 }
 
 // The key of each row, and NOT_READY past the last. The keys are plain numbers, since a slot compares them by the hundred.
@@ -85,7 +85,7 @@ fn key(row: Row, i: usize, given: Quanta, favoured: bool, slot: Slot) -> Option<
     }
     let due = windows::next_due(row.cost, row.period, pd2::origin(row), given)?;
     let far = how_far_behind(row, given, due);
-    Some(packed(due.deadline.time(), due.bit, far, end(favoured, i)))
+    Some(packed(due, far, end(favoured, i)))
 }
 
 // How far the group deadline lies behind the deadline. "If both have b = 1": where the bit is 0 none is asked for.
@@ -110,11 +110,11 @@ fn end(favoured: bool, row: usize) -> usize
 
 // Deadline, bit, group deadline and end, in this order: b = 1 goes before b = 0, and the larger group deadline first. (The dispatcher packs the keys of its own pass: a function
 // for both would have to test these numbers, which are known there.)
-fn packed(deadline: u64, bit: u8, far: u64, end: usize) -> u64
-    requires { (deadline < 2_000_000_000_000) × (bit ≤ 1) × (far < 65_536) × (end < 64) }
-    ensures { (result ≡ ((2 * deadline + (1 - bit)) * 65_536 + (65_535 - far)) * 64 + end) × (result < most) }
+fn packed(due: Due, far: u64, end: usize) -> u64
+    requires { (due.deadline.0 < 2_000_000_000_000) × (due.bit ≤ 1) × (far < 65_536) × (end < 64) }
+    ensures { (result ≡ ((2 * due.deadline.0 + (1 - due.bit)) * 65_536 + (65_535 - far)) * 64 + end) × (result < most) }
 {
-    let class = 2 * deadline + u64::from(1 - bit);
+    let class = 2 * due.deadline.time() + u64::from(1 - due.bit);
     (class * 65_536 + (65_535 - far)) * 64 + end as u64
 }
 

@@ -30,7 +30,7 @@ packed-requires c =
     let soon = ready_is_due_soon _ _ _ period due.0 in
     let one = bit_is_0_or_1 c.args.row.cost c.args.row.period (c.args.given.0 + 1) in
     let bit = ap (λ x. x.bit) is in (
-      omega (arith, c.time.ensures, ap (λ x. x.deadline.0) is, soon),
+      omega (arith, ap (λ x. x.deadline.0) is, soon),
       ⊎_elim (λ z. omega (arith, bit, z)) (λ z. omega (arith, bit, z)) one,
       c.how_far_behind-far.ensures.1,
       c.end.ensures.1,
@@ -42,4 +42,4 @@ returns c =
     let cost : c.args.row.cost < 65_536 = search rules in
     let due = due_if_ready _ _ _ small c.ready.ensures c.is_yes.ensures c.if-not-is_yes.false c.origin.ensures c.next_due.ensures in
     let is = same_Some _ _ (sym c.in_ok-due.was ∙ due.1) in
-    ready_key _ _ _ _ _ c.requires cost due.0 (c.time.ensures ∙ ap (λ x. x.deadline.0) is) (ap (λ x. x.bit) is) c.how_far_behind-far.ensures.0 c.end.ensures.0 c.packed.ensures
+    ready_key _ _ _ _ _ c.requires cost due.0 (ap (λ x. x.deadline.0) is) (ap (λ x. x.bit) is) c.how_far_behind-far.ensures.0 c.end.ensures.0 c.packed.ensures
