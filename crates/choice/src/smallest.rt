@@ -26,10 +26,12 @@ fn with_key(best: &mut [u64; 9], last: usize, key: u64)
     if best[last] <= key {
         return;
     }
-    let mut at = last;
-    while 0 < at && key < best[at - 1] {
-        best[at] = best[at - 1];
-        at -= 1;
+    for at in (0..last).rev() {
+        if best[at] <= key {
+            best[at + 1] = key;
+            return;
+        }
+        best[at + 1] = best[at];
     }
-    best[at] = key;
+    best[0] = key;
 }
