@@ -12,7 +12,7 @@ use Rattle.table.specs.declared.faults.Fault.{Fault}
 use Rattle.table.specs.declared.faults.Fault.TheVariants.{Ends, Format, Cycle, Cores, Boards, RowCount, Tanks, Cost, Weight, Period, Kind, After, Sum}
 use Rattle.table.specs.declared.faults.Unwritten.{Unwritten}
 use Rattle.table.specs.declared.faults.Unwritten.TheVariants.{Faulty, NoRoom}
-use Rattle.table.specs.Reply.{Reading, Writing, fault_number, reply_of, fault_said, written_of}
+use Rattle.table.specs.Reply.{Reading, Writing, reply_of, fault_said, written_of}
 use Rattle.table.specs.Bytes.{reading}
 use Rattle.table.specs.Value.{fault_of}
 use Rattle.table.specs.Writing.{writing, buffer_after}

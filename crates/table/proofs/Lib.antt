@@ -12,3 +12,4 @@ pub mod Parts
 pub mod Written
 pub mod RoundTrip
 pub mod Formats
+pub mod Zeros

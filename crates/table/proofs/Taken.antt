@@ -11,15 +11,12 @@ use borrow.Author.Tests.{ltb-false, eqb-true, eqb-false, not-false}
 use lib.Dec.{ltb}
 use lib.ListN.{length, get_or}
 use Rattle.facts.specs.Findings.{NoneFound}
-use Rattle.facts.specs.Determined.{Determined}
-use Rattle.facts.proofs.Determined.{by_value}
 use Rattle.facts.proofs.Findings.{said_exactly, none_exactly, otherwise_or_such}
 use Rattle.facts.proofs.Rising.{rising_as_read, each_passed, pass_too, passed_rise}
 use Rattle.facts.proofs.Places.{first_are_read, others_are_nothing, how_many_padded}
 use Rattle.fields.specs.Fields.{byte}
 use Rattle.table.specs.declared.Row.{Row}
 use Rattle.table.specs.declared.Table.{Table}
-use Rattle.table.specs.Reply.{Reading}
 use Rattle.table.specs.Limits.{cycle_limit, core_limit, row_limit}
 use Rattle.table.specs.Causes.{row_tests, tank_above, load, zero_row, board_tests, board_above}
 use Rattle.table.specs.Value.{boards_of, rows_of, front_tests, row_count_tests, sum_tests, fault_of}

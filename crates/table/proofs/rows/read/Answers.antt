@@ -1,4 +1,4 @@
-use Rattle.std.proofs.Common.{refl, ap, ◌∙◌, ◌≡◌, arith}
+use Rattle.std.proofs.Common.{refl, ap, ◌∙◌, arith}
 use Rattle.std.proofs.lemmas.Result.{err_from_is_err_and}
 use lib.ListN.{replicate, length-replicate}
 use Rattle.facts.proofs.Loops.{reading_begins, reading_ends, reading_stops, reading_goes_on}
@@ -9,13 +9,13 @@ use Rattle.table.specs.Bytes.{row_in_bytes}
 use Rattle.table.specs.Causes.{tank_above, load, zero_row}
 use Rattle.table.proofs.Sum.{added_none, added_put, added_all}
 use Rattle.table.proofs.Numbers.{is_fault}
+use Rattle.table.proofs.Zeros.{default_row_is_zeros}
 use Rattle.table.proofs.Bytes.{row_was_read, row_was_there, row_was_faulty}
 use Rattle.table.proofs.rows.read.Goals as goal
 
 pub loop-i-init : goal.loop-i-init
 loop-i-init c =
-    let zero = c.default-rows.ensures in
-    let none : c.default-rows.result ≡ zero_row = λ i. record { tank = zero.0 i; cost = zero.1.0 i; period = zero.1.1.0 i; phase = zero.1.1.1.0 i; kind = zero.1.1.1.1 i } in (
+    let none = default_row_is_zeros c.default-rows.ensures in (
       reading_begins _ _ _ _ _ _ _ _ (ap (λ (z : Row). replicate 32 z) none),
       omega arith,
       added_none _ _ _ (omega (arith, c.requires.1, length-replicate 32 zero_row)),
