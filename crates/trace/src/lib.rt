@@ -74,7 +74,7 @@ pub fn record(trace: &[u8], slot: Slot) -> &[u8]
     }
 }
 
-// Where the part that `record` hands back begins in the trace: 0 if it is not found.
+// Where the part that `record` hands back begins in the trace: 0 if it is not found, as 01 says.
 pub fn begins(trace: &[u8], slot: Slot) -> usize
     ensures { result ≡ part_begins trace.now slot.0 }
 {
