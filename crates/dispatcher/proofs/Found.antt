@@ -9,6 +9,11 @@ use lib.Dec.{ltb}
 use lib.ListN.{length, get_or, take, set, length-append, length-set, length-take, get_or-append}
 use lib.Seq.{get_or-set_same, get_or-set_other, get_or-append_seam, get_or-take}
 use Rattle.facts.specs.Counting.{those, some}
+use Rattle.std.specs.List.{list_any}
+use Rattle.std.proofs.lemmas.List.Elements.{All-from_get_or}
+use Rattle.std.proofs.lemmas.List.Folds.{list_any_at, list_any_none}
+use mathlib.Core.Logic.{◌⊎◌, inl, inr}
+use Rattle.facts.proofs.Some.{some_or_none, some_if, none_if}
 use Rattle.facts.proofs.Counting.{same_count, no_more_than_all}
 use Rattle.facts.proofs.Listing.{listed_if_passed, unlisted_if_failed, none_listed, as_many_listed, listed_pass}
 use Rattle.counts.specs.declared.Quanta.{Quanta}
@@ -25,7 +30,7 @@ use Rattle.dispatcher.specs.declared.Stand.{Stand}
 use Rattle.dispatcher.specs.declared.Stand.TheVariants.{Breaks, Waits, Ready}
 use Rattle.dispatcher.specs.Broken.{of_row_at}
 use Rattle.dispatcher.specs.Usable.{broken_row, Testable}
-use Rattle.dispatcher.specs.Looking.{exceeding, stand_of, EndsAre, key_at, ReadyKeys}
+use Rattle.dispatcher.specs.Looking.{stand_of, EndsAre, key_at, ReadyKeys}
 
 -- What is said of a row, by its stand.
 pub record Told (s : Stand) (breaks is_ready : Bool) : Type 0 where
@@ -168,21 +173,31 @@ pub key_told : (rows : List Row) (quanta ends : List ℕ) (i : ℕ) {given key :
     (key ≡ key_with rows quanta ends i) × (key < most) × HasKey (rank_of (row_at rows i) 0 (quanta_at quanta i))
 key_told rows quanta ends i many is = rw many at is
 
+-- Some of a list are so exactly if some place of it is.
+module _ {X : Type 0} (is : X → Bool) (d : X) where
+  any_is_some : (xs : List X) → list_any is xs ≡ some (λ i. is (get_or xs i d)) (length xs)
+  any_is_some xs = go (some_or_none (λ i. is (get_or xs i d)) (length xs))
+    where
+      go : ((i : ℕ) × (i < length xs) × (is (get_or xs i d) ≡ true)) ⊎ ((i : ℕ) → i < length xs → is (get_or xs i d) ≡ false) → list_any is xs ≡ some (λ i. is (get_or xs i d)) (length xs)
+      go (inl h) = list_any_at is xs h.0 d h.1 h.2 ∙ sym (some_if _ _ h.0 h.1 h.2)
+      go (inr none) = list_any_none is xs (All-from_get_or (λ x. is x ≡ false) xs d none) ∙ sym (none_if _ _ none)
+
 module _ {rows : List Row} {quanta : List Quanta} {n t : ℕ} (can : Testable rows quanta n t) where
   -- In a stopped state only the quanta are asked.
-  pub looks_at_quanta : {m : ℕ} → m ≡ n → {breaks : Bool} → breaks ≡ some (exceeding (numbers_of (take m quanta)) t) (length (take m quanta)) →
+  pub looks_at_quanta : {m : ℕ} → m ≡ n → {breaks : Bool} → breaks ≡ list_any (λ given. ltb t given.0) (take m quanta) →
       breaks ≡ some (of_row_at (take n rows) (numbers_of quanta) (broken_row true t)) (length (take n rows))
   looks_at_quanta all is =
       rw all at is
-      ∙ (ap (some (exceeding (numbers_of (take n quanta)) t)) long
-      ∙ same_some (exceeding (numbers_of (take n quanta)) t) (of_row_at (take n rows) (numbers_of quanta) (broken_row true t)) (length (take n rows))
-      (λ i l. ap (ltb t) (same i (omega (arith, l, can.place.all))) ∙ sym (or-false _)))
+      ∙ (any_is_some (λ given. ltb t given.0) (record { 0 = 0 }) (take n quanta)
+      ∙ (ap (some (λ i. ltb t (get_or (take n quanta) i (record { 0 = 0 })).0)) long
+      ∙ same_some (λ i. ltb t (get_or (take n quanta) i (record { 0 = 0 })).0) (of_row_at (take n rows) (numbers_of quanta) (broken_row true t)) (length (take n rows))
+      (λ i l. ap (ltb t) (same i (omega (arith, l, can.place.all))) ∙ sym (or-false _))))
     where
       long : length (take n quanta) ≡ length (take n rows)
       long = omega (arith, length-take n quanta, can.place.few, can.place.long, can.place.all)
 
-      same : (i : ℕ) → i < n → quanta_at (numbers_of (take n quanta)) i ≡ quanta_at (numbers_of quanta) i
-      same i l = sym (number_at (take n quanta) i) ∙ (ap (λ q. q.0) (get_or-take n quanta i _ l) ∙ number_at quanta i)
+      same : (i : ℕ) → i < n → (get_or (take n quanta) i (record { 0 = 0 })).0 ≡ quanta_at (numbers_of quanta) i
+      same i l = ap (λ q. q.0) (get_or-take n quanta i (record { 0 = 0 }) l) ∙ number_at quanta i
 
       same_some : (a b : ℕ → Bool) (m : ℕ) → ((i : ℕ) → i < m → a i ≡ b i) → some a m ≡ some b m
       same_some a b m h = ap (ltb 0) (same_count a b m h)

@@ -1,15 +1,16 @@
 -- Where a row stands, by the products of its share and of what it has had. Assumes nothing.
-use Prim.Native.Nat.{ℕ, ◌+◌, ◌-◌, ◌*◌, ◌/◌, ◌%◌, ◌≤◌, ◌<◌}
+use Prim.Native.Nat.{ℕ, ◌+◌, ◌-◌, ◌*◌, ◌/◌, ◌%◌, ◌≤◌, ◌<◌, min}
 use mathlib.Core.Path.{◌≡◌, refl, sym, ap, ◌∙◌}
 use mathlib.Core.Bool.{Bool, true, false, cond}
-use native.Mathlib.Nat.{mul-le-mul, mul-le-mul_right, lt_of_mul-lt-mul_right, le-pred_of_lt}
+use native.Mathlib.Nat.{mul-le-mul, mul-le-mul_left, mul-le-mul_right, lt_of_mul-lt-mul_right, le-pred_of_lt}
 use native.Mathlib.Decide.{dec_lt}
 use native.Mathlib.Omega.{arith}
 use borrow.Author.Tests.{lt-ltb, le-ltb, ltb-true}
 use lib.Dec.{ltb}
+use Rattle.std.proofs.lemmas.Grind.{div_ceil_times}
 use Rattle.facts.specs.Rounding.{ceil_div}
 use Rattle.facts.proofs.Tests.{both}
-use Rattle.facts.proofs.Rounding.{ceil_between, ceil_is_near, ceil_grows}
+use Rattle.facts.proofs.Rounding.{ceil_between, ceil_is_enough, ceil_is_near, ceil_grows}
 use Rattle.table.specs.declared.Row.{Row}
 use Rattle.pd2.specs.Ready.{origin_of, is_early_release, ready}
 use Rattle.counts.specs.Limits.{most, time_limit}
@@ -29,6 +30,13 @@ use Rattle.dispatcher.specs.Looking.{stand_of, ahead_stand, CanBeReady}
 -- Products of a number of slots, quanta or jobs, up to a period past the time limit, and a number of the table are far from 64 bits.
 pub product_is_small : {n f : ℕ} → n ≤ time_limit + 65_536 → f < 65_536 → n * f < (time_limit + 65_536) * 65_536
 product_is_small {n} h k = omega (arith, mul-le-mul {n₁ = n} h (le-pred_of_lt k))
+
+-- Rounded up as it is computed; it is no more than what is divided.
+pub div_ceil_is : (a b : ℕ) → 0 < b → a / b + min 1 (a % b) ≡ ceil_div a b
+div_ceil_is a b some = let near = div_ceil_times a b some in sym (ceil_between a b (a / b + min 1 (a % b)) some near.0 near.1)
+
+pub ceil_is_less : (a b : ℕ) → 0 < b → ceil_div a b ≤ a
+ceil_is_less a b some = (ceil_is_enough {a = a} {b = b} {x = a} some).1 (omega (arith, mul-le-mul_left {m = 1} {n = b} a some))
 
 module _ (row : Row) (q t : ℕ) where
   -- What is said of a row.

@@ -108,13 +108,9 @@ module _ (s : State) (free : List Bool) (buffer : List ℕ) (place : ℕ) where
               go true e = first_is_said 0 (FirstFound.here e)
               go false e = none_says_otherwise 0 (NoneFound.later e NoneFound.end)
 
-          -- the place is past the end,
-          pub past_end : length buffer < place → refusal s free buffer place ≡ 34
-          past_end h = by_room {lacks = true} (lacks_room_is buffer place (length (picks_in s (size free))) (omega arith))
-
-          -- or too little room is left behind it.
-          pub no_room : place ≤ length buffer → length buffer - place < 2 + length (picks_in s (size free)) → refusal s free buffer place ≡ 34
-          no_room inside h = by_room {lacks = true} (lacks_room_is buffer place (length (picks_in s (size free))) (omega arith))
+          -- too few bytes remain behind the place.
+          pub no_room : length buffer < place + 2 + length (picks_in s (size free)) → refusal s free buffer place ≡ 34
+          no_room short = by_room {lacks = true} (lacks_room_is buffer place (length (picks_in s (size free))) short)
 
 -- So what the tests find is the refusal, 0 where there is none.
 pub cause_is_refusal : (s : State) (free : List Bool) (buffer : List ℕ) (place : ℕ) {len : ℕ} (keys : List ℕ) (answer : Result ℕ Refusal) → CauseIs s free len place answer keys →

@@ -39,7 +39,7 @@ pub enum Refusal {
 }
 
 // How a slot that was run ended: every row is in time, or some are late at this time, and the lowest of them is named.
-#[derive(Clone, Copy)]
+#[derive(Clone, Copy, PartialEq, Eq)]
 pub enum Ran {
     InTime,
     Late { row: u8, time: Slot },
@@ -139,9 +139,10 @@ impl State {
         ensures { result ≡ favoured_marks self }
     {
         if self.table.format == 2 {
-            return self.last.ran();
+            self.last.ran()
+        } else {
+            [false; 32]
         }
-        [false; 32]
     }
 
     // One slot with a set of cores free: its record stands at the given place in the buffer, and each picked row has a core.
@@ -190,10 +191,7 @@ impl State {
         let found = self.ready_rows(ready).ok_or(Refusal::Broken)?;
         self.runs_on(free)?;
         let picked = picked_of(found, cores::how_many(free));
-        if len < place {
-            return Err(Refusal::NoRoom);
-        }
-        if len - place < 2 + picked as usize {
+        if len < place || len - place < 2 + picked as usize {
             return Err(Refusal::NoRoom);
         }
         Ok(found)
@@ -251,7 +249,7 @@ impl State {
         requires { CanStep self rows.now late }
         ensures { Judged (stepped self rows.now placed) result }
     {
-        self.quanta = picked::give(self.quanta, rows);
+        picked::give(&mut self.quanta, rows);
         self.time = self.time.later(1);
         self.last = placed;
         self.stopped = late.is_some();
@@ -276,11 +274,7 @@ enum Stand {
 fn picked_of(ready: usize, free: u8) -> u8
     ensures { result ≡ min free ready }
 {
-    if ready < free as usize {
-        ready as u8
-    } else {
-        free
-    }
+    ready.min(free as usize) as u8
 }
 
 // How a slot with this lowest late row ended.

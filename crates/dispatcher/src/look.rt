@@ -1,7 +1,7 @@
 // One pass over the rows of a state: whether one breaks it, and the keys of those that are ready. A row's share, whether it is ready and when it is due all come from the
 // same two products, so that a row is looked at once.
-ghost use Rattle.std.specs.Prelude.{◌≡◌, false, cond, ◌+◌, ◌-◌, ◌*◌, ◌≤◌, ◌<◌, ltb, length};
-ghost use Rattle.facts.specs.Counting.{some};
+ghost use Rattle.std.specs.Prelude.{◌≡◌, false, cond, ◌+◌, ◌-◌, ◌*◌, ◌≤◌, ◌<◌, ltb, nat_lt, length};
+ghost use Rattle.std.specs.List.{list_any};
 ghost use Rattle.facts.specs.Rounding.{ceil_div};
 ghost use Rattle.counts.specs.Limits.{most, time_limit};
 ghost use Rattle.counts.specs.Numbers.{numbers_of};
@@ -13,7 +13,7 @@ ghost use Rattle.choice.specs.Keys.{front_of, end_of, HasKey};
 ghost use Rattle.dispatcher.specs.State.{rows_in, quanta_in, time_of};
 ghost use Rattle.dispatcher.specs.Favoured.{favoured_marks};
 ghost use Rattle.dispatcher.specs.Usable.{Testable, broken_row};
-ghost use Rattle.dispatcher.specs.Looking.{exceeding, stand_of, LooksAt, EndsAre, CanBeReady, InLimits, ahead_stand};
+ghost use Rattle.dispatcher.specs.Looking.{stand_of, LooksAt, EndsAre, CanBeReady, InLimits, ahead_stand};
 
 use crate::{Stand, State};
 use counts::{Quanta, Slot};
@@ -37,12 +37,16 @@ pub(crate) fn look(state: &State, ready: &mut [u64; 32]) -> Option<usize>
     let time = state.time.time();
     let mut found = 0;
     for (i, row) in rows.iter().enumerate() {
-        let given = state.quanta[i].count();
-        match stands(*row, given, time) {
+        let asked = Asked {
+            row: *row,
+            given: state.quanta[i].count(),
+            time,
+        };
+        match asked.stand() {
             Stand::Breaks => return None,
             Stand::Waits => {}
             Stand::Ready => {
-                ready[found] = key(*row, ends[i], given, time);
+                ready[found] = asked.key(ends[i]);
                 found += 1;
             }
         }
@@ -70,56 +74,82 @@ fn end(favoured: bool, row: u8) -> u8
 
 // Whether a row's quanta exceed the time.
 fn has_too_many(quanta: &[Quanta], time: Slot) -> bool
-    ensures { result ≡ some (exceeding (numbers_of quanta.now) time.0) (length quanta.now) }
+    ensures { result ≡ list_any (λ given. nat_lt time.0 given.0) quanta.now }
 {
-    for given in quanta {
-        if time.time() < given.count() {
-            return true;
-        }
-    }
-    false
+    quanta.iter().any(|given| time.time() < given.count())
 }
 
-// Where a row stands, by its share and by what it has had, both times the period: so nothing is divided. All sums and products lie far below 64 bits.
-fn stands(row: Row, given: u64, time: u64) -> Stand
-    requires { CanBe row × (time ≤ time_limit) }
-    ensures { result ≡ stand_of (broken_row false time row given) (ready row given time) }
-{
-    if time < given {
-        return Stand::Breaks;
-    }
-    let phase = row.phase as u64;
-    if time < phase {
-        return if given == 0 {
+// A row, what it has had, and the time at which it is asked.
+#[derive(Clone, Copy)]
+struct Asked {
+    row: Row,
+    given: u64,
+    time: u64,
+}
+
+impl Asked {
+    // Where a row stands, by its share and by what it has had, both times the period: so nothing is divided. All sums and products lie far below 64 bits.
+    fn stand(self) -> Stand
+        requires { CanBe self.row × (self.time ≤ time_limit) }
+        ensures { result ≡ stand_of (broken_row false self.time self.row self.given) (ready self.row self.given self.time) }
+    {
+        let Asked { row, given, time } = self;
+        if time < given {
+            return Stand::Breaks;
+        }
+        let phase = row.phase as u64;
+        if time < phase {
+            return if given == 0 {
+                Stand::Waits
+            } else {
+                Stand::Breaks
+            };
+        }
+        let elapsed = time - phase;
+        let cost = row.cost as u64;
+        let period = row.period as u64;
+        let share = elapsed * cost;
+        let had = given * period;
+        // a whole quantum is owed
+        if had + period <= share {
+            return Stand::Breaks;
+        }
+        // a row that is not ahead of its share is ready, whatever its kind
+        if had <= share {
+            return Stand::Ready;
+        }
+        if row.kind == 1 {
+            return stands_ahead(cost, period, given, elapsed);
+        }
+        // with one quantum more it would be within its upper limit at the slot's end
+        if had < share + cost {
+            return Stand::Ready;
+        }
+        if had < share + period {
             Stand::Waits
         } else {
             Stand::Breaks
-        };
+        }
     }
-    let elapsed = time - phase;
-    let cost = row.cost as u64;
-    let period = row.period as u64;
-    let share = elapsed * cost;
-    let had = given * period;
-    // a whole quantum is owed
-    if had + period <= share {
-        return Stand::Breaks;
-    }
-    // a row that is not ahead of its share is ready, whatever its kind
-    if had <= share {
-        return Stand::Ready;
-    }
-    if row.kind == 1 {
-        return stands_ahead(cost, period, given, elapsed);
-    }
-    // with one quantum more it would be within its upper limit at the slot's end
-    if had < share + cost {
-        return Stand::Ready;
-    }
-    if had < share + period {
-        Stand::Waits
-    } else {
-        Stand::Breaks
+
+    // The key of a ready row, whose end is known. What its next quantum lacks of its share, divided by what a slot brings, says when it is due, and what is left
+    // over gives the bit and the group deadline.
+    fn key(self, end: u8) -> u64
+        requires { CanBeReady self.row self.given self.time × (end < 64) }
+        ensures { (result ≡ front_of (rank_of self.row 0 self.given) * 64 + end) × (result < most) × HasKey (rank_of self.row 0 self.given) }
+    {
+        let Asked { row, given, time } = self;
+        let cost = row.cost as u64;
+        let period = row.period as u64;
+        let share = (time - row.phase as u64) * cost;
+        let lacking = given * period + period - share;
+        // the next start: d - b
+        let whole = time + lacking / cost;
+        let rest = lacking % cost;
+        if rest == 0 {
+            return packed(2 * whole + 1, 0, end);
+        }
+        packed(2 * whole + 2, far(cost, period, rest), end)
     }
 }
 
@@ -129,8 +159,7 @@ fn stands_ahead(cost: u64, period: u64, given: u64, elapsed: u64) -> Stand
     requires { InLimits cost period elapsed }
     ensures { result ≡ ahead_stand cost period given elapsed }
 {
-    let jobs = (elapsed + (period - 1)) / period;
-    let released = jobs * cost;
+    let released = elapsed.div_ceil(period) * cost;
     if given < released {
         return Stand::Ready;
     }
@@ -138,25 +167,6 @@ fn stands_ahead(cost: u64, period: u64, given: u64, elapsed: u64) -> Stand
         return Stand::Breaks;
     }
     Stand::Waits
-}
-
-// The key of a ready row, whose end is known. What its next quantum lacks of its share, divided by what a slot brings, says when it is due, and what is left
-// over gives the bit and the group deadline.
-fn key(row: Row, end: u8, given: u64, time: u64) -> u64
-    requires { CanBeReady row given time × (end < 64) }
-    ensures { (result ≡ front_of (rank_of row 0 given) * 64 + end) × (result < most) × HasKey (rank_of row 0 given) }
-{
-    let cost = row.cost as u64;
-    let period = row.period as u64;
-    let share = (time - row.phase as u64) * cost;
-    let lacking = given * period + period - share;
-    // the next start: d - b
-    let whole = time + lacking / cost;
-    let rest = lacking % cost;
-    if rest == 0 {
-        return packed(2 * whole + 1, 0, end);
-    }
-    packed(2 * whole + 2, far(cost, period, rest), end)
 }
 
 // How far the group deadline lies behind the deadline: the last slot before the deadline is used by `rest` alone, and what is over of it is spread over the slots in which the row
@@ -168,8 +178,7 @@ fn far(cost: u64, period: u64, rest: u64) -> u64
     if 2 * cost < period {
         return 0;
     }
-    let gap = period - cost;
-    (cost - rest + (gap - 1)) / gap
+    (cost - rest).div_ceil(period - cost)
 }
 
 // Deadline and bit in one, group deadline and end: the key.

@@ -60,13 +60,12 @@ fn is_due(first: u64, key: u64, soon: u64) -> bool
 }
 
 // One quantum more for each of these rows.
-pub(crate) fn give(mut quanta: [Quanta; 32], rows: &[u8]) -> [Quanta; 32]
-    requires { GivesTo rows.now quanta }
-    ensures { result ≡ counted (given (names rows.now) 0 (numbers_of quanta)) }
+pub(crate) fn give(quanta: &mut [Quanta; 32], rows: &[u8])
+    requires { GivesTo rows.now quanta.old }
+    ensures { quanta.new ≡ counted (given (names rows.now) 0 (numbers_of quanta.old)) }
 {
     for row in rows {
         let i = *row as usize;
         quanta[i] = quanta[i].one_more();
     }
-    quanta
 }

@@ -1,9 +1,10 @@
 use mathlib.Core.Path.{sym}
 use native.Mathlib.Omega.{arith}
 use Rattle.std.proofs.lemmas.Result.{err_from_is_err_and}
-use Rattle.dispatcher.proofs.Refused.{past_end, no_room}
+use Rattle.dispatcher.proofs.Refused.{no_room}
 use Rattle.dispatcher.proofs.Judging.{found_whole, refused_as_broken, counted}
 use Rattle.dispatcher.proofs.State.cause.Goals as goal
+use Rattle.dispatcher.proofs.State.cause.Goals.{then-len-place-via-then-len-place, then-len-place-via-else-len-place+then-len-place-2}
 
 pub returns-in_err-found : goal.returns-in_err-found
 returns-in_err-found c =
@@ -24,17 +25,13 @@ returns-then-len-place c =
     let a = c.args in
     let found = found_whole a.self.now _ c.ready_rows.result c.ready_rows.ensures c.ok_or.ensures.value c.in_ok-found.was in
     let can = c.in_ok-runs_on.ensures in
-    let past = c.if-len-place.true in
-    λ buffer long. sym (past_end a.self.now a.free buffer a.place found.0 can.runs can.slot_left can.there (omega arith))
-
-pub returns-then-len-place-2 : goal.returns-then-len-place-2
-returns-then-len-place-2 c =
-    let a = c.args in
-    let found = found_whole a.self.now _ c.ready_rows.result c.ready_rows.ensures c.ok_or.ensures.value c.in_ok-found.was in
-    let can = c.in_ok-runs_on.ensures in
     let count = counted a.self.now a.free (found.1 can.runs) c.picked_of-picked.ensures c.how_many.ensures.0 in
-    let short = c.if-len-place-2.true in
-    λ buffer long. sym (no_room a.self.now a.free buffer a.place found.0 can.runs can.slot_left can.there (omega (arith, c.if-len-place.false)) (omega arith))
+    elim c.then-len-place.branch [
+      | then-len-place-via-then-len-place w ↦
+          λ buffer long. sym (no_room a.self.now a.free buffer a.place found.0 can.runs can.slot_left can.there (omega (arith, w.if-len-place.true)))
+      | then-len-place-via-else-len-place+then-len-place-2 w ↦
+          λ buffer long. sym (no_room a.self.now a.free buffer a.place found.0 can.runs can.slot_left can.there (omega (arith, w.if-len-place-2.true, w.if-len-place.false)))
+    ]
 
 pub returns : goal.returns
 returns c =

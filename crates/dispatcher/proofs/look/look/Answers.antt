@@ -37,8 +37,8 @@ loop-i-init c = (looking_begins _ _, finding_begins _ _ _ _ c.requires.1)
 
 pub returns-in-Breaks : goal.returns-in-Breaks
 returns-in-Breaks c =
-    let many = c.count-given.ensures ∙ number_at c.args.state.now.quanta c.loop-i.i in
-    let said = told (rows_in c.args.state.now) (quanta_in c.args.state.now) c.loop-i.i c.time-time.ensures many c.stands.ensures in
+    let many = c.count.ensures ∙ number_at c.args.state.now.quanta c.loop-i.i in
+    let said = told (rows_in c.args.state.now) (quanta_in c.args.state.now) c.loop-i.i c.time-time.ensures many c.stand.ensures in
     rw c.if-state.false (some_if _ _ _ (omega arith) (said_outside said c.in-Breaks.is))
 
 pub offset_bounds-ready-found : goal.offset_bounds-ready-found
@@ -52,11 +52,11 @@ overflow_add-found c = omega (arith, has_place c.requires.0 (omega arith) c.loop
 
 pub loop-i-preserved : goal.loop-i-preserved
 loop-i-preserved c =
-    let many = c.count-given.ensures ∙ number_at c.args.state.now.quanta c.loop-i.i in
-    let said = told (rows_in c.args.state.now) (quanta_in c.args.state.now) c.loop-i.i c.time-time.ensures many c.stands.ensures in
+    let many = c.count.ensures ∙ number_at c.args.state.now.quanta c.loop-i.i in
+    let said = told (rows_in c.args.state.now) (quanta_in c.args.state.now) c.loop-i.i c.time-time.ensures many c.stand.ensures in
     let inv = c.loop-i.invariant in
     let few : c.loop-i.i < 32 = is_small c.requires.0 (omega arith) in
-    elim c.match-stands.branch [
+    elim c.match-stand.branch [
       | in-Waits w ↦
           let is = said_waits said w.in-Waits.is in
           rw (w.ready-is, w.found-is) (looks_on _ _ inv.0 (omega arith) is.0, waits_on _ _ _ _ inv.1 few is.1)
