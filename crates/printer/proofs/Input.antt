@@ -1,16 +1,15 @@
 -- What is known of an input. Assumes nothing.
-use Prim.Native.Nat.{ℕ, zero, suc, ◌+◌, ◌-◌, ◌≤◌, ◌<◌}
-use mathlib.Core.Path.{◌≡◌, refl}
+use Prim.Native.Nat.{ℕ, ◌+◌, ◌≤◌, ◌<◌}
+use mathlib.Core.Path.{◌≡◌}
 use mathlib.Core.List.{List}
-use mathlib.Core.Bool.{true, false, ◌||◌}
-use native.Mathlib.Omega.{arith}
-use borrow.Author.Tests.{lt-ltb, le-ltb, eq-eqb, ne_eqb, ltb-false, eqb-true, not-false}
+use mathlib.Core.Bool.{false, ◌||◌}
+use borrow.Author.Tests.{lt-ltb, le-ltb, eq-eqb, ltb-false, eqb-true, not-false}
 use lib.Dec.{ltb}
 use lib.ListN.{length}
 use Rattle.facts.proofs.Tests.{neither_holds}
 use Rattle.fields.specs.Fields.{byte}
 use Rattle.printer.specs.Limits.{input_limit, run_limit}
-use Rattle.printer.specs.Input.{slots_asked, list_length, list_place, listed_or, held_back, wrong_length, beyond_limit, above_limit, unfit}
+use Rattle.printer.specs.Input.{slots_asked, list_length, list_place, listed_or, wrong_length, beyond_limit, above_limit, unfit}
 
 -- An input that is taken.
 pub record Fit (s : List ℕ) : Type 0 where
@@ -18,27 +17,11 @@ pub record Fit (s : List ℕ) : Type 0 where
   pub slots : slots_asked s ≤ run_limit
 
 module _ (s : List ℕ) where
-  -- The tests, one after the other: the length,
-  pub length_unfit : (length s ≡ list_place s + list_length s → ⊥) → true ≡ unfit s
+  -- An input within the limits and as long as its parts say is not fit only for its count of k values.
+  pub listed_unfit : length s ≡ list_place s + list_length s → length s ≤ input_limit → slots_asked s ≤ run_limit → ltb (slots_asked s) (list_length s) ≡ unfit s
   unfolding unfit
-  length_unfit h = rw (ne_eqb (length s) (list_place s + list_length s) h)
-
-  module _ (long : length s ≡ list_place s + list_length s) where
-    -- the limit of the input,
-    pub limit_unfit : input_limit < length s → true ≡ unfit s
-    unfolding unfit
-    limit_unfit h = rw (eq-eqb (length s) (list_place s + list_length s) long, lt-ltb input_limit (length s) h)
-
-    module _ (few : length s ≤ input_limit) where
-      -- the slots,
-      pub slots_unfit : run_limit < slots_asked s → true ≡ unfit s
-      unfolding unfit
-      slots_unfit h = rw (eq-eqb (length s) (list_place s + list_length s) long, le-ltb input_limit (length s) few, lt-ltb run_limit (slots_asked s) h)
-
-      -- and the count of k values.
-      pub listed_unfit : slots_asked s ≤ run_limit → ltb (slots_asked s) (list_length s) ≡ unfit s
-      unfolding unfit
-      listed_unfit h = rw (eq-eqb (length s) (list_place s + list_length s) long, le-ltb input_limit (length s) few, le-ltb run_limit (slots_asked s) h)
+  listed_unfit long few h =
+      rw (eq-eqb (length s) (list_place s + list_length s) long, le-ltb input_limit (length s) few, le-ltb run_limit (slots_asked s) h)
 
   -- What is known where all have passed.
   pub is_fit : unfit s ≡ false → Fit s
@@ -60,12 +43,3 @@ module _ (s : List ℕ) where
   pub free_past : (past : ℕ) {slot : ℕ} → list_length s ≤ slot → past ≡ listed_or s past slot
   unfolding listed_or
   free_past past {slot} h = rw (le-ltb slot (list_length s) h)
-
--- One core is held back, but not the only one.
-pub held_back_of_few : (cores : ℕ) → cores < 2 → cores ≡ held_back cores
-held_back_of_few zero h = refl
-held_back_of_few (suc zero) h = refl
-held_back_of_few (suc (suc cores)) h = absurd (omega arith)
-
-pub held_back_of_more : (cores : ℕ) → 2 ≤ cores → cores - 1 ≡ held_back cores
-held_back_of_more cores h = rw (ne_eqb cores 1 (λ e. omega (arith, h, e)))

@@ -1,9 +1,4 @@
-use mathlib.Core.Path.{◌≡◌, refl, ap, ◌∙◌}
-use mathlib.Core.List.{List}
-use mathlib.Core.Bool.{Bool}
-use Prim.Native.Nat.{ℕ, ◌≤◌}
-use native.Mathlib.Omega.{arith}
-use lib.ListN.{length}
+use Rattle.std.proofs.Common.{◌≡◌, ℕ, ◌+◌, ◌-◌, ◌≤◌, suc, Bool, List, length, ap, ◌∙◌, arith, rules}
 use Rattle.table.specs.Limits.{row_limit}
 use Rattle.trace.specs.Said.{Said}
 use Rattle.cores.specs.Sets.{first_cores}
@@ -15,8 +10,7 @@ use Rattle.dispatcher.specs.Slot.{slot_of}
 use Rattle.printer.specs.Limits.{record_room, run_limit}
 use Rattle.printer.specs.Input.{held_back}
 use Rattle.printer.specs.Text.{record_buffer}
-use Rattle.printer.proofs.Text.{Ran, is_tellable, slots_begin, slots_go_on, slots_end_early, slots_end, all_slots_written}
-use borrow.Author.Rules.{rules}
+use Rattle.printer.proofs.Text.{Ran, is_tellable, slots_go_on, slots_end_early, slots_end, all_slots_written}
 use Rattle.printer.proofs.slots.all.Goals as goal
 
 -- what the slot of an iteration left, asked with the first k cores and an empty record
@@ -33,39 +27,37 @@ slot_ran start first told answered state bytes long table places =
       places = ap (λ t. length t.rows) table ∙ places;
     }
 
-pub loop-left-init : goal.loop-left-init
-loop-left-init c = rw c.begun-last.ensures (slots_begin _ _ _ _ _ refl)
-
-pub one-next-requires : goal.one-next-requires
-one-next-requires c =
-    let few : c.slots-left.result ≤ run_limit = omega (arith, c.slots-left.ensures, c.requires.1) in
+pub one-requires : goal.one-requires
+one-requires c =
+    let few : c.slots-end.result ≤ run_limit = omega (arith, c.slots-end.ensures, c.requires.1) in
     let places : length c.args.table.rows ≡ 32 = search rules in
-    let slot = c.slot-last.ensures in
-    let ran = slot_ran (fresh_of c.args.table) c.first-free.ensures c.told-told.ensures slot.answer_value slot.state_value slot.buffer_after c.slot-last.auto.buffer c.loop-left.invariant.table places in
-    (omega (arith, few, c.loop-left.invariant.count, c.loop-left.invariant.near, c.requires.0), (omega (arith, few, c.loop-left.invariant.count), is_tellable _ _ ran))
+    let slot = c.slot-outcome.ensures in
+    let so = c.loop.invariant.1 in
+    let ran = slot_ran (fresh_of c.args.table) c.first.ensures c.told-told.ensures slot.answer_value slot.state_value slot.buffer_after c.slot-outcome.auto.buffer so.table places in
+    (omega (arith, few, so.count, so.near, c.requires.0), (omega (arith, few, so.count), is_tellable _ _ ran))
 
-pub returns-then-told-ne0 : goal.returns-then-told-ne0
-returns-then-told-ne0 c =
-    let few : c.slots-left.result ≤ run_limit = omega (arith, c.slots-left.ensures, c.requires.1) in
+pub returns-then-told-ne0-clause-wrote : goal.returns-then-told-ne0-clause-wrote
+returns-then-told-ne0-clause-wrote c =
+    let few : c.slots-end.result ≤ run_limit = omega (arith, c.slots-end.ensures, c.requires.1) in
     let places : length c.args.table.rows ≡ 32 = search rules in
-    let slot = c.slot-last.ensures in
-    let ran = slot_ran (fresh_of c.args.table) c.first-free.ensures c.told-told.ensures slot.answer_value slot.state_value slot.buffer_after c.slot-last.auto.buffer c.loop-left.invariant.table places in
-    let a = c.args in
-    let one = c.one-next in
-    all_slots_written held_back a.input.now (fresh_of a.table) c.slots-left.ensures
-    (slots_end_early _ _ _ _ _ c.loop-left.invariant c.loop-left-test.true c.free-k.ensures ran one.ensures one.auto.out c.if-told-ne0.true few)
+    let slot = c.slot-outcome.ensures in
+    let so = c.loop.invariant.1 in
+    let ran = slot_ran (fresh_of c.args.table) c.first.ensures c.told-told.ensures slot.answer_value slot.state_value slot.buffer_after c.slot-outcome.auto.buffer so.table places in
+    let left : c.slots-end.result - c.loop.counter ≡ suc (c.slots-end.result - (c.loop.counter + 1)) = omega (arith, c.loop-test.true) in
+    all_slots_written held_back c.args.input.now (fresh_of c.args.table) c.slots-end.ensures
+    (slots_end_early _ _ _ _ _ so left c.free-k.ensures ran c.one.ensures.wrote c.if-told-ne0.true few)
 
-pub loop-left-preserved : goal.loop-left-preserved
-loop-left-preserved c =
+pub loop-preserved : goal.loop-preserved
+loop-preserved c =
     let places : length c.args.table.rows ≡ 32 = search rules in
-    let slot = c.slot-last.ensures in
-    let ran = slot_ran (fresh_of c.args.table) c.first-free.ensures c.told-told.ensures slot.answer_value slot.state_value slot.buffer_after c.slot-last.auto.buffer c.loop-left.invariant.table places in
-    let one = c.one-next in
-    slots_go_on _ _ _ _ _ c.loop-left.invariant c.loop-left-test.true c.free-k.ensures ran one.ensures one.auto.out c.if-told-ne0.false
+    let slot = c.slot-outcome.ensures in
+    let so = c.loop.invariant.1 in
+    let ran = slot_ran (fresh_of c.args.table) c.first.ensures c.told-told.ensures slot.answer_value slot.state_value slot.buffer_after c.slot-outcome.auto.buffer so.table places in
+    let left : c.slots-end.result - c.loop.counter ≡ suc (c.slots-end.result - (c.loop.counter + 1)) = omega (arith, c.loop-test.true) in
+    (c.one.ensures.same_buffer ∙ c.loop.invariant.0, slots_go_on _ _ _ _ _ so left c.free-k.ensures ran c.one.ensures.wrote c.if-told-ne0.false)
 
-pub returns : goal.returns
-returns c =
-    let few : c.slots-left.result ≤ run_limit = omega (arith, c.slots-left.ensures, c.requires.1) in
-    let a = c.args in
-    all_slots_written held_back a.input.now (fresh_of a.table) c.slots-left.ensures
-    (slots_end _ _ _ _ _ c.loop-left.invariant c.loop-left-test.false few (rw c.time.ensures at c.end.ensures))
+pub returns-clause-wrote : goal.returns-clause-wrote
+returns-clause-wrote c =
+    let few : c.slots-end.result ≤ run_limit = omega (arith, c.slots-end.ensures, c.requires.1) in
+    all_slots_written held_back c.args.input.now (fresh_of c.args.table) c.slots-end.ensures
+    (slots_end _ _ _ _ _ c.loop.invariant.1 (omega (arith, c.loop-test.false)) few (rw c.time.ensures at c.end.ensures.wrote))

@@ -1,20 +1,12 @@
-use mathlib.Core.Path.{◌≡◌}
-use native.Mathlib.Omega.{arith}
-use Rattle.printer.proofs.Text.{own_refused, own_done, own_late}
+use Rattle.printer.proofs.Text.{own_refused, own_late}
 use Rattle.printer.proofs.slots.one.Goals as goal
 
-pub returns-then-told-gt1 : goal.returns-then-told-gt1
-returns-then-told-gt1 c =
+pub returns-then-told-gt1-clause-wrote : goal.returns-then-told-gt1-clause-wrote
+returns-then-told-gt1-clause-wrote c =
     let a = c.args in
-    own_refused a.slot.0 a.k a.rows a.entry a.told c.if-told-gt1.true c.refused.ensures
+    own_refused a.slot.0 a.k a.rows.now a.entry.now a.told c.if-told-gt1.true c.refused.ensures.wrote
 
-pub returns-then-told-eq0 : goal.returns-then-told-eq0
-returns-then-told-eq0 c =
+pub returns-then-told-eq1-clause-wrote : goal.returns-then-told-eq1-clause-wrote
+returns-then-told-eq1-clause-wrote c =
     let a = c.args in
-    own_done a.slot.0 a.k a.rows a.entry a.told c.if-told-eq0.true (rw c.time.ensures at c.slot-next.ensures)
-
-pub returns : goal.returns
-returns c =
-    let a = c.args in
-    let one : a.told.number ≡ 1 = omega (arith, c.if-told-gt1.false, c.if-told-eq0.false) in
-    own_late a.slot.0 a.k a.rows a.entry a.told one (rw c.time.ensures at c.slot-next.ensures) c.late.ensures
+    own_late a.slot.0 a.k a.rows.now a.entry.now a.told c.if-told-eq1.true (rw c.time.ensures at c.slot.ensures.wrote) c.late.ensures.wrote
