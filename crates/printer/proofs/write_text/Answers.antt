@@ -1,6 +1,7 @@
-use Rattle.std.proofs.Common.{◌≡◌, ℕ, ◌+◌, ◌-◌, false, List, ◌++◌, take, drop, sym, ap, ◌∙◌, length-append, arith}
-use Rattle.table.specs.declared.Reading.{Reading}
+use Rattle.std.proofs.Common.{◌≡◌, ℕ, ◌+◌, ◌-◌, ◌≤◌, false, List, ◌++◌, length, take, drop, sym, ap, ◌∙◌, length-append, arith}
 use Rattle.table.specs.Bytes.{reading}
+use Rattle.table.specs.Reply.{Reading}
+use Rattle.table.proofs.Numbers.{is_fault}
 use Rattle.dispatcher.specs.State.{fresh_of}
 use Rattle.printer.specs.Input.{table_length, table_bytes, held_back, unfit}
 use Rattle.printer.specs.Lines.{header}
@@ -24,26 +25,27 @@ slice_bounds-read-end c =
     let fit : unfit c.args.input.now ≡ false = sym c.is_unfit.ensures ∙ c.if-is_unfit.false in
     omega (arith, (is_fit _ fit).long, c.half.ensures)
 
-pub returns-then-reading-ne0-clause-wrote : goal.returns-then-reading-ne0-clause-wrote
-returns-then-reading-ne0-clause-wrote c =
-    let s = c.args.input.now in
-    let fit : unfit s ≡ false = sym c.is_unfit.ensures ∙ c.if-is_unfit.false in
-    let table_is = table_read s c.half.ensures c.read-reading.ensures in
-    let refused = c.refused.ensures.wrote in
-    wrote_few_as (text_of_refused held_back s fit (ap (λ r. r.number) table_is) c.if-reading-ne0.true) refused.wrote (omega (arith, refused.few))
-
 pub all-requires : goal.all-requires
 all-requires c =
     let fit : unfit c.args.input.now ≡ false = sym c.is_unfit.ensures ∙ c.if-is_unfit.false in
     (omega (arith, c.word-2.ensures.wrote.place, c.requires), (is_fit _ fit).slots)
 
-pub returns-clause-wrote : goal.returns-clause-wrote
-returns-clause-wrote c =
+pub returns-in-Ok-clause-wrote : goal.returns-in-Ok-clause-wrote
+returns-in-Ok-clause-wrote c =
     let s = c.args.input.now in
     let fit : unfit s ≡ false = sym c.is_unfit.ensures ∙ c.if-is_unfit.false in
-    let table_is = table_read s c.half.ensures c.read-reading.ensures in
-    let none = sym (ap (λ r. r.number) table_is) ∙ c.if-reading-ne0.false in
+    let table_is = table_read s c.half.ensures c.in-Ok.ensures in
     let all = c.all.ensures.wrote in
     let state = ap (λ r. fresh_of r.table) table_is in
-    wrote_few_as (ap (λ l. l ++ all_slots held_back s (fresh_of c.read-reading.result.table)) header_words ∙ (ap (λ x. header ++ all_slots held_back s x) state ∙ text_of_taken held_back s fit none))
+    wrote_few_as
+    (ap (λ l. l ++ all_slots held_back s (fresh_of c.in-Ok.table)) header_words
+    ∙ (ap (λ x. header ++ all_slots held_back s x) state ∙ text_of_taken held_back s fit (sym (ap (λ r. r.number) table_is))))
     (wrote_on c.word-2.ensures.wrote all.wrote) (rw (length-append _ _) (omega (arith, all.few)))
+
+pub returns-in-Err-clause-wrote : goal.returns-in-Err-clause-wrote
+returns-in-Err-clause-wrote c =
+    let s = c.args.input.now in
+    let fit : unfit s ≡ false = sym c.is_unfit.ensures ∙ c.if-is_unfit.false in
+    let number = ap (λ r. r.number) (table_read s c.half.ensures c.in-Err.ensures) in
+    let refused = rw c.number.ensures at c.refused.ensures.wrote in
+    wrote_few_as (text_of_refused held_back s fit number (is_fault c.in-Err.fault)) refused.wrote (omega (arith, refused.few))
