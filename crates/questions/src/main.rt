@@ -34,10 +34,9 @@
 #![tactic(auto)]
 
 mod answers;
-mod put;
-mod read;
 
-ghost use Rattle.std.specs.Prelude.{◌≡◌, ◌≤◌, min, length, IfOk};
+ghost use Rattle.std.specs.Prelude.{◌≤◌, length, IfOk};
+ghost use Rattle.questions.specs.Requests.{Inside};
 
 use std::io;
 use std::io::Read;
@@ -45,9 +44,13 @@ use std::io::Read;
 const INPUT_LIMIT: usize = 1_048_576;
 
 fn main(rt: HostRuntime) -> io::Result<()> {
-    let mut input = room();
-    let given = read_full(&mut rt.reader(), &mut input)?;
-    let within = least(given, INPUT_LIMIT);
+    // One byte more than an input may have, so that a longer one is noticed.
+    let mut input = Vec::new(rt.alloc());
+    rt.reader()
+        .take(INPUT_LIMIT as u64 + 1)
+        .read_to_end(&mut input)?;
+    let given = input.len();
+    let within = given.min(INPUT_LIMIT);
     let answered = answer_all(&rt, &mut input[..within])?;
     if answered < given {
         rt.write_all(&[255])?;
@@ -55,57 +58,26 @@ fn main(rt: HostRuntime) -> io::Result<()> {
     Ok(())
 }
 
-// One byte more than an input may have, so that a longer one is noticed.
-fn room() -> [u8; INPUT_LIMIT + 1]
-    ensures { 1_048_577 ≡ length result }
-{
-    [0; INPUT_LIMIT + 1]
-}
-
-// Reads until the buffer is full or the input ends, and says how many bytes stand at the front of the buffer. The only errors are those of a read:
-// the front of the buffer may then hold some of the input.
-fn read_full(input: &mut impl Read, buffer: &mut [u8]) -> io::Result<usize>
-    ensures { IfOk result (λ n. n ≤ length buffer.new) }
-{
-    let mut done: usize = 0;
-    while done < buffer.len() {
-        let got = input.read(&mut buffer[done..])?;
-        if got == 0 {
-            break;
-        }
-        done += got;
-    }
-    Ok(done)
-}
-
-fn least(a: usize, b: usize) -> usize
-    ensures { result ≡ min a b }
-{
-    if a < b { a } else { b }
-}
-
 // Answers the requests from the front on, and says where the first stands that is unknown or cut: at the end, if there is none. The only errors are
 // those of a write to standard output, which ends the run.
 fn answer_all(rt: &impl Print, requests: &mut [u8]) -> io::Result<usize>
     ensures { IfOk result (λ n. n ≤ length requests.old) }
 {
-    let mut at: usize = 0;
+    let mut at = 0;
     while at < requests.len() {
-        let length = answer(rt, &mut requests[at..])?;
-        if length == 0 {
-            return Ok(at);
-        }
+        let Some(length) = answer(rt, &mut requests[at..])? else {
+            break;
+        };
         at += length;
     }
     Ok(at)
 }
 
-// Answers the request at the front, and says how many bytes it has: 0 if it is unknown or cut. The only errors are those of a write.
-fn answer(rt: &impl Print, requests: &mut [u8]) -> io::Result<usize>
-    ensures { IfOk result (λ n. n ≤ length requests.old) }
+// Answers the request at the front, and says how many bytes it has, or that it is unknown or cut. The only errors are those of a write.
+fn answer(rt: &impl Print, requests: &mut [u8]) -> io::Result<Option<usize>>
+    ensures { IfOk result (Inside (length requests.old)) }
 {
-    let letter = fields::byte(requests, 0);
-    match letter {
+    match fields::byte(requests, 0) {
         b'F' => answers::fresh(rt, requests),
         b'N' => answers::next(rt, requests),
         b'A' => answers::row(rt, requests),
@@ -113,6 +85,6 @@ fn answer(rt: &impl Print, requests: &mut [u8]) -> io::Result<usize>
         b'L' => answers::late(rt, requests),
         b'G' => answers::give(rt, requests),
         b'O' => answers::record(rt, requests),
-        _ => Ok(0),
+        _ => Ok(None),
     }
 }

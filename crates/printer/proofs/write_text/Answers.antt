@@ -1,4 +1,4 @@
-use Rattle.std.proofs.Common.{◌≡◌, ℕ, ◌+◌, ◌-◌, ◌≤◌, false, List, ◌++◌, length, take, drop, sym, ap, ◌∙◌, length-append, arith}
+use Rattle.std.proofs.Common.{◌≡◌, ℕ, ◌+◌, ◌-◌, false, List, ◌++◌, take, drop, sym, ap, ◌∙◌, length-append, arith}
 use Rattle.table.specs.Bytes.{reading}
 use Rattle.table.specs.Reply.{Reading}
 use Rattle.table.proofs.Numbers.{is_fault}
@@ -28,7 +28,7 @@ slice_bounds-read-end c =
 pub all-requires : goal.all-requires
 all-requires c =
     let fit : unfit c.args.input.now ≡ false = sym c.is_unfit.ensures ∙ c.if-is_unfit.false in
-    (omega (arith, c.word-2.ensures.wrote.place, c.requires), (is_fit _ fit).slots)
+    (omega (arith, c.word-in-Ok.ensures.wrote.place, c.requires), (is_fit _ fit).slots)
 
 pub returns-in-Ok-clause-wrote : goal.returns-in-Ok-clause-wrote
 returns-in-Ok-clause-wrote c =
@@ -40,7 +40,7 @@ returns-in-Ok-clause-wrote c =
     wrote_few_as
     (ap (λ l. l ++ all_slots held_back s (fresh_of c.in-Ok.table)) header_words
     ∙ (ap (λ x. header ++ all_slots held_back s x) state ∙ text_of_taken held_back s fit (sym (ap (λ r. r.number) table_is))))
-    (wrote_on c.word-2.ensures.wrote all.wrote) (rw (length-append _ _) (omega (arith, all.few)))
+    (wrote_on c.word-in-Ok.ensures.wrote all.wrote) (rw (length-append _ _) (omega (arith, all.few)))
 
 pub returns-in-Err-clause-wrote : goal.returns-in-Err-clause-wrote
 returns-in-Err-clause-wrote c =

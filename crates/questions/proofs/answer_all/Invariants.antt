@@ -1,4 +1,4 @@
-use Rattle.std.proofs.Common.{length, ◌-◌, ◌≤◌}
+use Rattle.std.proofs.Common.{◌-◌, ◌≤◌, length}
 use Rattle.questions.proofs.answer_all.Given as goal
 
 abbrev pub invariant-loop-at : goal.invariant-loop-at

@@ -33,7 +33,7 @@ one-requires c =
     let places : length c.args.table.rows ≡ 32 = search rules in
     let slot = c.slot-outcome.ensures in
     let so = c.loop.invariant.1 in
-    let ran = slot_ran (fresh_of c.args.table) c.first.ensures c.told-told.ensures slot.answer_value slot.state_value slot.buffer_after c.slot-outcome.auto.buffer so.table places in
+    let ran = slot_ran (fresh_of c.args.table) c.first.ensures c.of-told.ensures slot.answer_value slot.state_value slot.buffer_after c.slot-outcome.auto.buffer so.table places in
     (omega (arith, few, so.count, so.near, c.requires.0), (omega (arith, few, so.count), is_tellable _ _ ran))
 
 pub returns-then-told-ne0-clause-wrote : goal.returns-then-told-ne0-clause-wrote
@@ -42,7 +42,7 @@ returns-then-told-ne0-clause-wrote c =
     let places : length c.args.table.rows ≡ 32 = search rules in
     let slot = c.slot-outcome.ensures in
     let so = c.loop.invariant.1 in
-    let ran = slot_ran (fresh_of c.args.table) c.first.ensures c.told-told.ensures slot.answer_value slot.state_value slot.buffer_after c.slot-outcome.auto.buffer so.table places in
+    let ran = slot_ran (fresh_of c.args.table) c.first.ensures c.of-told.ensures slot.answer_value slot.state_value slot.buffer_after c.slot-outcome.auto.buffer so.table places in
     let left : c.slots-end.result - c.loop.counter ≡ suc (c.slots-end.result - (c.loop.counter + 1)) = omega (arith, c.loop-test.true) in
     all_slots_written held_back c.args.input.now (fresh_of c.args.table) c.slots-end.ensures
     (slots_end_early _ _ _ _ _ so left c.free-k.ensures ran c.one.ensures.wrote c.if-told-ne0.true few)
@@ -52,7 +52,7 @@ loop-preserved c =
     let places : length c.args.table.rows ≡ 32 = search rules in
     let slot = c.slot-outcome.ensures in
     let so = c.loop.invariant.1 in
-    let ran = slot_ran (fresh_of c.args.table) c.first.ensures c.told-told.ensures slot.answer_value slot.state_value slot.buffer_after c.slot-outcome.auto.buffer so.table places in
+    let ran = slot_ran (fresh_of c.args.table) c.first.ensures c.of-told.ensures slot.answer_value slot.state_value slot.buffer_after c.slot-outcome.auto.buffer so.table places in
     let left : c.slots-end.result - c.loop.counter ≡ suc (c.slots-end.result - (c.loop.counter + 1)) = omega (arith, c.loop-test.true) in
     (c.one.ensures.same_buffer ∙ c.loop.invariant.0, slots_go_on _ _ _ _ _ so left c.free-k.ensures ran c.one.ensures.wrote c.if-told-ne0.false)
 
