@@ -59,15 +59,15 @@ module _ (e p o q : ℕ) {e' p' o' i : ℕ} (y : true ≡ next_answered e p o q)
   answers time h = rw (sym y) (λ k. Some (record { 0 = sym (h ∙ (λ j. time (as_asked.0 j) (as_asked.1 j) (as_asked.2 j) (as_asked.3 j))) k }))
 
   -- or its deadline and bit.
-  pub answers_due : {due : Due} → (due.deadline.0 ≡ deadline e' p' o' i) × (due.bit ≡ bit e' p' i) → next_due e p o q ≡ Some due
+  pub answers_due : {due : Due} → due.deadline.0 ≡ deadline e' p' o' i → due.bit ≡ bit e' p' i → next_due e p o q ≡ Some due
   unfolding next_due
-  answers_due h =
+  answers_due d b =
       rw (sym y)
       (λ k.
       Some (
       record {
-        deadline = record { 0 = sym (h.0 ∙ (λ j. deadline (as_asked.0 j) (as_asked.1 j) (as_asked.2 j) (as_asked.3 j))) k };
-        bit = sym (h.1 ∙ (λ j. bit (as_asked.0 j) (as_asked.1 j) (as_asked.3 j))) k;
+        deadline = record { 0 = sym (d ∙ (λ j. deadline (as_asked.0 j) (as_asked.1 j) (as_asked.2 j) (as_asked.3 j))) k };
+        bit = sym (b ∙ (λ j. bit (as_asked.0 j) (as_asked.1 j) (as_asked.3 j))) k;
       }
       ))
 

@@ -48,7 +48,8 @@ impl RowSubtask {
 
     // Its deadline and its bit: "the next start is d - b", so one division gives both.
     pub(crate) fn due(self) -> Due
-        ensures { (result.deadline.0 ≡ deadline self.cost self.period self.origin.0 self.number.0) × (result.bit ≡ bit self.cost self.period self.number.0) }
+        ensures deadline { result.deadline.0 ≡ deadline self.cost self.period self.origin.0 self.number.0 }
+        ensures bit { result.bit ≡ bit self.cost self.period self.number.0 }
     {
         let whole = product(self.number.number(), self.period);
         let next_start = self.origin.later(whole / self.cost);
@@ -133,7 +134,9 @@ impl RowSubtask {
 
 // number·factor/divisor, rounded up.
 fn portion(number: u64, factor: u64, divisor: u64) -> u64
-    requires { (number * factor < products) × (0 < divisor) × (divisor < 65_536) }
+    requires product { number * factor < products }
+    requires some { 0 < divisor }
+    requires small { divisor < 65_536 }
     ensures { result ≡ ceil_div (number * factor) divisor }
 {
     (number * factor + (divisor - 1)) / divisor
@@ -141,8 +144,10 @@ fn portion(number: u64, factor: u64, divisor: u64) -> u64
 
 // A number of subtasks or jobs times the period.
 fn product(number: u64, period: u64) -> u64
-    requires { (number ≤ furthest) × (period < 65_536) }
-    ensures { (result ≡ number * period) × (result < products) }
+    requires near { number ≤ furthest }
+    requires small { period < 65_536 }
+    ensures value { result ≡ number * period }
+    ensures fits { result < products }
 {
     number * period
 }

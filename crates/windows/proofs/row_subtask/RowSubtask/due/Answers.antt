@@ -6,10 +6,11 @@ use Rattle.windows.proofs.row_subtask.RowSubtask.due.Goals as goal
 pub returns-then-whole-self-eq0 : goal.returns-then-whole-self-eq0
 returns-then-whole-self-eq0 c =
     let product = c.product-whole.ensures in
-    end_of_whole c.args.self.fits product.1 (product.0 ∙ ap (λ n. n * c.args.self.period) c.number.ensures) c.later-next_start.ensures c.if-whole-self-eq0.true
+    let end = end_of_whole c.args.self.fits product.fits (product.value ∙ ap (λ n. n * c.args.self.period) c.number.ensures) c.later-next_start.ensures c.if-whole-self-eq0.true in
+    record { deadline = end.0; bit = end.1 }
 
 pub returns-else-whole-self-eq0 : goal.returns-else-whole-self-eq0
 returns-else-whole-self-eq0 c =
     let product = c.product-whole.ensures in
-    let end = end_of_part c.args.self.fits product.1 (product.0 ∙ ap (λ n. n * c.args.self.period) c.number.ensures) c.later-next_start.ensures c.if-whole-self-eq0.false in
-    (c.later.ensures ∙ end.0, end.1)
+    let end = end_of_part c.args.self.fits product.fits (product.value ∙ ap (λ n. n * c.args.self.period) c.number.ensures) c.later-next_start.ensures c.if-whole-self-eq0.false in
+    record { deadline = c.later.ensures ∙ end.0; bit = end.1 }

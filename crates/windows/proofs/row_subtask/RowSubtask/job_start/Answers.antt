@@ -1,15 +1,10 @@
 use mathlib.Core.Path.{ap, ◌∙◌}
 use Prim.Native.Nat.{◌*◌, ◌/◌}
-use native.Mathlib.Nat.{div-le_self}
-use native.Mathlib.Omega.{arith}
 use Rattle.windows.proofs.Fits.{job_start_is}
 use Rattle.windows.proofs.row_subtask.RowSubtask.job_start.Goals as goal
-
-pub product-requires : goal.product-requires
-product-requires c = omega (arith, div-le_self c.count.result c.args.self.cost)
 
 pub returns : goal.returns
 returns c =
     let quanta = c.count.ensures ∙ c.quanta_before.ensures in
     let product = c.product.ensures in
-    job_start_is c.args.self.fits product.1 (product.0 ∙ ap (λ n. n / c.args.self.cost * c.args.self.period) quanta) c.later.ensures
+    job_start_is c.args.self.fits product.fits (product.value ∙ ap (λ n. n / c.args.self.cost * c.args.self.period) quanta) c.later.ensures

@@ -7,4 +7,4 @@ pub returns : goal.returns
 returns c =
     let quanta = c.count.ensures ∙ c.quanta_before.ensures in
     let product = c.product-whole.ensures in
-    start_is c.args.self.fits product.1 (product.0 ∙ ap (λ n. n * c.args.self.period) quanta) c.later.ensures
+    start_is c.args.self.fits product.fits (product.value ∙ ap (λ n. n * c.args.self.period) quanta) c.later.ensures

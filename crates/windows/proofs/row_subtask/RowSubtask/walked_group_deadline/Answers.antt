@@ -42,7 +42,7 @@ pub loop-self-preserved : goal.loop-self-preserved
 unfolding window_length
 loop-self-preserved c =
     let fits = fits_on_walk c.args.self.fits c.requires c.loop-self.invariant.0 in
-    let no-bit : bit c.args.self.cost c.args.self.period c.loop-self.number.0 ≡ 0 → ⊥ = λ z. c.if-due-eq0.false (c.due-due.ensures.1 ∙ z) in
+    let no-bit : bit c.args.self.cost c.args.self.period c.loop-self.number.0 ≡ 0 → ⊥ = λ z. c.if-due-eq0.false (c.due-due.ensures.bit ∙ z) in
     let next_is : c.next-number.result.0 ≡ c.loop-self.number.0 + 1 = omega arith in
     let args = c.args.self in
     let next_start = next_start_is_deadline_less_bit args.cost args.period args.origin.0 fits.cost c.loop-self.number.0 in
@@ -60,17 +60,17 @@ pub returns-then-due-eq0 : goal.returns-then-due-eq0
 returns-then-due-eq0 c =
     let fits = fits_on_walk c.args.self.fits c.requires c.loop-self.invariant.0 in
     let half = said_heavy _ _ c.is_light.ensures c.if-is_light.false in
-    c.due-due.ensures.0
-    ∙ ends_by_bit _ _ _ _ _ fits.cost c.loop-self.invariant.0 half (sym c.due-due.ensures.1 ∙ c.if-due-eq0.true)
+    c.due-due.ensures.deadline
+    ∙ ends_by_bit _ _ _ _ _ fits.cost c.loop-self.invariant.0 half (sym c.due-due.ensures.bit ∙ c.if-due-eq0.true)
 
 pub returns-then-since-eq3 : goal.returns-then-since-eq3
 unfolding window_length
 returns-then-since-eq3 c =
     let fits = fits_on_walk c.args.self.fits c.requires c.loop-self.invariant.0 in
     let half = said_heavy _ _ c.is_light.ensures c.if-is_light.false in
-    let no-bit : bit c.args.self.cost c.args.self.period c.loop-self.number.0 ≡ 0 → ⊥ = λ z. c.if-due-eq0.false (c.due-due.ensures.1 ∙ z) in
+    let no-bit : bit c.args.self.cost c.args.self.period c.loop-self.number.0 ≡ 0 → ⊥ = λ z. c.if-due-eq0.false (c.due-due.ensures.bit ∙ z) in
     omega (
       arith,
       ends_by_length _ _ _ _ _ fits.cost c.loop-self.invariant.0 half no-bit (omega arith)
-          (omega (arith, c.due-due.ensures.0)),
+          (omega (arith, c.due-due.ensures.deadline)),
     )
