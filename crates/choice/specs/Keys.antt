@@ -4,6 +4,7 @@ use Rattle.std.specs.Prelude.{ℕ, ◌+◌, ◌-◌, ◌*◌, ◌≤◌, ◌<◌
 use Rattle.facts.specs.Counting.{how_many}
 use Rattle.counts.specs.Limits.{most}
 use Rattle.table.specs.declared.Row.{Row}
+use Rattle.pd2.specs.Near.{HasWindow}
 use Rattle.pd2.specs.Order.{Rank, rank_of, with_favour, before}
 use Rattle.pd2.specs.Choice.{row_at, quanta_at, rank_at}
 use Rattle.choice.specs.Choice.{says_ready, says_ready_in}
@@ -11,6 +12,12 @@ use Rattle.choice.specs.Choice.{says_ready, says_ready_in}
 -- How far D lies behind d; 0 for a light row, and where b is 0, since D is not asked for then.
 abbrev pub behind : Rank → ℕ
 behind x = cond (eqb x.b 1) (x.D - x.d) 0
+
+-- A row has a next window, which ends by this deadline, with this bit.
+pub record DueIs (row : Row) (q d b : ℕ) : Type 0 where
+  pub window : HasWindow row q
+  pub deadline : d ≡ (rank_of row 0 q).d
+  pub bit : b ≡ (rank_of row 0 q).b
 
 -- How a key begins: with d, b and how far D lies behind d, in the order in which the rules look at them.
 abbrev pub front_of : Rank → ℕ

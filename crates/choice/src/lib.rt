@@ -4,21 +4,20 @@
 
 mod smallest;
 
-ghost use Rattle.std.specs.Prelude.{◌≡◌, ◌+◌, ◌-◌, ◌*◌, ◌≤◌, ◌<◌, min, MatchOption, false, ltb, length, take};
+ghost use Rattle.std.specs.Prelude.{◌≡◌, ◌+◌, ◌-◌, ◌*◌, ◌≤◌, ◌<◌, min, MatchOption, true, false, ltb, length, take};
 ghost use Rattle.trace.specs.Record.{marked};
 ghost use Rattle.facts.specs.Counting.{those};
 ghost use Rattle.counts.specs.Limits.{most};
-ghost use Rattle.pd2.specs.Near.{HasWindow};
 ghost use Rattle.pd2.specs.Order.{rank_of};
 ghost use Rattle.counts.specs.Numbers.{numbers_of};
 ghost use Rattle.choice.specs.Choice.{says_ready, favours_marked, chosen};
-ghost use Rattle.choice.specs.Keys.{behind, end_of, KeyIs, key_in, KeysAre, FirstLeft};
+ghost use Rattle.choice.specs.Keys.{behind, DueIs, end_of, KeyIs, key_in, KeysAre, FirstLeft};
 
 use counts::{Quanta, Slot};
 use table::Row;
 use windows::Due;
 
-// Stands for the key of a row that is not ready: it lies past all others.
+// Stands for the key of a row that is not ready: it lies past all others. (An Option for each key would be twice as long, and None goes before every Some.)
 const NOT_READY: u64 = 18_446_744_073_709_551_615;
 
 // The rows that are picked of the first n, with k cores free, as marks; `favoured` marks those that go first among full ties. Rows and numbers may be wild:
@@ -63,7 +62,7 @@ fn left_out(keys: &[u64], k: usize) -> u64
     smallest::smallest(keys, k)[k]
 }
 
-// The key of each row, and NOT_READY past the last. The keys are plain numbers, since a slot compares them by the hundred.
+// The key of each row, and NOT_READY past the last.
 fn keys_of(rows: &[Row], quanta: &[Quanta; 32], favoured: &[bool; 32], time: Slot) -> [u64; 32]
     requires { length rows.now ≤ 32 }
     ensures { KeysAre rows.now (numbers_of quanta.now) (favours_marked favoured.now) time.0 result }
@@ -80,17 +79,24 @@ fn key(row: Row, i: usize, given: Quanta, favoured: bool, slot: Slot) -> Option<
     requires { i < 32 }
     ensures { MatchOption result (says_ready row given.0 slot.0 ≡ false) (KeyIs row i given.0 favoured slot.0) }
 {
-    if !pd2::is_yes(pd2::ready(row, given, slot)) {
-        return None;
-    }
-    let due = windows::next_due(row.cost, row.period, pd2::origin(row), given)?;
+    let due = due_if_ready(row, given, slot)?;
     let far = how_far_behind(row, given, due);
     Some(packed(due, far, end(favoured, i)))
 }
 
+// When the next quantum of a row that is ready is due.
+fn due_if_ready(row: Row, given: Quanta, slot: Slot) -> Option<Due>
+    ensures { MatchOption result (says_ready row given.0 slot.0 ≡ false) (λ due. (says_ready row given.0 slot.0 ≡ true) × DueIs row given.0 due.deadline.0 due.bit) }
+{
+    if !pd2::is_yes(pd2::ready(row, given, slot)) {
+        return None;
+    }
+    windows::next_due(row.cost, row.period, pd2::origin(row), given)
+}
+
 // How far the group deadline lies behind the deadline. "If both have b = 1": where the bit is 0 none is asked for.
 fn how_far_behind(row: Row, given: Quanta, due: Due) -> u64
-    requires { HasWindow row given.0 × (due.deadline.0 ≡ (rank_of row 0 given.0).d) × (due.bit ≡ (rank_of row 0 given.0).b) }
+    requires { DueIs row given.0 due.deadline.0 due.bit }
     ensures { (result ≡ behind (rank_of row 0 given.0)) × (result < 65_536) }
 {
     if due.bit == 0 {
@@ -108,8 +114,8 @@ fn end(favoured: bool, row: usize) -> usize
     if favoured { row } else { 32 + row }
 }
 
-// Deadline, bit, group deadline and end, in this order: b = 1 goes before b = 0, and the larger group deadline first. (The dispatcher packs the keys of its own pass: a function
-// for both would have to test these numbers, which are known there.)
+// Deadline, bit, group deadline and end, in this order: b = 1 goes before b = 0, and the larger group deadline first. (The dispatcher packs the keys of its
+// own pass: a function for both would have to test these numbers, which are known there.)
 fn packed(due: Due, far: u64, end: usize) -> u64
     requires { (due.deadline.0 < 2_000_000_000_000) × (due.bit ≤ 1) × (far < 65_536) × (end < 64) }
     ensures { (result ≡ ((2 * due.deadline.0 + (1 - due.bit)) * 65_536 + (65_535 - far)) * 64 + end) × (result < most) }

@@ -12,5 +12,5 @@ returns c =
     let small : c.args.row.phase < 65_536 = search rules in
     let cost : c.args.row.cost < 65_536 = search rules in
     let far : MatchOption c.next_group_deadline-group.result (c.map_or.result ≡ 0) (λ time. c.map_or.result ≡ time.0 - c.args.due.deadline.0) = search rules in
-    let said = moment_is_said _ _ c.requires.0 small c.origin.ensures group_deadline c.next_group_deadline-group.ensures in
-    asked_behind _ _ c.requires.0 cost c.requires.1 c.requires.2 c.if-due-eq0.false refl (rw said at far)
+    let said = moment_is_said _ _ c.requires.window small c.origin.ensures group_deadline c.next_group_deadline-group.ensures in
+    asked_behind _ _ cost c.requires c.if-due-eq0.false refl (rw said at far)
