@@ -44,7 +44,7 @@ pub fn first_left(keys: &[u64; 32], n: usize, k: u8) -> u64
     ensures { FirstLeft (key_in keys.now) (min n 32) (min k 8) result }
 {
     let keys = &keys[..n.min(32)];
-    // Two calls and not one with the lesser number: with a bound in sight the compiler unrolls the search, and a slot takes 90 instructions more.
+    // Two calls and not one with the lesser number: with a bound in sight the compiler unrolls the search, and a slot takes 150 instructions more.
     if 8 < k {
         return left_out(keys, 8);
     }
@@ -86,7 +86,7 @@ fn key(row: Row, i: usize, given: Quanta, favoured: bool, slot: Slot) -> Option<
 
 // When the next quantum of a row that is ready is due.
 fn due_if_ready(row: Row, given: Quanta, slot: Slot) -> Option<Due>
-    ensures { MatchOption result (says_ready row given.0 slot.0 ≡ false) (λ due. (says_ready row given.0 slot.0 ≡ true) × DueIs row given.0 due.deadline.0 due.bit) }
+    ensures { let ready = says_ready row given.0 slot.0 in MatchOption result (ready ≡ false) (λ due. (ready ≡ true) × DueIs row given.0 due.deadline.0 due.bit) }
 {
     if !pd2::is_yes(pd2::ready(row, given, slot)) {
         return None;
