@@ -7,7 +7,7 @@ ghost use Rattle.cores.specs.Sets.{first_cores};
 ghost use Rattle.dispatcher.specs.Slot.{slot_of};
 ghost use Rattle.desk_run.specs.Run.{entered};
 
-use dispatcher::State;
+use dispatcher::{State, Told};
 
 // Runs a slot with the first k cores free, its entry at place `at`; the state after it.
 pub(crate) fn run_slot(state: State, k: u8, entries: &mut [u8], at: usize) -> State
@@ -15,20 +15,22 @@ pub(crate) fn run_slot(state: State, k: u8, entries: &mut [u8], at: usize) -> St
     ensures value { result ≡ (slot_of state (first_cores k) entries.old at).state }
     ensures entries_after { entries.new ≡ entered (slot_of state (first_cores k) entries.old at) at }
 {
-    let free = cores::first(k);
-    let outcome = state.slot(free, entries, at);
-    let answer = outcome.answer;
-    let told = answer.told();
-    let placed = outcome.placed;
-    let cores = placed.cores;
-    put_reply(entries, at + 10, cores, told.number, told.row);
+    let outcome = state.slot(cores::first(k), entries, at);
+    let told = Told::of(outcome.answer);
+    put_reply(
+        entries,
+        at + 10,
+        &outcome.placed.cores,
+        told.number,
+        told.row,
+    );
     outcome.state
 }
 
 // Writes what stands behind the record: eight cores, the number and the row.
-fn put_reply(entries: &mut [u8], at: usize, cores: [u8; 8], number: u8, row: u8)
+fn put_reply(entries: &mut [u8], at: usize, cores: &[u8; 8], number: u8, row: u8)
     requires { at + 10 ≤ length entries.old }
-    ensures { entries.new ≡ sets entries.old at (flat_map (bytes_of 1) cores ++ bytes_of 1 number ++ bytes_of 1 row) }
+    ensures { entries.new ≡ sets entries.old at (flat_map (bytes_of 1) cores.now ++ bytes_of 1 number ++ bytes_of 1 row) }
 {
     put_cores(entries, at, cores);
     fields::put(entries, at + 8, 1, number as u64);
@@ -36,14 +38,11 @@ fn put_reply(entries: &mut [u8], at: usize, cores: [u8; 8], number: u8, row: u8)
 }
 
 // Writes the eight cores.
-fn put_cores(entries: &mut [u8], at: usize, cores: [u8; 8])
+fn put_cores(entries: &mut [u8], at: usize, cores: &[u8; 8])
     requires { at + 8 ≤ length entries.old }
-    ensures { entries.new ≡ sets entries.old at (flat_map (bytes_of 1) cores) }
+    ensures { entries.new ≡ sets entries.old at (flat_map (bytes_of 1) cores.now) }
 {
-    let mut i: usize = 0;
-    while i < 8 {
-        let core = cores[i];
-        fields::put(entries, at + i, 1, core as u64);
-        i += 1;
+    for (i, core) in cores.iter().enumerate() {
+        fields::put(entries, at + i, 1, *core as u64);
     }
 }

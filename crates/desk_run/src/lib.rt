@@ -5,7 +5,7 @@
 mod entry;
 mod naming;
 
-ghost use Rattle.std.specs.Prelude.{◌≡◌, min};
+ghost use Rattle.std.specs.Prelude.{◌≡◌};
 ghost use Rattle.dispatcher.specs.State.{time_of};
 ghost use Rattle.checker.specs.Check.{check_of};
 ghost use Rattle.desk_run.specs.Run.{ran};
@@ -16,13 +16,6 @@ use dispatcher::State;
 // So many bytes has an entry.
 const ENTRY_LENGTH: usize = 20;
 
-// The row and the time that an answer names; 0 where it names none.
-#[derive(Clone, Copy)]
-struct Named {
-    row: u8,
-    time: u64,
-}
-
 // As many slots as the list has numbers and the buffer has room for, from a fresh state over the table on, entry i with the first list[i] cores free; the
 // time at the end. Each slot's entry stands behind the one before, and what is past the last entry stays as it was. A slot that is refused leaves the
 // state as it is, and the next entry is tried from there.
@@ -30,23 +23,12 @@ pub fn zb_run(table: &[u8], list: &[u8], entries: &mut [u8]) -> u64
     ensures value { result ≡ time_of (ran table.now list.now entries.old).state }
     ensures entries_after { entries.new ≡ (ran table.now list.now entries.old).bytes }
 {
-    let reading = table::read(table);
-    let mut state = State::fresh(reading.table);
-    let slots = least(list.len(), entries.len() / ENTRY_LENGTH);
-    let mut done: usize = 0;
-    while done < slots {
-        let k = list[done];
-        let after = entry::run_slot(state, k, entries, ENTRY_LENGTH * done);
-        state = after;
-        done += 1;
+    let mut state = State::fresh(table::read(table).unwrap_or_default());
+    let slots = list.len().min(entries.len() / ENTRY_LENGTH);
+    for done in 0..slots {
+        state = entry::run_slot(state, list[done], entries, ENTRY_LENGTH * done);
     }
     state.time.time()
-}
-
-fn least(a: usize, b: usize) -> usize
-    ensures { result ≡ min a b }
-{
-    if a < b { a } else { b }
 }
 
 // The trace check's number, with the row and the time that it names in the lent buffer: the row at place 0, the time in the eight bytes from place 1 on. What does
@@ -56,11 +38,8 @@ pub fn zb_judge(table: &[u8], trace: &[u8], place: &mut [u8]) -> u8
     ensures place_after { place.new ≡ place_of (check_of table.now trace.now) place.old }
 {
     let answer = checker::check(table, trace);
-    let number = checker::number(answer);
-    let named = naming::named(answer);
-    let row = named.row as u64;
-    let time = named.time;
-    fields::put(place, 0, 1, row);
-    fields::put(place, 1, 8, time);
-    number
+    let (row, time) = naming::named(answer);
+    fields::put(place, 0, 1, row as u64);
+    fields::put(place, 1, 8, time.time());
+    checker::number(answer)
 }

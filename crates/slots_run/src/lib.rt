@@ -14,15 +14,10 @@ pub fn zb_slots(table: &[u8], k: u8, slots: u64, entry: &mut [u8]) -> u64
     ensures value { result ≡ time_of (slots_from (fresh_of (reading table.now).table) k entry.old slots).state }
     ensures after { entry.new ≡ (slots_from (fresh_of (reading table.now).table) k entry.old slots).bytes }
 {
-    let reading = table::read(table);
-    let mut state = State::fresh(reading.table);
     let free = cores::first(k);
-    let mut done: u64 = 0;
-    while done < slots {
-        let outcome = state.slot(free, entry, 0);
-        let after = outcome.state;
-        state = after;
-        done += 1;
+    let mut state = State::fresh(table::read(table).unwrap_or_default());
+    for _ in 0..slots {
+        state = state.slot(free, entry, 0).state;
     }
     state.time.time()
 }

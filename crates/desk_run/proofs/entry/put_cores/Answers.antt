@@ -1,4 +1,4 @@
-use Rattle.std.proofs.Common.{rules, arith, ◌≡◌, refl, ap, ◌∙◌, length}
+use Rattle.std.proofs.Common.{arith, refl, ap, ◌∙◌}
 use mathlib.Core.List.{flat_map}
 use Rattle.std.proofs.Math.Seq.{take_all}
 use Rattle.std.proofs.lemmas.List.Edits.{sets}
@@ -9,18 +9,13 @@ use Rattle.desk_run.proofs.entry.put_cores.Goals as goal
 
 pub loop-i-init : goal.loop-i-init
 unfolding flat_map
-loop-i-init c = (omega arith, refl)
+loop-i-init c = refl
 
 pub loop-i-preserved : goal.loop-i-preserved
 loop-i-preserved c =
-    let eight : length c.args.cores ≡ 8 = search rules in (
-      omega (arith, c.loop-i-test.true),
-      joined_stored (bytes_of 1) 1 (bytes_long 1) c.args.cores c.loop-i.i 0 c.args.entries.now c.args.at (omega (arith, c.loop-i-test.true, eight)) c.loop-i.invariant.1 (omega arith)
-          c.put.ensures.s_after,
-    )
+    joined_stored (bytes_of 1) 1 (bytes_long 1) c.args.cores.now c.loop-i.i 0 c.args.entries.now c.args.at (omega arith) c.loop-i.invariant (omega arith) c.put.ensures.s_after
 
 pub returns : goal.returns
 returns c =
-    let eight : length c.args.cores ≡ 8 = search rules in
-    let all = take_all c.loop-i.i c.args.cores (omega (arith, eight, c.loop-i.invariant.0, c.loop-i-test.false)) in
-    c.loop-i.invariant.1 ∙ ap (λ l. sets c.args.entries.now c.args.at (flat_map (bytes_of 1) l)) all
+    let all = take_all c.loop-i.i c.args.cores.now (omega arith) in
+    c.loop-i.invariant ∙ ap (λ l. sets c.args.entries.now c.args.at (flat_map (bytes_of 1) l)) all
