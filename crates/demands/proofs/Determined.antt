@@ -82,7 +82,7 @@ every_promise_determines =
       dispatcher_state_slot = λ self free buffer place a b p q.
           dispatcher.slot_is_determined self free buffer place a b (p.0, (p.1, (p.2, p.3))) (q.0, (q.1, (q.2, q.3)));
       dispatcher_state_refusal = λ self free buffer place. dispatcher.refusal_is_determined;
-      why_answer_told = λ self. by_value;
+      why_told_of = λ answer. by_value;
       why_of_row = λ state k row. by_value;
       checker_check = λ table trace. check_is_determined table trace;
       checker_number = λ answer. by_value;

@@ -1,4 +1,5 @@
 -- Format 2 breaks ties kindly. Assumes nothing.
+use Rattle.std.proofs.Common.{Ok}
 use Prim.Native.Nat.{ℕ, ◌<◌}
 use mathlib.Core.Path.{◌≡◌, refl, sym, ap, ◌∙◌}
 use mathlib.Core.List.{List, [], ◌∷◌, flat_map}
@@ -53,7 +54,7 @@ use Rattle.dispatcher.specs.Run.{run}
 use Rattle.dispatcher.proofs.Favoured.{same_favours}
 use Rattle.dispatcher.proofs.Placed.{no_moves_if_all_free, ran_is_named_in_record, done_as_with_its_size, format_one_forgets, rows_decide}
 use Rattle.why.specs.declared.Rule.TheVariants.{RanBefore}
-use Rattle.why.specs.declared.Answer.TheVariants.{PassedOver}
+use Rattle.why.specs.declared.Reason.TheVariants.{PassedOver}
 use Rattle.why.specs.Rules.{rule_for}
 use Rattle.why.specs.Lowest.{lowest_picked}
 use Rattle.why.specs.Reasons.{is_ready, rank_in, goes_before}
@@ -174,7 +175,7 @@ record Computed : Type 0 where
   can_fall : Possible fallen (first_cores 2) blank 0
   said_fallen : (slot_of fallen (first_cores 2) blank 0).said ≡ bare 30
   can_ask : CanAsk (after_two 2) 2 0
-  ran : why_of (after_two 2) 2 0 ≡ PassedOver 3 RanBefore
+  ran : why_of (after_two 2) 2 0 ≡ Ok (PassedOver 3 RanBefore)
 
 computed : Computed
 unfolding all_below rows_fit ceil_div at_first how_many those first_found rising places padded start deadline bit window_length job_start heavy stops stop_time group_deadline load fault_of table_number reading ready late lower upper before picked given with_front with_record names misremembers wanted left_over in_turn cores_for broken refusal slot_of rule_for lowest_picked ready_from reason_of why_of flat_map bytes_of bytes_of_row bytes_of_table write_number writing buffer_after

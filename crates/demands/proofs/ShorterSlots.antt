@@ -1,4 +1,5 @@
 -- Shorter slots: the limits, and what is shut out, by examples that are computed. Assumes nothing.
+use Rattle.std.proofs.Common.{Ok, Err}
 use Prim.Native.Nat.{ℕ, ◌^◌, ◌≤◌, ◌<◌}
 use mathlib.Core.Path.{◌≡◌, refl, sym, ap, ◌∙◌}
 use mathlib.Core.List.{List, [], ◌∷◌}
@@ -40,7 +41,8 @@ use Rattle.dispatcher.specs.declared.State.{State}
 use Rattle.dispatcher.specs.State.{time_of}
 use Rattle.dispatcher.specs.Broken.{broken}
 use Rattle.dispatcher.specs.Slot.{refusal, slot_of}
-use Rattle.why.specs.declared.Answer.TheVariants.{Picked, AtLimit}
+use Rattle.why.specs.declared.Reason.TheVariants.{Picked}
+use Rattle.why.specs.declared.Refusal.TheVariants.{AtLimit}
 use Rattle.why.specs.Rules.{rule_for}
 use Rattle.why.specs.Lowest.{lowest_picked}
 use Rattle.why.specs.Answer.{number_of as number_of_why}
@@ -111,7 +113,7 @@ record Computed : Type 0 where
   past_32_bits : (slot_of (idle 4_294_967_295) one_core blank 0).said ≡ bare 0
   time_past_32_bits : time_of (slot_of (idle 4_294_967_295) one_core blank 0).state ≡ 4_294_967_296
   can_ask_why : CanAsk due_at_limit 1 0
-  row_is_picked : why_of due_at_limit 1 0 ≡ Picked
+  row_is_picked : why_of due_at_limit 1 0 ≡ Ok Picked
   asked_at_limit : why_of (idle 1_000_000_000_000) 1 0 ≡ AtLimit
   can_ask_last : CanAskWindow 1 2 0 (nth 1_000_000_000_001)
   can_ask_next : CanAskWindow 1 2 0 (nth 1_000_000_000_002)

@@ -1,4 +1,5 @@
 -- What is shut out: each by an example, computed. Assumes nothing.
+use Rattle.std.proofs.Common.{Ok}
 use Prim.Native.Nat.{ℕ, ◌+◌, ◌-◌, ◌*◌, ◌/◌, ◌<◌}
 use mathlib.Core.Path.{◌≡◌, refl, sym, ap, ◌∙◌}
 use mathlib.Core.List.{List, [], ◌∷◌, flat_map}
@@ -42,7 +43,7 @@ use Rattle.cores.specs.Cores.{wanted, left_over, in_turn, cores_for}
 use Rattle.dispatcher.specs.Broken.{broken}
 use Rattle.dispatcher.specs.Slot.{picks_in, SlotReply, refusal, slot_of}
 use Rattle.why.specs.declared.Rule.TheVariants.{GroupDeadline, RowNumber}
-use Rattle.why.specs.declared.Answer.TheVariants.{NotReady, PassedOver}
+use Rattle.why.specs.declared.Reason.TheVariants.{NotReady, PassedOver}
 use Rattle.why.specs.Rules.{rule_for}
 use Rattle.why.specs.Lowest.{lowest_picked}
 use Rattle.why.specs.Reasons.{goes_before}
@@ -226,13 +227,13 @@ module _ (slot : Dispatcher) (is : IsDispatcher slot) where
 -- Why rows wait, in 01's example and in a box of three heavy rows.
 record WhyComputed : Type 0 where
   can_ask : CanAsk (fresh_of (table_in example)) 2 2
-  third : why_of (fresh_of (table_in example)) 2 2 ≡ PassedOver 1 RowNumber
+  third : why_of (fresh_of (table_in example)) 2 2 ≡ Ok (PassedOver 1 RowNumber)
   first_picked : get_or (picks_in (fresh_of (table_in example)) 2) 0 0 ≡ 0
   behind_first : some (λ other. names (picks_in (fresh_of (table_in example)) 2) other && goes_before (fresh_of (table_in example)) other 1) (length (rows_in (fresh_of (table_in example)))) ≡ true
   can_ask_heavy : CanAsk (state_of three_cores 0 false []) 1 0
-  heavy_first : why_of (state_of three_cores 0 false []) 1 0 ≡ PassedOver 2 GroupDeadline
+  heavy_first : why_of (state_of three_cores 0 false []) 1 0 ≡ Ok (PassedOver 2 GroupDeadline)
   can_ask_later : CanAsk (state_of (table_in example) 2 false (2 ∷ 1 ∷ 1 ∷ [])) 2 0
-  later : why_of (state_of (table_in example) 2 false (2 ∷ 1 ∷ 1 ∷ [])) 2 0 ≡ NotReady (record { 0 = 3 })
+  later : why_of (state_of (table_in example) 2 false (2 ∷ 1 ∷ 1 ∷ [])) 2 0 ≡ Ok (NotReady (record { 0 = 3 }))
 
 why_computed : WhyComputed
 unfolding all_below rows_fit ceil_div at_first how_many those first_found rising places padded start deadline bit window_length job_start heavy stops stop_time group_deadline load fault_of table_number reading ready late lower upper before picked names misremembers broken rule_for lowest_picked ready_from reason_of why_of

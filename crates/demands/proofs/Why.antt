@@ -1,4 +1,5 @@
 -- Why a row waits. Assumes nothing.
+use Rattle.std.proofs.Common.{Ok}
 use Prim.Native.Nat.{ℕ, ◌≤◌, ◌<◌}
 use mathlib.Core.Path.{◌≡◌, refl, sym, ap, subst, ◌∙◌}
 use mathlib.Core.Bool.{Bool, true, false, not, true≢false}
@@ -16,8 +17,8 @@ use Rattle.dispatcher.specs.State.{rows_in, time_of}
 use Rattle.dispatcher.specs.Broken.{broken}
 use Rattle.dispatcher.specs.Slot.{picks_in, slot_of}
 use Rattle.dispatcher.proofs.Kept.{goes, done_is_not_refused}
-use Rattle.why.specs.declared.Answer.{Answer}
-use Rattle.why.specs.declared.Answer.TheVariants.{Picked}
+use Rattle.why.specs.Answer.{Answer}
+use Rattle.why.specs.declared.Reason.TheVariants.{Picked}
 use Rattle.why.specs.Reasons.{Holds}
 use Rattle.why.specs.Answer.{number_of}
 use Rattle.why.specs.Why.{why_tests, why_of, TrueAndOnly}
@@ -138,7 +139,7 @@ module _ (s : State) (k row : ℕ) where
 as_the_slot : PickedAsTheSlotDoes
 as_the_slot s free buffer place row done is_row = (
   λ picked. ap (λ rows. names rows row) written ∙ (subst (Holds s (size free) row) picked so.true_one).named,
-  λ named. sym (so.only_one Picked (record { named = sym (ap (λ rows. names rows row) written) ∙ named })),
+  λ named. sym (so.only_one (Ok Picked) (record { named = sym (ap (λ rows. names rows row) written) ∙ named })),
 )
   where
     written : rows_at (slot_of s free buffer place).bytes place ≡ picks_in s (size free)

@@ -12,7 +12,8 @@ use Rattle.dispatcher.specs.declared.Refusal.TheVariants as slot
 use Rattle.dispatcher.specs.Answer.{said_of}
 use Rattle.why.specs.declared.Rule.{Rule}
 use Rattle.why.specs.declared.Rule.TheVariants as rule
-use Rattle.why.specs.declared.Answer.TheVariants as why
+use Rattle.why.specs.declared.Reason.TheVariants as why
+use Rattle.why.specs.declared.Refusal.TheVariants as unsaid
 use Rattle.why.specs.Answer.{rule_place, told, told_of}
 use Rattle.table.specs.declared.faults.Fault.{Fault}
 use Rattle.table.specs.declared.faults.Fault.TheVariants as fault
@@ -47,20 +48,20 @@ pub record SlotCases : Type 0 where
 -- why a row waits: number, reason, slot, row and rule. "picked; not ready, with the first slot in which it will be; no core free; or passed over", in this order,
 -- and for the last "the lowest-ranked picked row and the rule that put it ahead (deadline, bit, group deadline, row number)" (02, Two)
 pub record WhyCases : Type 0 where
-  pub picked : told_of why.Picked ≡ told 0 1 0 0 0
-  pub not_ready : (until : Slot) → told_of (why.NotReady until) ≡ told 0 2 until.0 0 0
-  pub no_core_free : told_of why.NoCoreFree ≡ told 0 3 0 0 0
-  pub passed_over : (by : ℕ) (r : Rule) → told_of (why.PassedOver by r) ≡ told 0 4 0 by (rule_place r)
+  pub picked : told_of (Ok why.Picked) ≡ told 0 1 0 0 0
+  pub not_ready : (until : Slot) → told_of (Ok (why.NotReady until)) ≡ told 0 2 until.0 0 0
+  pub no_core_free : told_of (Ok why.NoCoreFree) ≡ told 0 3 0 0 0
+  pub passed_over : (by : ℕ) (r : Rule) → told_of (Ok (why.PassedOver by r)) ≡ told 0 4 0 by (rule_place r)
   pub deadline : rule_place rule.Deadline ≡ 1
   pub bit : rule_place rule.Bit ≡ 2
   pub group_deadline : rule_place rule.GroupDeadline ≡ 3
   pub row_number : rule_place rule.RowNumber ≡ 4
   pub ran_before_is : rule_place rule.RanBefore ≡ 5
-  pub broken : told_of why.Broken ≡ told 30 0 0 0 0
-  pub stopped : told_of why.Stopped ≡ told 31 0 0 0 0
-  pub at_limit : told_of why.AtLimit ≡ told 32 0 0 0 0
-  pub too_many_cores : told_of why.TooManyCores ≡ told 33 0 0 0 0
-  pub no_such_row : told_of why.NoSuchRow ≡ told 36 0 0 0 0
+  pub broken : told_of (Err unsaid.Broken) ≡ told 30 0 0 0 0
+  pub stopped : told_of (Err unsaid.Stopped) ≡ told 31 0 0 0 0
+  pub at_limit : told_of (Err unsaid.AtLimit) ≡ told 32 0 0 0 0
+  pub too_many_cores : told_of (Err unsaid.TooManyCores) ≡ told 33 0 0 0 0
+  pub no_such_row : told_of (Err unsaid.NoSuchRow) ≡ told 36 0 0 0 0
 
 -- the reader of a table, the fault of a value, and the writer: 0 with what is handed back, or a refusal with nothing
 pub record TableAnswerCases : Type 0 where

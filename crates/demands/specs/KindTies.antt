@@ -1,7 +1,7 @@
 -- "Format 2 breaks ties kindly" (02, Eight): "Tables of format 2 keep the bytes of format 1 but end PD2's order differently: among full ties, a row picked in the
 -- previous slot goes first, then the lower row number." That the picks, demand 3 and never late hold in both formats is said where they are stated:
 -- of any table, whatever its format.
-use Rattle.std.specs.Prelude.{ℕ, ◌+◌, ◌<◌, ◌≡◌, List, [], ◌∷◌, map, Bool, true, false, not, ◌↔◌, ltb, length, get_or, replicate, Result}
+use Rattle.std.specs.Prelude.{ℕ, ◌+◌, ◌<◌, ◌≡◌, List, [], ◌∷◌, map, Bool, true, false, not, ◌↔◌, ltb, length, get_or, replicate, Result, Ok}
 use Rattle.facts.specs.Counting.{how_many}
 use Rattle.facts.specs.Places.{places}
 use Rattle.table.specs.declared.Table.{Table}
@@ -21,7 +21,7 @@ use Rattle.dispatcher.specs.Slot.{favoured_in, picks_in, slot_of}
 use Rattle.dispatcher.specs.Run.{Step, run}
 use Rattle.dispatcher.specs.Placed.{NoMovesIfAllFree, RanIsNamed, FormatOneForgets, RowsDecide}
 use Rattle.why.specs.declared.Rule.TheVariants.{RanBefore}
-use Rattle.why.specs.declared.Answer.TheVariants.{PassedOver}
+use Rattle.why.specs.declared.Reason.TheVariants.{PassedOver}
 use Rattle.why.specs.Reasons.{is_ready, rank_in, goes_before}
 use Rattle.demands.specs.LawInputs.{remembering}
 use Rattle.demands.specs.KindLaws.{four_halves}
@@ -125,7 +125,7 @@ RunsFallingRows slot =
 
 -- and one who says why a row waits and never says that another ran in the slot before.
 abbrev pub NeverSaysRan : Explainer → Type 0
-NeverSaysRan explain = (s : State) (k row by : ℕ) → CanAsk s k row → explain s k row ≡ PassedOver by RanBefore → ⊥
+NeverSaysRan explain = (s : State) (k row by : ℕ) → CanAsk s k row → explain s k row ≡ Ok (PassedOver by RanBefore) → ⊥
 
 pub record KindShutOut : Type 0 where
   pub takes_no_format_2 : (read : List ℕ → Result Table Fault) → IsReader read → TakesNoFormat2 (number_read read) → ⊥

@@ -56,7 +56,8 @@ use Rattle.dispatcher.specs.Answer.{number_of, said_of, said_by}
 use Rattle.dispatcher.specs.Slot.{slot_of, refusal}
 use Rattle.dispatcher.specs.Favoured.{favoured_marks}
 use Rattle.dispatcher.specs.Broken.{broken}
-use Rattle.why.specs.declared.Answer.{Answer as WhyAnswer}
+use Rattle.why.specs.declared.Reason.{Reason}
+use Rattle.why.specs.declared.Refusal.{Refusal as WhyRefusal}
 use Rattle.why.specs.declared.Told.{Told as ToldWhy}
 use Rattle.why.specs.Answer.{told_of}
 use Rattle.why.specs.Why.{why_of}
@@ -305,12 +306,12 @@ dispatcher·State·slot self free buffer place r buffer_new =
 abbrev pub dispatcher·State·refusal : State → List Bool → List ℕ → ℕ → Option Refusal → Type 0
 dispatcher·State·refusal self free buffer place r = number_of r ≡ refusal self free buffer place
 
--- why::Answer::told
-abbrev pub why·Answer·told : WhyAnswer → ToldWhy → Type 0
-why·Answer·told self r = r ≡ told_of self
+-- why::Told::of
+abbrev pub why·Told·of : Result Reason WhyRefusal → ToldWhy → Type 0
+why·Told·of answer r = r ≡ told_of answer
 
 -- why::of_row
-abbrev pub why·of_row : State → ℕ → ℕ → WhyAnswer → Type 0
+abbrev pub why·of_row : State → ℕ → ℕ → Result Reason WhyRefusal → Type 0
 why·of_row state k row r = r ≡ why_of state k row
 
 -- checker::check

@@ -1,7 +1,7 @@
 -- What must be shut out (01, "What the statements must say"): no function that keeps the promise is so. A function is asked to keep its promise, and is
 -- said to be wrong, only on what it can be called with (specs/Inputs.antt): so one that is wrong on all of that is shut out, whatever it does elsewhere.
 -- (Those that mistake a limit stand in specs/ShorterSlots.antt.)
-use Rattle.std.specs.Prelude.{ℕ, ◌+◌, ◌-◌, ◌*◌, ◌/◌, ◌≤◌, ◌<◌, ◌≡◌, List, [], Bool, true, false, cond, ◌&&◌, length, get_or, take, Unit, Option, Result}
+use Rattle.std.specs.Prelude.{ℕ, ◌+◌, ◌-◌, ◌*◌, ◌/◌, ◌≤◌, ◌<◌, ◌≡◌, List, [], Bool, true, false, cond, ◌&&◌, length, get_or, take, Unit, Option, Result, Ok}
 use Rattle.facts.specs.Counting.{some}
 use Rattle.counts.specs.declared.Slot.{Slot}
 use Rattle.counts.specs.declared.Subtask.{Subtask}
@@ -26,8 +26,7 @@ use Rattle.dispatcher.specs.Answer.{said_of}
 use Rattle.dispatcher.specs.Slot.{picks_in}
 use Rattle.why.specs.declared.Rule.{Rule}
 use Rattle.why.specs.declared.Rule.TheVariants.{RowNumber}
-use Rattle.why.specs.declared.Answer.{Answer as WhyAnswer}
-use Rattle.why.specs.declared.Answer.TheVariants.{Picked, NotReady, PassedOver}
+use Rattle.why.specs.declared.Reason.TheVariants.{Picked, NotReady, PassedOver}
 use Rattle.why.specs.Reasons.{goes_before}
 use Rattle.why.specs.Answer as why
 use Rattle.checker.specs.declared.Finding.{Finding}
@@ -141,7 +140,7 @@ pub record ShutOutOf (slot : Dispatcher) : Type 0 where
 -- that it does not refuse, one that names the picked row with the lowest number in place of the lowest-ranked, one that names the best, one that knows no rule but the row number, and one
 -- that gives the present slot as the first in which a row will be ready.
 abbrev pub Explainer : Type 0
-Explainer = State → ℕ → ℕ → WhyAnswer
+Explainer = State → ℕ → ℕ → why.Answer
 
 abbrev pub IsExplainer : Explainer → Type 0
 IsExplainer explain = (s : State) (k row : ℕ) → CanAsk s k row → why·of_row s k row (explain s k row)
@@ -150,21 +149,21 @@ abbrev pub ExplainsNothing : Explainer → Type 0
 ExplainsNothing explain = (s : State) (k row : ℕ) → CanAsk s k row → why.number_of (explain s k row) ≡ 0 → ⊥
 
 abbrev pub SaysPicked : Explainer → Type 0
-SaysPicked explain = (s : State) (k row : ℕ) → CanAsk s k row → why.number_of (explain s k row) ≡ 0 → explain s k row ≡ Picked
+SaysPicked explain = (s : State) (k row : ℕ) → CanAsk s k row → why.number_of (explain s k row) ≡ 0 → explain s k row ≡ Ok Picked
 
 abbrev pub NamesLowestNumber : Explainer → Type 0
-NamesLowestNumber explain = (s : State) (k row by : ℕ) (rule : Rule) → CanAsk s k row → explain s k row ≡ PassedOver by rule → by ≡ get_or (picks_in s k) 0 0
+NamesLowestNumber explain = (s : State) (k row by : ℕ) (rule : Rule) → CanAsk s k row → explain s k row ≡ Ok (PassedOver by rule) → by ≡ get_or (picks_in s k) 0 0
 
 abbrev pub NamesTheBest : Explainer → Type 0
 NamesTheBest explain =
-    (s : State) (k row by : ℕ) (rule : Rule) → CanAsk s k row → explain s k row ≡ PassedOver by rule →
+    (s : State) (k row by : ℕ) (rule : Rule) → CanAsk s k row → explain s k row ≡ Ok (PassedOver by rule) →
     some (λ other. names (picks_in s k) other && goes_before s other by) (length (rows_in s)) ≡ false
 
 abbrev pub KnowsOneRule : Explainer → Type 0
-KnowsOneRule explain = (s : State) (k row by : ℕ) (rule : Rule) → CanAsk s k row → explain s k row ≡ PassedOver by rule → rule ≡ RowNumber
+KnowsOneRule explain = (s : State) (k row by : ℕ) (rule : Rule) → CanAsk s k row → explain s k row ≡ Ok (PassedOver by rule) → rule ≡ RowNumber
 
 abbrev pub SaysNow : Explainer → Type 0
-SaysNow explain = (s : State) (k row : ℕ) (until : Slot) → CanAsk s k row → explain s k row ≡ NotReady until → until.0 ≡ time_of s
+SaysNow explain = (s : State) (k row : ℕ) (until : Slot) → CanAsk s k row → explain s k row ≡ Ok (NotReady until) → until.0 ≡ time_of s
 
 pub record ShutOutOfWhy (explain : Explainer) : Type 0 where
   pub explains_nothing : ExplainsNothing explain → ⊥

@@ -1,11 +1,11 @@
 -- "Support staff on the phone want to ask, for a row in the slot about to run, with its state and k" (02, Two): why a row waits.
-use Rattle.std.specs.Prelude.{ℕ, ◌≤◌, ◌<◌, ◌≡◌, List, Bool, true, false, ◌↔◌, length}
+use Rattle.std.specs.Prelude.{ℕ, ◌≤◌, ◌<◌, ◌≡◌, List, Bool, true, false, ◌↔◌, length, Ok}
 use Rattle.trace.specs.Records.{rows_at, names}
 use Rattle.cores.specs.Sets.{size}
 use Rattle.dispatcher.specs.declared.State.{State}
 use Rattle.dispatcher.specs.State.{rows_in, time_of}
 use Rattle.dispatcher.specs.Slot.{slot_of}
-use Rattle.why.specs.declared.Answer.TheVariants.{Picked}
+use Rattle.why.specs.declared.Reason.TheVariants.{Picked}
 use Rattle.why.specs.Rules.{OneRule}
 use Rattle.why.specs.Lowest.{OneLowest}
 use Rattle.why.specs.Answer.{number_of}
@@ -25,7 +25,7 @@ pub record WhyExactly (s : State) (k row number : ℕ) : Type 0 where
 abbrev pub PickedAsTheSlotDoes : Type 0
 PickedAsTheSlotDoes =
     (s : State) (free : List Bool) (buffer : List ℕ) (place row : ℕ) → (slot_of s free buffer place).said.number < 2 → row < length (rows_in s) →
-    (why_of s (size free) row ≡ Picked) ↔ (names (rows_at (slot_of s free buffer place).bytes place) row ≡ true)
+    (why_of s (size free) row ≡ Ok Picked) ↔ (names (rows_at (slot_of s free buffer place).bytes place) row ≡ true)
 
 pub record Why : Type 0 where
   pub refused : (s : State) (k row : ℕ) → WhyExactly s k row (number_of (why_of s k row))
