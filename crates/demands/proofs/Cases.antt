@@ -95,7 +95,7 @@ own_cases =
       no_is = refl;
       unanswered_is = refl;
       text = λ length. refl;
-      too_short = refl;
+      too_short = λ reason. refl;
     }
 
 pub cases : Cases

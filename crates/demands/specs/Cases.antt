@@ -22,7 +22,7 @@ use Rattle.table.specs.declared.faults.Unwritten.TheVariants as unwritten
 use Rattle.table.specs.Reply.{no_table, fault_number, reply_of as table_reply_of, fault_said, written_of}
 use Rattle.checker.specs.declared.Finding.TheVariants as check
 use Rattle.checker.specs.Answer as checked
-use Rattle.printer.specs.declared.Printed.TheVariants.{Text, TooShort}
+use Rattle.printer.specs.declared.TooShort.{TooShort}
 use Rattle.printer.specs.Buffer.{length_of}
 
 -- a window
@@ -111,8 +111,8 @@ pub record OwnCases : Type 0 where
   pub yes_is : is_yes (Some true) ≡ true
   pub no_is : is_yes (Some false) ≡ false
   pub unanswered_is : is_yes None ≡ false
-  pub text : (length : ℕ) → length_of (Text length) ≡ length
-  pub too_short : length_of TooShort ≡ 0
+  pub text : (length : ℕ) → length_of (Ok length) ≡ length
+  pub too_short : (reason : TooShort) → length_of (Err reason) ≡ 0
 
 pub record Cases : Type 0 where
   pub windows : WindowCases

@@ -17,8 +17,8 @@ use Rattle.dispatcher.specs.declared.Outcome.{Outcome}
 use Rattle.why.specs.declared.Reason.{Reason}
 use Rattle.why.specs.declared.Refusal.{Refusal as WhyRefusal}
 use Rattle.checker.specs.declared.Finding.{Finding}
-use Rattle.printer.specs.declared.Printed.{Printed}
-use Rattle.demands.specs.Promises.{counts·Slot·at, counts·Slot·time, counts·Slot·later, counts·Slot·before, counts·Slot·since, counts·Quanta·of, counts·Quanta·count, counts·Quanta·one_more, counts·Quanta·next_subtask, counts·Subtask·numbered, counts·Subtask·number, counts·Subtask·next, counts·Subtask·quanta_before, fields·byte, fields·half, fields·word, fields·long, fields·put, windows·window, windows·window_by_walk, windows·next_due, windows·next_start, windows·next_job_start, windows·next_group_deadline, table·Fault·number, table·read, table·fault, table·write, pd2·is_yes, pd2·origin, pd2·ready, pd2·late, pd2·within, pd2·give, pd2·lowest_late, trace·write, trace·record, trace·begins, trace·length_inside, trace·shape, trace·raise, summary·quanta_before, choice·picks, choice·first_left, cores·Placement·nobody, cores·Placement·is_faulty, cores·Placement·ran, cores·how_many, cores·names_past, cores·first, cores·place, dispatcher·Told·of, dispatcher·State·fresh, dispatcher·State·is_broken, dispatcher·State·favoured, dispatcher·State·slot, dispatcher·State·refusal, why·Told·of, why·of_row, checker·check, checker·number, values·row, values·rows, values·quanta, values·table, values·state, values·put_quanta, values·put_table, values·put_placement, values·put_state, firmware·zb_table_check, firmware·zb_trace_check, printer·Printed·length, printer·print, slots_run·zb_slots, desk_run·zb_run, desk_run·zb_judge}
+use Rattle.printer.specs.declared.TooShort.{TooShort}
+use Rattle.demands.specs.Promises.{counts·Slot·at, counts·Slot·time, counts·Slot·later, counts·Slot·before, counts·Slot·since, counts·Quanta·of, counts·Quanta·count, counts·Quanta·one_more, counts·Quanta·next_subtask, counts·Subtask·numbered, counts·Subtask·number, counts·Subtask·next, counts·Subtask·quanta_before, fields·byte, fields·half, fields·word, fields·long, fields·put, windows·window, windows·window_by_walk, windows·next_due, windows·next_start, windows·next_job_start, windows·next_group_deadline, table·Fault·number, table·read, table·fault, table·write, pd2·is_yes, pd2·origin, pd2·ready, pd2·late, pd2·within, pd2·give, pd2·lowest_late, trace·write, trace·record, trace·begins, trace·length_inside, trace·shape, trace·raise, summary·quanta_before, choice·picks, choice·first_left, cores·Placement·nobody, cores·Placement·is_faulty, cores·Placement·ran, cores·how_many, cores·names_past, cores·first, cores·place, dispatcher·Told·of, dispatcher·State·fresh, dispatcher·State·is_broken, dispatcher·State·favoured, dispatcher·State·slot, dispatcher·State·refusal, why·Told·of, why·of_row, checker·check, checker·number, values·row, values·rows, values·quanta, values·table, values·state, values·put_quanta, values·put_table, values·put_placement, values·put_state, firmware·zb_table_check, firmware·zb_trace_check, printer·length, printer·print, slots_run·zb_slots, desk_run·zb_run, desk_run·zb_judge}
 
 pub record EveryPromiseDetermines : Type 0 where
   pub counts_slot_at : (time : ℕ) → Determined (counts·Slot·at time)
@@ -93,8 +93,8 @@ pub record EveryPromiseDetermines : Type 0 where
   pub values_put_state : (bytes : List ℕ) (state : State) → Determined (values·put_state bytes state)
   pub firmware_zb_table_check : (table : List ℕ) → Determined (firmware·zb_table_check table)
   pub firmware_zb_trace_check : (table trace : List ℕ) → Determined (firmware·zb_trace_check table trace)
-  pub printer_printed_length : (self : Printed) → Determined (printer·Printed·length self)
-  pub printer_print : (input out : List ℕ) → Determined {R = Printed × List ℕ} (λ r. printer·print input out r.0 r.1)
+  pub printer_length : (printed : Result ℕ TooShort) → Determined (printer·length printed)
+  pub printer_print : (input out : List ℕ) → Determined {R = Result ℕ TooShort × List ℕ} (λ r. printer·print input out r.0 r.1)
   pub slots_run_zb_slots : (table : List ℕ) (k slots : ℕ) (entry : List ℕ) → Determined {R = ℕ × List ℕ} (λ r. slots_run·zb_slots table k slots entry r.0 r.1)
   pub desk_run_zb_run : (table list entries : List ℕ) → Determined {R = ℕ × List ℕ} (λ r. desk_run·zb_run table list entries r.0 r.1)
   pub desk_run_zb_judge : (table trace place : List ℕ) → Determined {R = ℕ × List ℕ} (λ r. desk_run·zb_judge table trace place r.0 r.1)

@@ -1,6 +1,6 @@
 -- "One core held back" (02, Nine): "Since the link stack moved onto the box, the slot printer's assumption of all M cores is wrong. Slots past the k list now use
 -- M - 1, and 1 if M is 1. The night bench must write its k list in full and print as before. 01's listing gets a k list of three 2s."
-use Rattle.std.specs.Prelude.{ℕ, ◌+◌, ◌-◌, ◌*◌, ◌≤◌, ◌<◌, ◌≡◌, List, ◌++◌, false, length, take}
+use Rattle.std.specs.Prelude.{ℕ, ◌+◌, ◌-◌, ◌*◌, ◌≤◌, ◌<◌, ◌≡◌, List, ◌++◌, false, length, take, Result}
 use Rattle.fields.specs.Fields.{byte}
 use Rattle.table.specs.declared.Table.{Table}
 use Rattle.table.specs.Causes.{load}
@@ -8,7 +8,7 @@ use Rattle.table.specs.Value.{fault_of, rows_of}
 use Rattle.table.specs.Bytes.{table_number, table_in}
 use Rattle.dispatcher.specs.declared.State.{State}
 use Rattle.dispatcher.specs.State.{time_of}
-use Rattle.printer.specs.declared.Printed.{Printed}
+use Rattle.printer.specs.declared.TooShort.{TooShort}
 use Rattle.printer.specs.Input.{table_bytes, slots_asked, list_length, list_place, held_back, free_in, unfit}
 use Rattle.printer.specs.Lines.{end_line, late_line, input_line}
 use Rattle.printer.specs.Text.{text_with, text_of}
@@ -61,13 +61,13 @@ LateIfTooFewAreFree =
 
 -- Who prints keeps the promise of `print`; it gives back how long the text is, and the buffer.
 abbrev pub Printer : Type 0
-Printer = List ℕ → List ℕ → Printed × List ℕ
+Printer = List ℕ → List ℕ → Result ℕ TooShort × List ℕ
 
 abbrev pub IsPrinter : Printer → Type 0
 IsPrinter print = (input out : List ℕ) → CanPrint input out → printer·print input out (print input out).0 (print input out).1
 
 -- what it has written
-abbrev pub written_by : Printed × List ℕ → List ℕ
+abbrev pub written_by : Result ℕ TooShort × List ℕ → List ℕ
 written_by r = take (length_of r.0) r.1
 
 -- Shut out are: one whose slots past the k list use all cores, one that uses none there of a single one, one that uses one there of any number, and one

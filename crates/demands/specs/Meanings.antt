@@ -1,6 +1,6 @@
 -- What the definitions mean that the demands and the promises name, once more in 01's own numbers and bytes. Some lines repeat a definition to the letter, on purpose: whoever
 -- changes the definition has to change it here too, under 01's sentence.
-use Rattle.std.specs.Prelude.{ℕ, suc, ◌+◌, ◌-◌, ◌*◌, ◌/◌, ◌%◌, ◌≤◌, ◌<◌, min, ◌≡◌, List, [], ◌∷◌, ◌++◌, map, Bool, true, false, cond, not, ◌&&◌, ◌↔◌, eqb, length, get_or, take, drop, replicate}
+use Rattle.std.specs.Prelude.{ℕ, suc, ◌+◌, ◌-◌, ◌*◌, ◌/◌, ◌%◌, ◌≤◌, ◌<◌, min, ◌≡◌, List, [], ◌∷◌, ◌++◌, map, Bool, true, false, cond, not, ◌&&◌, ◌↔◌, eqb, length, get_or, take, drop, replicate, Ok, Err}
 use Rattle.std.proofs.lemmas.List.Edits.{sets}
 use Rattle.facts.specs.Counting.{how_many}
 use Rattle.fields.specs.Fields.{bytes_of}
@@ -27,9 +27,8 @@ use Rattle.dispatcher.specs.State.{fresh_of}
 use Rattle.dispatcher.specs.Slot.{SlotReply, slot_of}
 use Rattle.checker.specs.Causes.{too_early, too_late, lowest}
 use Rattle.checker.specs.WellFormed.{WellFormed}
-use Rattle.printer.specs.declared.Printed.TheVariants.{Text, TooShort}
 use Rattle.printer.specs.Text.{text_of}
-use Rattle.printer.specs.Buffer.{printed_of, out_after}
+use Rattle.printer.specs.Buffer.{too_short, printed_of, out_after}
 use Rattle.slots_run.specs.Slots.{slots_from}
 use Rattle.desk_run.specs.Run.{entered, run_from, ran}
 use Rattle.desk_run.specs.Judged.{place_of}
@@ -135,8 +134,8 @@ pub record WriteMeans (part : List ℕ) (free : ℕ) (marks : List Bool) : Type 
 -- The printer: the text at the front of the buffer, or nothing where it is too short.
 pub record PrintMeans (input out : List ℕ) : Type 0 where
   pub printed : length (text_of input) ≤ length out →
-      (printed_of input out ≡ Text (length (text_of input))) × (out_after input out ≡ text_of input ++ drop (length (text_of input)) out)
-  pub too_short : length out < length (text_of input) → (printed_of input out ≡ TooShort) × (out_after input out ≡ out)
+      (printed_of input out ≡ Ok (length (text_of input))) × (out_after input out ≡ text_of input ++ drop (length (text_of input)) out)
+  pub too_short : length out < length (text_of input) → (printed_of input out ≡ Err too_short) × (out_after input out ≡ out)
 
 -- "A fresh state can be made from any table value: time 0, not stopped, all quanta 0"; it remembers no row ("fresh, none": 02, One)
 abbrev pub FreshMeans : Table → Type 0

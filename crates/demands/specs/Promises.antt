@@ -65,7 +65,7 @@ use Rattle.checker.specs.declared.Finding.{Finding}
 use Rattle.checker.specs.Answer as checked
 use Rattle.checker.specs.Check.{check_of}
 use Rattle.values.specs.Values.{rows_in_bytes, quanta_in_bytes, value_in_bytes, state_in_bytes, bytes_of_quanta, bytes_of_value, bytes_of_placement, bytes_of_state}
-use Rattle.printer.specs.declared.Printed.{Printed}
+use Rattle.printer.specs.declared.TooShort.{TooShort}
 use Rattle.printer.specs.Limits.{text_limit}
 use Rattle.printer.specs.Text.{text_of}
 use Rattle.printer.specs.Buffer.{length_of, printed_of, out_after}
@@ -366,12 +366,12 @@ firmware·zb_table_check table r = r ≡ table_number table
 abbrev pub firmware·zb_trace_check : List ℕ → List ℕ → ℕ → Type 0
 firmware·zb_trace_check table trace r = r ≡ (check_of table trace).number
 
--- printer::Printed::length
-abbrev pub printer·Printed·length : Printed → ℕ → Type 0
-printer·Printed·length self r = r ≡ length_of self
+-- printer::length
+abbrev pub printer·length : Result ℕ TooShort → ℕ → Type 0
+printer·length printed r = r ≡ length_of printed
 
 -- printer::print
-abbrev pub printer·print : List ℕ → List ℕ → Printed → List ℕ → Type 0
+abbrev pub printer·print : List ℕ → List ℕ → Result ℕ TooShort → List ℕ → Type 0
 printer·print input out r out_new = (r ≡ printed_of input out) × (out_new ≡ out_after input out) × (length (text_of input) ≤ text_limit)
 
 -- slots_run::zb_slots
