@@ -4,6 +4,7 @@ use mathlib.Core.Path.{◌≡◌, refl, sym, ap, ap₂, subst, ◌∙◌}
 use mathlib.Core.Bool.{Bool}
 use mathlib.Core.Logic.{⊎_elim}
 use lib.ListN.{length}
+use Rattle.std.specs.Prelude.{Ok, Err}
 use Rattle.facts.specs.Findings.{first_found}
 use Rattle.facts.specs.First.{IsFirst}
 use Rattle.facts.proofs.Findings.{first_is_said, none_or_first}
@@ -19,8 +20,8 @@ use Rattle.dispatcher.specs.State.{rows_in, quanta_in, time_of}
 use Rattle.dispatcher.specs.Slot.{favoured_in, picks_in}
 use Rattle.dispatcher.proofs.Favoured.{same_favours}
 use Rattle.dispatcher.proofs.Places.{quanta_alike, broken_alike, favour_alike, picks_alike}
-use Rattle.why.specs.declared.Answer.{Answer}
-use Rattle.why.specs.declared.Answer.TheVariants.{Picked, NotReady, NoCoreFree, PassedOver, Broken, Stopped, AtLimit, TooManyCores, NoSuchRow}
+use Rattle.why.specs.declared.Reason.TheVariants.{Picked, NotReady, NoCoreFree, PassedOver}
+use Rattle.why.specs.Answer.{Answer}
 use Rattle.why.specs.Rules.{rule_for}
 use Rattle.why.specs.Lowest.{LowestPicked}
 use Rattle.why.specs.Reasons.{is_ready, rank_in, goes_before, Holds}
@@ -80,10 +81,10 @@ module _ (s s' : State) (k : ℕ) (same : SameRows s s' k) where
 
     -- and each reason holds in both.
     holds_alike : (x : Answer) → Holds s k row x → Holds s' k row x
-    holds_alike Picked h = record { named = sym (named_alike row) ∙ h.named }
-    holds_alike (NotReady until) h = record { not_now = ready_now h.not_now; first = first_alike until.0 h.first }
-    holds_alike NoCoreFree h = record { row_is_ready = ready_now h.row_is_ready; none = h.none }
-    holds_alike (PassedOver by rule) h =
+    holds_alike (Ok Picked) h = record { named = sym (named_alike row) ∙ h.named }
+    holds_alike (Ok (NotReady until)) h = record { not_now = ready_now h.not_now; first = first_alike until.0 h.first }
+    holds_alike (Ok NoCoreFree) h = record { row_is_ready = ready_now h.row_is_ready; none = h.none }
+    holds_alike (Ok (PassedOver by rule)) h =
         let first = ranks_alike by h.lowest.row_is_there in
         let second = ranks_alike row row_is_there in
         let ahead : Before (rank_in s' by) (rank_in s' row) = subst (λ x. Before x (rank_in s' row)) first (subst (Before (rank_in s by)) second h.ahead) in
@@ -93,22 +94,18 @@ module _ (s s' : State) (k : ℕ) (same : SameRows s s' k) where
           ahead = ahead;
           by_rule = h.by_rule ∙ (one_rule (rank_in s by) (rank_in s row) h.ahead ∙ (ap₂ rule_for first second ∙ sym (one_rule (rank_in s' by) (rank_in s' row) ahead)));
         }
-    holds_alike Broken h = h
-    holds_alike Stopped h = h
-    holds_alike AtLimit h = h
-    holds_alike TooManyCores h = h
-    holds_alike NoSuchRow h = h
+    holds_alike (Err refusal) h = h
 
-    reason_alike : reason_of s k row ≡ reason_of s' k row
-    reason_alike = holds_computed s' k row (is_row_too row_is_there) (reason_of s k row) (holds_alike (reason_of s k row) (computed_holds s k row row_is_there))
+    reason_alike : ◌≡◌ {A = Answer} (Ok (reason_of s k row)) (Ok (reason_of s' k row))
+    reason_alike = holds_computed s' k row (is_row_too row_is_there) (Ok (reason_of s k row)) (holds_alike (Ok (reason_of s k row)) (computed_holds s k row row_is_there))
 
   -- So states that meet the same causes get the same answer: where a cause is met nothing else is asked.
   why_alike : (row : ℕ) → why_tests s k row ≡ why_tests s' k row → why_of s k row ≡ why_of s' k row
   unfolding why_of
   why_alike row tests =
-      ap (first_found (reason_of s k row)) tests
+      ap (first_found (Ok (reason_of s k row))) tests
       ∙ ⊎_elim (λ none. ap (λ x. first_found x (why_tests s' k row)) (reason_alike row (was_row (row_if_none s' k row none))))
-      (λ one. first_is_said (reason_of s k row) one.1 ∙ sym (first_is_said (reason_of s' k row) one.1))
+      (λ one. first_is_said (Ok (reason_of s k row)) one.1 ∙ sym (first_is_said (Ok (reason_of s' k row)) one.1))
       (none_or_first (why_tests s' k row))
 
 pub past_has_no_part : PastHasNoPart

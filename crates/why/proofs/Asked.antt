@@ -8,14 +8,14 @@ use native.Mathlib.Decide.{dec_lt}
 use native.Mathlib.Omega.{arith}
 use borrow.Author.Tests.{lt-ltb, le-ltb, eq-eqb, ne_eqb, not-true}
 use lib.ListN.{length, get_or}
+use Rattle.std.specs.Prelude.{Option, Some, None, unwrap_or}
+use Rattle.std.specs.Option.{MatchOption}
 use Rattle.facts.specs.First.{Lowest}
 use Rattle.facts.proofs.Tests.{both, hold_both}
 use Rattle.counts.specs.declared.Quanta.{Quanta}
 use Rattle.counts.proofs.Numbers.{number_there}
-use Rattle.windows.specs.Windows.{start, job_start}
 use Rattle.windows.proofs.Windows.{bit_is_0_or_1}
 use Rattle.table.specs.declared.Row.{Row}
-use Rattle.pd2.specs.Ready.{origin_of}
 use Rattle.pd2.specs.Order.{Rank, rank_of, with_favour}
 use Rattle.pd2.specs.Choice.{row_at, quanta_at}
 use Rattle.pd2.specs.Near.{HasWindow}
@@ -32,24 +32,14 @@ use Rattle.why.specs.declared.Rule.{Rule}
 use Rattle.why.specs.declared.Rule.TheVariants.{Deadline, Bit, GroupDeadline, RowNumber, RanBefore}
 use Rattle.why.specs.Rules.{rule_for}
 use Rattle.why.specs.Reasons.{is_ready, rank_in}
-use Rattle.why.specs.Why.{ready_from, lowest_in}
+use Rattle.why.specs.Why.{lowest_in}
 use Rattle.why.specs.Asked.{dropped_from}
 use Rattle.why.proofs.Picked.{named_is_row, dropped_is_lowest_named, one_is_dropped_of_named}
 use Rattle.why.proofs.Why.{lowest_is_found}
 
-module _ (row : Row) (q : ℕ) where
-  -- From when on a row is ready, for each kind of row.
-  pub early_release_from : row.kind ≡ 1 → job_start row.cost row.period (origin_of row) (q + 1) ≡ ready_from row q
-  unfolding ready_from
-  early_release_from e = sym (rw (eq-eqb row.kind 1 e) refl)
-
-  pub plain_from : (row.kind ≡ 1 → ⊥) → start row.cost row.period (origin_of row) (q + 1) ≡ ready_from row q
-  unfolding ready_from
-  plain_from e = sym (rw (ne_eqb row.kind 1 e) refl)
-
-  -- A bit is 0 or 1.
-  pub bit_is_small : (rank_of row 0 q).b ≤ 1
-  bit_is_small = ⊎_elim (λ z. omega (arith, z)) (λ z. omega (arith, z)) (bit_is_0_or_1 row.cost row.period (q + 1))
+-- A bit is 0 or 1.
+pub bit_is_small : (row : Row) (q : ℕ) → (rank_of row 0 q).b ≤ 1
+bit_is_small row q = ⊎_elim (λ z. omega (arith, z)) (λ z. omega (arith, z)) (bit_is_0_or_1 row.cost row.period (q + 1))
 
 -- A usable row has a window.
 pub usable_has_window : {row : Row} {q t : ℕ} → UsableRow row q t → HasWindow row q
@@ -63,29 +53,22 @@ any_numbers ahead behind had given i j true true = refl
 any_numbers ahead behind had given i j true false = refl
 any_numbers ahead behind had given i j false g = refl
 
--- A row of a state, as the code reads it.
+-- A row of a state, as the code reads it, is row i,
 module _ (s : State) (u : UsableState s) {i : ℕ} (l : i < length (rows_in s)) (r : Row) (q : Quanta) where
-  -- Whatever is said of it is said of row i.
-  pub read_there : {A : Type 0} (f : Row → ℕ → A) → f (get_or s.table.rows i r) (get_or s.quanta i q).0 ≡ f (row_at (rows_in s) i) (quanta_at (quanta_in s) i)
-  read_there f =
-      rw (row_there s.table.rows s.table.n i r l, number_there s.quanta i q (omega (arith, l, u.place.few, u.place.all, u.place.long))) refl
+  pub read_there : (get_or s.table.rows i r ≡ row_at (rows_in s) i) × ((get_or s.quanta i q).0 ≡ quanta_at (quanta_in s) i)
+  read_there = (row_there s.table.rows s.table.n i r l, number_there s.quanta i q (omega (arith, l, u.place.few, u.place.all, u.place.long)))
 
+  -- and has a next window.
   pub window_there : HasWindow (get_or s.table.rows i r) (get_or s.quanta i q).0
   window_there = usable_has_window (usable_there u l r q)
 
--- The rule between two rows, as the code reads them, is the rule between these rows of the state.
-pub rule_there : (s : State) (u : UsableState s) {i j : ℕ} → i < length (rows_in s) → j < length (rows_in s) → (r r' : Row) (q q' : Quanta) {rule : Rule} →
-    {kinder : Bool} → kinder ≡ favoured_in s i && not (favoured_in s j) →
-    rule ≡ rule_for (with_favour (rank_of (get_or s.table.rows i r) 0 (get_or s.quanta i q).0) kinder) (rank_of (get_or s.table.rows j r') 0 (get_or s.quanta j q').0) →
-    rule ≡ rule_for (rank_in s i) (rank_in s j)
-rule_there s u {i} {j} l m r r' q q' is e =
-    let f = favoured_in s i in
-    let g = favoured_in s j in
-    let behind = with_favour (rank_of (get_or s.table.rows j r') j (get_or s.quanta j q').0) g in
-    (rw is at e)
-    ∙ (any_numbers (get_or s.table.rows i r) (get_or s.table.rows j r') (get_or s.quanta i q).0 (get_or s.quanta j q').0 i j f g
-    ∙ (read_there s u l r q (λ row given. rule_for (with_favour (rank_of row i given) f) behind)
-    ∙ read_there s u m r' q' (λ row given. rule_for (rank_in s i) (with_favour (rank_of row j given) g))))
+-- The rule between two such rows is the rule between these rows of the state.
+pub rule_there : (s : State) (i j : ℕ) {ahead behind : Row} {had given : ℕ} → ahead ≡ row_at (rows_in s) i → had ≡ quanta_at (quanta_in s) i → behind ≡ row_at (rows_in s) j →
+    given ≡ quanta_at (quanta_in s) j → {rule : Rule} {kinder : Bool} → kinder ≡ favoured_in s i && not (favoured_in s j) →
+    rule ≡ rule_for (with_favour (rank_of ahead 0 had) kinder) (rank_of behind 0 given) → rule ≡ rule_for (rank_in s i) (rank_in s j)
+rule_there s i j first had second given is e =
+    (rw (is, first, had, second, given) at e)
+    ∙ any_numbers (row_at (rows_in s) i) (row_at (rows_in s) j) (quanta_at (quanta_in s) i) (quanta_at (quanta_in s) j) i j (favoured_in s i) (favoured_in s j)
 
 -- The marks are the rows that are named.
 pub marks_name : (marks : List Bool) {rows : List ℕ} → marked marks ≡ rows → (i : ℕ) → get_or marks i false ≡ names rows i
@@ -111,6 +94,12 @@ module _ (s : State) (k row : ℕ) (is_row : row < length (rows_in s)) (row_is_r
           let is_in = sym (marks_name marks with_k by) ∙ two.0 in
           let gone = sym (marks_name fewer with_fewer by) ∙ not-true _ two.1 in
           (named_is_row s k by is_in, (lowest_is_found s k row is_row row_is_ready some_core by).0 (dropped_is_lowest_named s k by is_in gone))
+
+-- What is found first of the numbers below 32 is the lowest; none is 32.
+pub first_is_lowest : (test : ℕ → Bool) (r : Option ℕ) →
+    MatchOption r ((k : ℕ) → 0 ≤ k → k < 32 → test k ≡ false) (λ i. (0 ≤ i) × (i < 32) × (test i ≡ true) × ((k : ℕ) → 0 ≤ k → k < i → test k ≡ false)) → Lowest test 32 (unwrap_or r 32)
+first_is_lowest test None none = record { within = omega arith; passes = λ l. absurd (omega arith); none_before = λ k l. none k (omega arith) l }
+first_is_lowest test (Some i) so = record { within = omega (arith, so.1); passes = λ l. so.2; none_before = λ k l. so.3 k (omega arith) l }
 
 -- The rule that decides between two ranks, test by test.
 module _ (x y : Rank) where

@@ -7,7 +7,7 @@ use Rattle.trace.specs.Records.{names}
 use Rattle.dispatcher.specs.declared.State.{State}
 use Rattle.dispatcher.specs.State.{time_of}
 use Rattle.dispatcher.specs.Slot.{picks_in}
-use Rattle.why.specs.declared.Answer.TheVariants.{Picked, NotReady, NoCoreFree, PassedOver}
+use Rattle.why.specs.declared.Reason.TheVariants.{Picked, NotReady, NoCoreFree, PassedOver}
 use Rattle.why.specs.Rules.{rule_for}
 use Rattle.why.specs.Reasons.{is_ready, rank_in}
 use Rattle.why.specs.Why.{ready_from_in, lowest_in, reason_of}

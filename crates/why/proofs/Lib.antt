@@ -5,4 +5,5 @@ pub mod Cases
 pub mod Refused
 pub mod Why
 pub mod Alike
+pub mod Windows
 pub mod Asked

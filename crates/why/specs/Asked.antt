@@ -1,8 +1,5 @@
 -- Between functions: what those of this crate ask of a state. No part of what 02 says.
-use Rattle.std.specs.Prelude.{ℕ, ◌≤◌, ◌<◌, ◌≡◌, List, Bool, false, not, ◌&&◌, length, get_or}
-use Rattle.counts.specs.declared.Slot.{Slot}
-use Rattle.windows.specs.declared.Moment.{Moment}
-use Rattle.windows.specs.declared.Moment.TheVariants.{At}
+use Rattle.std.specs.Prelude.{ℕ, ◌≤◌, ◌<◌, List, Bool, false, not, ◌&&◌, length, get_or}
 use Rattle.dispatcher.specs.declared.State.{State}
 use Rattle.dispatcher.specs.State.{rows_in}
 use Rattle.dispatcher.specs.Usable.{UsableState}
@@ -16,7 +13,3 @@ pub record Asked (s : State) (k row : ℕ) : Type 0 where
 -- A row that is marked, and no longer with one core fewer.
 abbrev pub dropped_from : List Bool → List Bool → ℕ → Bool
 dropped_from marks fewer i = get_or marks i false && not (get_or fewer i false)
-
--- The time of a moment that is answered.
-abbrev pub TimeIs : Moment → Slot → Type 0
-TimeIs moment r = (time : ℕ) → moment ≡ At (record { 0 = time }) → r.0 ≡ time

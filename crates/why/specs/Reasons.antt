@@ -1,6 +1,6 @@
 -- The four reasons (02, Two), each a statement of its own: of a row of a state, in the slot about to run, with k cores free. None speaks of another, or
 -- of how it is found.
-use Rattle.std.specs.Prelude.{ℕ, ◌≡◌, Bool, true, false, length}
+use Rattle.std.specs.Prelude.{ℕ, ◌≡◌, Bool, true, false, length, Ok, Err}
 use Rattle.facts.specs.First.{IsFirst}
 use Rattle.pd2.specs.Order.{Rank, Before, before}
 use Rattle.pd2.specs.Choice.{ready_in, rank_at, goes_before_by}
@@ -9,8 +9,8 @@ use Rattle.dispatcher.specs.declared.State.{State}
 use Rattle.dispatcher.specs.State.{rows_in, quanta_in, time_of}
 use Rattle.dispatcher.specs.Slot.{favoured_in, picks_in}
 use Rattle.why.specs.declared.Rule.{Rule}
-use Rattle.why.specs.declared.Answer.{Answer}
-use Rattle.why.specs.declared.Answer.TheVariants.{Picked, NotReady, NoCoreFree, PassedOver, Broken, Stopped, AtLimit, TooManyCores, NoSuchRow}
+use Rattle.why.specs.declared.Reason.TheVariants.{Picked, NotReady, NoCoreFree, PassedOver}
+use Rattle.why.specs.Answer.{Answer}
 use Rattle.why.specs.Rules.{rule_of}
 use Rattle.why.specs.Lowest.{LowestPicked}
 
@@ -49,12 +49,8 @@ pub record IsPassedOver (s : State) (k row by : ℕ) (rule : Rule) : Type 0 wher
 
 -- What an answer says of the row. A refusal is no reason: it says nothing of the row.
 abbrev pub Holds : State → ℕ → ℕ → Answer → Type 0
-Holds s k row Picked = IsPicked s k row
-Holds s k row (NotReady until) = IsNotReady s row until.0
-Holds s k row NoCoreFree = HasNoCore s k row
-Holds s k row (PassedOver by rule) = IsPassedOver s k row by rule
-Holds s k row Broken = ⊥
-Holds s k row Stopped = ⊥
-Holds s k row AtLimit = ⊥
-Holds s k row TooManyCores = ⊥
-Holds s k row NoSuchRow = ⊥
+Holds s k row (Ok Picked) = IsPicked s k row
+Holds s k row (Ok (NotReady until)) = IsNotReady s row until.0
+Holds s k row (Ok NoCoreFree) = HasNoCore s k row
+Holds s k row (Ok (PassedOver by rule)) = IsPassedOver s k row by rule
+Holds s k row (Err refusal) = ⊥

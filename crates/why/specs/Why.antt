@@ -1,5 +1,5 @@
 -- What is answered to "Why did tank 14 wait?" (02, Two).
-use Rattle.std.specs.Prelude.{ℕ, ◌+◌, ◌≤◌, ◌≡◌, List, [], ◌∷◌, false, cond, not, ◌↔◌, ◌⊎◌, ltb, eqb, length}
+use Rattle.std.specs.Prelude.{ℕ, ◌+◌, ◌≤◌, ◌≡◌, List, [], ◌∷◌, false, cond, not, ◌↔◌, ◌⊎◌, ltb, eqb, length, Ok, Err}
 use Rattle.facts.specs.Findings.{Finding, ◌says◌, first_found, FirstFound}
 use Rattle.counts.specs.Limits.{time_limit}
 use Rattle.windows.specs.Windows.{start, job_start}
@@ -13,12 +13,13 @@ use Rattle.dispatcher.specs.Broken.{broken}
 use Rattle.dispatcher.specs.Slot.{picks_in}
 use Rattle.dispatcher.specs.Places.{AlikeBelow}
 use Rattle.dispatcher.specs.Placed.{AlikeButMemory, FavourAlike}
-use Rattle.why.specs.declared.Answer.{Answer}
-use Rattle.why.specs.declared.Answer.TheVariants.{Picked, NotReady, NoCoreFree, PassedOver, Broken, Stopped, AtLimit, TooManyCores, NoSuchRow}
+use Rattle.why.specs.declared.Reason.{Reason}
+use Rattle.why.specs.declared.Reason.TheVariants.{Picked, NotReady, NoCoreFree, PassedOver}
+use Rattle.why.specs.declared.Refusal.TheVariants.{Broken, Stopped, AtLimit, TooManyCores, NoSuchRow}
 use Rattle.why.specs.Rules.{rule_for}
 use Rattle.why.specs.Lowest.{lowest_picked}
 use Rattle.why.specs.Reasons.{is_ready, rank_in, goes_before, Holds}
-use Rattle.why.specs.Answer.{number_of}
+use Rattle.why.specs.Answer.{Answer, number_of}
 
 -- the slot from which on a row with q quanta is ready: r of its next subtask, or the start of the job that holds it. It may lie past the time limit.
 unfoldable pub ready_from : Row → ℕ → ℕ
@@ -35,7 +36,7 @@ abbrev pub lowest_in : State → ℕ → ℕ
 lowest_in s k = lowest_picked (names (picks_in s k)) (goes_before s) (length (rows_in s))
 
 -- The reason, computed.
-unfoldable pub reason_of : State → ℕ → ℕ → Answer
+unfoldable pub reason_of : State → ℕ → ℕ → Reason
 reason_of s k row =
     cond (names (picks_in s k) row) Picked
     (cond (not (is_ready s row (time_of s))) (NotReady (record { 0 = ready_from_in s row }))
@@ -45,15 +46,15 @@ reason_of s k row =
 -- "Refusals: 30 to 33 as in 01, then 36 for a row number not below n."
 abbrev pub why_tests : State → ℕ → ℕ → List (Finding Answer)
 why_tests s k row =
-    (broken s says Broken)
-    ∷ (s.stopped says Stopped)
-    ∷ (eqb (time_of s) time_limit says AtLimit)
-    ∷ (ltb s.table.cores k says TooManyCores)
-    ∷ (not (is_row s row) says NoSuchRow)
+    (broken s says Err Broken)
+    ∷ (s.stopped says Err Stopped)
+    ∷ (eqb (time_of s) time_limit says Err AtLimit)
+    ∷ (ltb s.table.cores k says Err TooManyCores)
+    ∷ (not (is_row s row) says Err NoSuchRow)
     ∷ []
 
 unfoldable pub why_of : State → ℕ → ℕ → Answer
-why_of s k row = first_found (reason_of s k row) (why_tests s k row)
+why_of s k row = first_found (Ok (reason_of s k row)) (why_tests s k row)
 
 -- Each number is answered exactly when its cause is the first that is met.
 abbrev pub RefusedExactly : Type 0

@@ -1,37 +1,19 @@
 // By which rule of PD2's order one row goes before another.
 ghost use Rattle.std.specs.Prelude.{◌≡◌, cond};
-ghost use Rattle.pd2.specs.Near.{HasWindow};
 ghost use Rattle.pd2.specs.Order.{rank_of, with_favour};
 ghost use Rattle.why.specs.declared.Rule.TheVariants.{RowNumber, RanBefore};
 ghost use Rattle.why.specs.Rules.{rule_for};
-ghost use Rattle.why.specs.Answer.{rule_place};
 
 use crate::Rule;
-use counts::Quanta;
-use table::Row;
-use windows::Due;
-
-// The end of a row's next window: d and b.
-#[derive(Clone, Copy)]
-struct End {
-    deadline: u64,
-    bit: u8,
-}
+use crate::next::Next;
 
 // The first rule that decides. Group deadlines are asked for only if both bits are 1. `kinder` says that of the two rows the one ahead alone is favoured.
-pub(crate) fn rule_between(
-    ahead: Row,
-    had: Quanta,
-    behind: Row,
-    given: Quanta,
-    kinder: bool,
-) -> Rule
-    requires { HasWindow ahead had.0 × HasWindow behind given.0 }
-    ensures { result ≡ rule_for (with_favour (rank_of ahead 0 had.0) kinder) (rank_of behind 0 given.0) }
+pub(crate) fn rule_between(ahead: Next, behind: Next, kinder: bool) -> Rule
+    ensures { result ≡ rule_for (with_favour (rank_of ahead.row 0 ahead.given.0) kinder) (rank_of behind.row 0 behind.given.0) }
 {
-    let first = end_of(ahead, had);
-    let second = end_of(behind, given);
-    if first.deadline < second.deadline {
+    let first = ahead.due();
+    let second = behind.due();
+    if first.deadline.time() < second.deadline.time() {
         return Rule::Deadline;
     }
     if second.bit < first.bit {
@@ -40,8 +22,7 @@ pub(crate) fn rule_between(
     if first.bit == 0 {
         return last_rule(kinder);
     }
-    let larger = group_of(ahead, had);
-    if group_of(behind, given) < larger {
+    if behind.group_deadline().time() < ahead.group_deadline().time() {
         return Rule::GroupDeadline;
     }
     last_rule(kinder)
@@ -55,45 +36,5 @@ fn last_rule(kinder: bool) -> Rule
         Rule::RanBefore
     } else {
         Rule::RowNumber
-    }
-}
-
-// The row has a next window, so that it is answered.
-fn end_of(row: Row, given: Quanta) -> End
-    requires { HasWindow row given.0 }
-    ensures { (result.deadline ≡ (rank_of row 0 given.0).d) × (result.bit ≡ (rank_of row 0 given.0).b) }
-{
-    let due = windows::next_due(row.cost, row.period, pd2::origin(row), given);
-    let Due::By { deadline, bit } = due else {
-        return End {
-            deadline: 0,
-            bit: 0,
-        };
-    };
-    End {
-        deadline: deadline.time(),
-        bit,
-    }
-}
-
-// D of a row's next subtask.
-fn group_of(row: Row, given: Quanta) -> u64
-    requires { HasWindow row given.0 }
-    ensures { result ≡ (rank_of row 0 given.0).D }
-{
-    let group = windows::next_group_deadline(row.cost, row.period, pd2::origin(row), given);
-    crate::time_of(group).time()
-}
-
-// The rule's place in the paper's list.
-pub(crate) fn place(rule: Rule) -> u8
-    ensures { result ≡ rule_place rule }
-{
-    match rule {
-        Rule::Deadline => 1,
-        Rule::Bit => 2,
-        Rule::GroupDeadline => 3,
-        Rule::RowNumber => 4,
-        Rule::RanBefore => 5,
     }
 }

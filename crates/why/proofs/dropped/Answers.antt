@@ -1,15 +1,15 @@
-use mathlib.Core.Path.{sym, ◌∙◌}
-use Rattle.facts.proofs.Some.{looking_begins, looks_on, found_lowest, found_none}
+use borrow.Author.Rules.{rules}
+use borrow.Author.Tests.{tests}
+use mathlib.Core.Path.{◌≡◌}
+use mathlib.Core.Bool.{true, false}
+use Rattle.std.proofs.lemmas.Iterator.{first_from_Range}
+use Rattle.why.specs.Asked.{dropped_from}
+use Rattle.why.proofs.Asked.{first_is_lowest}
 use Rattle.why.proofs.dropped.Goals as goal
 
-pub loop-i-init : goal.loop-i-init
-loop-i-init c = looking_begins _ _
-
-pub returns-then-only_first : goal.returns-then-only_first
-returns-then-only_first c = found_lowest _ _ c.loop-i.invariant c.loop-i-test.true (sym c.only_first.ensures ∙ c.if-only_first.true)
-
-pub loop-i-preserved : goal.loop-i-preserved
-loop-i-preserved c = looks_on _ _ c.loop-i.invariant c.loop-i-test.true (sym c.only_first.ensures ∙ c.if-only_first.false)
-
 pub returns : goal.returns
-returns c = found_none _ _ c.loop-i.invariant c.loop-i-test.false
+returns c =
+    let dropped = dropped_from c.args.marks.now c.args.fewer.now in
+    first_is_lowest dropped c.find.result
+    (first_from_Range _ _ _ c.find.result (λ i. dropped i ≡ true) (λ i. dropped i ≡ false) c.find.ensures.ran
+    (λ x q k. search (rules, tests)) (λ x q k. search (rules, tests)))

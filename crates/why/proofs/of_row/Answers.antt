@@ -6,6 +6,7 @@ use borrow.Author.Rules.{rules}
 use borrow.Author.Tests.{lt-ltb, le-ltb, eq-eqb, ne_eqb}
 use lib.Dec.{eqb}
 use lib.ListN.{length}
+use Rattle.std.specs.Prelude.{Ok}
 use Rattle.facts.specs.Findings.{FirstFound, NoneFound}
 use Rattle.counts.specs.Limits.{time_limit}
 use Rattle.table.proofs.Taken.{sizes_are_within}
@@ -48,8 +49,8 @@ returns-then-state-row c =
     (FirstFound.later whole (FirstFound.later c.if-state.false (FirstFound.later slot_left (FirstFound.later (le-ltb a.state.table.cores a.k (omega arith))
     (FirstFound.here (ap not (le-ltb a.row (length (rows_in a.state)) (omega (arith, c.if-state-row.true, arrays.all)))))))))
 
-pub reason-requires : goal.reason-requires
-reason-requires c =
+pub reason_for-requires : goal.reason_for-requires
+reason_for-requires c =
     let whole : broken c.args.state ≡ false = sym c.is_broken.ensures ∙ c.if-is_broken.false in
     let arrays : let s = c.args.state in InPlace s.table.rows s.quanta s.table.n = in_place c.args.state (is_whole _ whole).table (search rules) (search rules) in
     let row_is_there : c.args.row < length (rows_in c.args.state) = omega (arith, c.if-state-row.false, arrays.all) in
@@ -66,7 +67,7 @@ returns c =
     let slot_left : eqb (time_of c.args.state) time_limit ≡ false = ne_eqb (time_of c.args.state) time_limit (λ e. omega (arith, e, c.if-time-ge-TIME_LIMIT.false, c.time.ensures)) in
     let arrays : let s = c.args.state in InPlace s.table.rows s.quanta s.table.n = in_place c.args.state (is_whole _ whole).table (search rules) (search rules) in
     let row_is_there : c.args.row < length (rows_in c.args.state) = omega (arith, c.if-state-row.false, arrays.all) in
-    c.reason.ensures
+    ap Ok c.reason_for.ensures
     ∙ gives_reason _ _ _
     (NoneFound.later whole (NoneFound.later c.if-state.false (NoneFound.later slot_left (NoneFound.later (le-ltb _ _ c.if-state-k.false)
     (NoneFound.later (ap not (lt-ltb _ _ row_is_there)) NoneFound.end)))))
