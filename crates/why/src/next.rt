@@ -17,13 +17,13 @@ use windows::Due;
 // A row that can be, so that it has a next window and each question about it is answered.
 #[derive(Clone, Copy)]
 pub(crate) struct Next {
-    pub(crate) row: Row,
-    pub(crate) given: Quanta,
+    row: Row,
+    given: Quanta,
     ghost has_window: { HasWindow row given.0 },
 }
 
 impl Next {
-    // Of a row of a state.
+    // A row of a state.
     pub(crate) fn of(state: &State, row: usize) -> Next
         requires { UsableState state.now × (row < length (rows_in state.now)) }
         ensures { (result.row ≡ row_at (rows_in state.now) row) × (result.given.0 ≡ quanta_at (quanta_in state.now) row) }
@@ -34,6 +34,7 @@ impl Next {
         }
     }
 
+    // Whether the row is ready in this slot.
     pub(crate) fn is_ready(self, slot: Slot) -> bool
         requires { slot.0 ≤ reach }
         ensures { result ≡ ready self.row self.given.0 slot.0 }
@@ -42,7 +43,7 @@ impl Next {
     }
 
     // The first slot in which the row is ready: the start of its next window, or of the job that holds it if the row is early release.
-    #[tactic(auto, using(crate::proofs::Windows::early_release_from, crate::proofs::Windows::plain_from))]
+    #[tactic(auto, using(pd2::proofs::Verdicts::moment_is_said, crate::proofs::Windows::early_release_from, crate::proofs::Windows::plain_from))]
     pub(crate) fn ready_from(self) -> Slot
         ensures { result.0 ≡ ready_from self.row self.given.0 }
     {
