@@ -11,6 +11,7 @@ ghost use Rattle.cores.specs.Fault.{below, misremembers};
 ghost use Rattle.cores.specs.Sets.{size, names_past, first_cores};
 
 // So many rows, and the core of each: what a slot answers, and what the state remembers of it. Places past the count mean nothing.
+// (Arrays with a count and no slices: a state holds it from slot to slot, in fixed memory.)
 #[derive(Clone, Copy, PartialEq, Eq)]
 pub struct Placement {
     pub count: u8,
