@@ -249,7 +249,7 @@ impl State {
         requires { CanStep self rows.now late }
         ensures { Judged (stepped self rows.now placed) result }
     {
-        picked::give(&mut self.quanta, rows);
+        self.quanta = picked::give(self.quanta, rows);
         self.time = self.time.later(1);
         self.last = placed;
         self.stopped = late.is_some();
