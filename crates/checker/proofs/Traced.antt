@@ -5,6 +5,7 @@ use mathlib.Core.List.{List, append_assoc}
 use native.Mathlib.Omega.{arith}
 use borrow.Author.Tests.{lt-ltb, le-ltb}
 use lib.ListN.{length}
+use Rattle.std.specs.Prelude.{Result, Ok, Err, IsErrAnd}
 use Rattle.facts.specs.Findings.{◌then◌, first_found, FirstFound, NoneFound}
 use Rattle.facts.proofs.Findings.{first_is_said, none_says_otherwise, after_none, first_in_front}
 use Rattle.facts.proofs.Counting.{none_counted}
@@ -14,7 +15,9 @@ use Rattle.table.specs.Value.{rows_of}
 use Rattle.trace.specs.Said.{Said, bare}
 use Rattle.trace.specs.Records.{place_of, named_in, first_place, slots_in}
 use Rattle.trace.proofs.Records.{begins_at_first}
+use Rattle.checker.specs.declared.Finding.{Finding}
 use Rattle.checker.specs.declared.giving.Walk.{Walk}
+use Rattle.checker.specs.Answer.{said_by, said_of}
 use Rattle.checker.specs.Causes.{slot_limit}
 use Rattle.checker.specs.Check.{record_findings, records_findings, last_findings, trace_said}
 use Rattle.checker.specs.Walking.{CanCheck, AreKept, Reached, CanJudge, Walked}
@@ -76,6 +79,11 @@ module _ (table : Table) (s : List ℕ) where
       record_says {x} f =
           let found : FirstFound (record_findings table s t) x = rw e at f in
           sym (left ∙ first_is_said (bare 0) (first_in_front (last_findings s) (first_in_front (records_findings table s (t + 1) (slots - (t + 1))) found)))
+
+      -- also as the error that ends the check,
+      pub error_says : (r : Result (Unit {0}) Finding) (finding : Finding) → IsErrAnd r (λ y. y ≡ finding) → FirstFound (record_findings table s u) (said_by finding) → said_of r ≡ trace_said table s
+      error_says (Ok done) finding same f = elim same [ ]
+      error_says (Err y) finding same f = ap said_by same ∙ record_says f
 
       -- and else the check goes on.
       pub check_goes_on : {after : Walk} {next : ℕ} → Walked table s u after next → Come slots (t + 1) next after

@@ -1,6 +1,7 @@
 use native.Mathlib.Omega.{arith}
-use Rattle.std.proofs.lemmas.Result.{err_from_is_err_and}
-use Rattle.checker.proofs.Traced.{slot_count_is_cut, is_too_long, check_begins, record_can_be_judged, record_says, check_goes_on, bytes_are_left, trace_passes}
+use borrow.Author.Rules.{rules}
+use Rattle.checker.specs.Walking.{Walked}
+use Rattle.checker.proofs.Traced.{slot_count_is_cut, is_too_long, check_begins, record_can_be_judged, error_says, check_goes_on, bytes_are_left, trace_passes}
 use Rattle.checker.proofs.check_trace.Goals as goal
 
 pub returns-then-trace-lt4 : goal.returns-then-trace-lt4
@@ -19,10 +20,10 @@ judge-requires c = record_can_be_judged _ _ c.loop-slot.invariant.come c.loop-sl
 
 pub returns-in_err-at : goal.returns-in_err-at
 returns-in_err-at c =
-    let p = err_from_is_err_and c.from_residual.result c.from_residual.ensures.1 in
-    rw (p.1, p.2) (record_says _ _ c.loop-slot.invariant.come c.loop-slot-test.true c.at.ensures c.in_err-at.ensures)
+    error_says _ _ c.loop-slot.invariant.come c.loop-slot-test.true c.at.ensures c.from_residual.result c.in_err-at.field-0.0 c.from_residual.ensures.1 (search rules)
 
 pub loop-slot-preserved : goal.loop-slot-preserved
 loop-slot-preserved c =
-    let come = check_goes_on _ _ c.loop-slot.invariant.come c.loop-slot-test.true c.at.ensures c.in_ok-at.ensures in
+    let walked : Walked c.args.table.now c.args.trace.now c.at.result.0 c.judge.new.walk c.in_ok-at.at = search rules in
+    let come = check_goes_on _ _ c.loop-slot.invariant.come c.loop-slot-test.true c.at.ensures walked in
     record { come = come; left = bytes_are_left _ _ come; passes = trace_passes _ _ come }
