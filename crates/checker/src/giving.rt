@@ -97,8 +97,9 @@ impl Walk {
             rests: [0; 32],
             dues: [NEVER; 32],
         };
-        for i in 0..table.n as usize {
-            walk.keep(i, Kept::before_first(table.rows[i]));
+        let rows = &table.rows[..table.n as usize];
+        for (i, row) in rows.iter().enumerate() {
+            walk.keep(i, Kept::before_first(*row));
         }
         walk
     }
@@ -109,11 +110,11 @@ impl Walk {
         ensures { Gave table.now rows.now slot self.old result self.new }
     {
         let time = slot.time() as u32;
-        for row in rows {
-            let i = *row as usize;
+        for &row in rows {
+            let i = row as usize;
             let kept = self.kept(i);
             if time < kept.start {
-                return Err(Finding::Early { row: *row, slot });
+                return Err(Finding::Early { row, slot });
             }
             self.keep(i, kept.one_more(table.rows[i]));
         }

@@ -78,8 +78,8 @@ pub fn number(answer: Answer) -> u8
         Finding::TooManyCores => 41,
         Finding::TooManyRows => 42,
         Finding::BadRow => 43,
-        Finding::Early { row: _, slot: _ } => 44,
-        Finding::Late { row: _, time: _ } => 45,
+        Finding::Early { .. } => 44,
+        Finding::Late { .. } => 45,
         Finding::Extra => 46,
         Finding::TooLong => 47,
     }

@@ -1,6 +1,6 @@
 use native.Mathlib.Omega.{arith}
-use Rattle.checker.proofs.Kept.{read_row_can_be}
+use Rattle.pd2.proofs.Share.{row_can_be}
 use Rattle.checker.proofs.giving.Walk.begin.Goals as goal
 
 pub before_first-requires : goal.before_first-requires
-before_first-requires c = read_row_can_be _ c.requires c.loop-i.i (omega (arith, c.loop-i-test.true, c.requires.all)) _
+before_first-requires c = row_can_be _ c.requires.sound c.loop-i.i (omega (arith, c.loop-i-test.true, c.requires.all))
