@@ -4,7 +4,7 @@
 mod giving;
 mod record;
 
-ghost use Rattle.std.specs.Prelude.{◌≡◌, ◌≤◌};
+ghost use Rattle.std.specs.Prelude.{◌≡◌};
 ghost use Rattle.table.specs.Reply.{fault_number};
 ghost use Rattle.trace.specs.Said.{bare};
 ghost use Rattle.checker.specs.Answer.{shape_said, said_by, said_of};
@@ -16,7 +16,7 @@ use giving::Walk;
 use table::{Fault, Table};
 use trace::Misshape;
 
-// What is found: by the table, or in the trace, first.
+// What is found first: a fault of the table, or what stands in the trace.
 #[derive(Clone, Copy, PartialEq, Eq)]
 pub enum Finding {
     Table(Fault),
