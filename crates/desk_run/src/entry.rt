@@ -17,24 +17,18 @@ pub(crate) fn run_slot(state: State, k: u8, entries: &mut [u8], at: usize) -> St
 {
     let outcome = state.slot(cores::first(k), entries, at);
     let told = Told::of(outcome.answer);
-    put_reply(
-        entries,
-        at + 10,
-        &outcome.placed.cores,
-        told.number,
-        told.row,
-    );
+    put_reply(entries, at + 10, &outcome.placed.cores, told);
     outcome.state
 }
 
 // Writes what stands behind the record: eight cores, the number and the row.
-fn put_reply(entries: &mut [u8], at: usize, cores: &[u8; 8], number: u8, row: u8)
+fn put_reply(entries: &mut [u8], at: usize, cores: &[u8; 8], told: Told)
     requires { at + 10 ≤ length entries.old }
-    ensures { entries.new ≡ sets entries.old at (flat_map (bytes_of 1) cores.now ++ bytes_of 1 number ++ bytes_of 1 row) }
+    ensures { entries.new ≡ sets entries.old at (flat_map (bytes_of 1) cores.now ++ bytes_of 1 told.number ++ bytes_of 1 told.row) }
 {
     put_cores(entries, at, cores);
-    fields::put(entries, at + 8, 1, number as u64);
-    fields::put(entries, at + 9, 1, row as u64);
+    fields::put(entries, at + 8, 1, told.number as u64);
+    fields::put(entries, at + 9, 1, told.row as u64);
 }
 
 // Writes the eight cores.
