@@ -1,16 +1,16 @@
 // The first fields of a table: format, cycle and core count.
 ghost use Rattle.std.specs.Prelude.{◌≡◌, ◌≤◌, not, ◌||◌, eqb, IfOk};
 ghost use Rattle.facts.specs.Findings.{first_found};
-ghost use Rattle.table.specs.Limits.{cycle_limit, core_limit};
+ghost use Rattle.table.specs.Limits.{core_limit};
 ghost use Rattle.table.specs.Causes.{outside};
 ghost use Rattle.table.specs.Bytes.{format_in, cycle_in, cores_in, head_tests};
 ghost use Rattle.table.specs.Reply.{number_of};
 
 use crate::Fault;
 
-const CYCLE_LIMIT: u32 = 1_000_000;
+pub(crate) const CYCLE_LIMIT: u32 = 1_000_000;
 
-const CORE_LIMIT: u8 = 8;
+pub(crate) const CORE_LIMIT: u32 = 8;
 
 // The first fields, once they passed their tests.
 #[derive(Clone, Copy)]
@@ -38,14 +38,14 @@ pub(crate) fn read(bytes: &[u8]) -> Result<Head, Fault>
         return Err(Fault::Ends);
     }
     let cycle = fields::word(bytes, 1);
-    if cycle_is_outside(cycle) {
+    if is_outside(CYCLE_LIMIT, cycle) {
         return Err(Fault::Cycle);
     }
     if bytes.len() < 6 {
         return Err(Fault::Ends);
     }
     let cores = fields::byte(bytes, 5);
-    if cores_are_outside(cores) {
+    if is_outside(CORE_LIMIT, cores as u32) {
         return Err(Fault::Cores);
     }
     Ok(Head {
@@ -62,14 +62,9 @@ pub(crate) fn format_is_unknown(format: u8) -> bool
     format != 1 && format != 2
 }
 
-pub(crate) fn cycle_is_outside(cycle: u32) -> bool
-    ensures { result ≡ outside 1 cycle_limit cycle }
+// Whether a number is not in 1 to a limit.
+pub(crate) fn is_outside(limit: u32, number: u32) -> bool
+    ensures { result ≡ outside 1 limit number }
 {
-    cycle < 1 || CYCLE_LIMIT < cycle
-}
-
-pub(crate) fn cores_are_outside(cores: u8) -> bool
-    ensures { result ≡ outside 1 core_limit cores }
-{
-    cores < 1 || CORE_LIMIT < cores
+    number < 1 || limit < number
 }

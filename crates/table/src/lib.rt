@@ -82,7 +82,7 @@ pub fn read(bytes: &[u8]) -> Result<Table, Fault>
     })
 }
 
-// The fault of a table value. The value may be wild.
+// The fault of a table value, which may be wild. By value, as the promise speaks of it; `judge` is lent it.
 pub fn fault(table: Table) -> Option<Fault>
     ensures { fault_said result ≡ fault_of table }
 {
@@ -114,10 +114,10 @@ fn judge(table: &Table) -> Result<(), Fault>
     if head::format_is_unknown(table.format) {
         return Err(Fault::Format);
     }
-    if head::cycle_is_outside(table.cycle) {
+    if head::is_outside(head::CYCLE_LIMIT, table.cycle) {
         return Err(Fault::Cycle);
     }
-    if head::cores_are_outside(table.cores) {
+    if head::is_outside(head::CORE_LIMIT, table.cores as u32) {
         return Err(Fault::Cores);
     }
     boards::judge(&table.boards[..table.cores as usize])?;

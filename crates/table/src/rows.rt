@@ -10,7 +10,7 @@ ghost use Rattle.table.specs.RowRead.{row_reply_of, row_reply};
 
 use crate::{Fault, Row};
 
-// A place in the bytes that are read.
+// A place in the bytes that are read. 01 names this form: each row that is read comes with the cursor past it.
 #[derive(Clone, Copy)]
 struct Cursor {
     at: usize,

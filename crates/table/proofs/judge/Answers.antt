@@ -13,8 +13,8 @@ returns-in_err-sum c =
     let t = c.args.table.now in
     let front : NoneFound (front_tests t) =
     NoneFound.later (sym c.format_is_unknown.ensures ∙ c.if-format_is_unknown.false)
-    (NoneFound.later (sym c.cycle_is_outside.ensures ∙ c.if-cycle_is_outside.false)
-    (NoneFound.later (sym c.cores_are_outside.ensures ∙ c.if-cores_are_outside.false) NoneFound.end)) in
+    (NoneFound.later (sym c.is_outside.ensures ∙ c.if-is_outside.false)
+    (NoneFound.later (sym c.is_outside-2.ensures ∙ c.if-is_outside-2.false) NoneFound.end)) in
     let count : NoneFound (row_count_tests t) = NoneFound.later (le-ltb row_limit t.n c.if-table-gt-ROW_LIMIT.false) NoneFound.end in
     let handed = err_from_is_err_and c.from_residual-in_err-sum.result c.from_residual-in_err-sum.ensures.1 in
     rw (handed.1, handed.2)
