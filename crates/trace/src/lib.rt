@@ -43,10 +43,11 @@ fn record_length(picked: u8) -> usize
 
 // How many marks are set.
 #[tactic(auto, using(crate::proofs::Writing::all_counted))]
-fn how_many(marks: &[bool; 32]) -> u8
+fn how_many(marks: &[bool]) -> u8
+    requires { length marks.now ≤ 32 }
     ensures { result ≡ length (marked marks.now) }
 {
-    marks.iter().filter(|mark| **mark).count() as u8
+    marks.iter().map(|mark| *mark as u8).sum()
 }
 
 // Writes the numbers of the marked rows to the front of the part.
