@@ -5,8 +5,8 @@ ghost use Rattle.std.specs.Prelude.{◌≡◌};
 ghost use Rattle.table.specs.Bytes.{table_number};
 ghost use Rattle.checker.specs.Check.{check_of};
 
-#[tactic(auto, using(table::proofs::Taken::number_read))]
 // 0 if these bytes are a table that is taken, else the number of the first fault met.
+#[tactic(auto, using(table::proofs::Taken::number_read))]
 pub fn zb_table_check(table: &[u8]) -> u8
     ensures { result ≡ table_number table.now }
 {

@@ -21,8 +21,8 @@ pub(crate) struct Head {
     ghost few: { cores ≤ core_limit },
 }
 
-#[tactic(auto, unfolding(facts::specs::Findings::first_found))]
 // The first fields, or the first fault met. A field is tested as soon as its bytes are there.
+#[tactic(auto, unfolding(facts::specs::Findings::first_found))]
 pub(crate) fn read(bytes: &[u8]) -> Result<Head, Fault>
     ensures number { number_of result ≡ first_found 0 (head_tests bytes.now) }
     ensures fields { IfOk result (λ head. (head.format ≡ format_in bytes.now) × (head.cycle ≡ cycle_in bytes.now) × (head.cores ≡ cores_in bytes.now)) }

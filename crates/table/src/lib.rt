@@ -47,8 +47,8 @@ impl Fault {
     }
 }
 
-#[tactic(auto, using(crate::proofs::Answers::table_in_turn, crate::proofs::Numbers::is_fault), unfolding(facts::specs::Findings::first_found, crate::specs::Bytes::reading))]
 // The table in these bytes, or the first fault met.
+#[tactic(auto, using(crate::proofs::Answers::table_in_turn, crate::proofs::Numbers::is_fault), unfolding(facts::specs::Findings::first_found, crate::specs::Bytes::reading))]
 pub fn read(bytes: &[u8]) -> Result<Table, Fault>
     ensures { reply_of result ≡ reading bytes.now }
 {
@@ -106,8 +106,8 @@ pub fn write(table: Table, buffer: &mut [u8]) -> Result<usize, Unwritten>
     Ok(length)
 }
 
-#[tactic(auto, using(crate::proofs::Value::fault_in_turn, crate::proofs::Numbers::is_fault), unfolding(facts::specs::Findings::first_found))]
 // Whether a table value has no fault, or else the first.
+#[tactic(auto, using(crate::proofs::Value::fault_in_turn, crate::proofs::Numbers::is_fault), unfolding(facts::specs::Findings::first_found))]
 fn judge(table: &Table) -> Result<(), Fault>
     ensures { number_of result ≡ fault_of table.now }
 {

@@ -35,8 +35,8 @@ pub(crate) fn read(bytes: &[u8], at: usize, n: usize, cycle: u32) -> Result<Rows
     for i in 0..n {
         let (row, past) = read_one(bytes, cursor, cycle, least)?;
         rows[i] = row;
-        sum += quanta_of(&row, cycle);
-        least = above(&row);
+        sum += row.quanta(cycle);
+        least = row.above();
         cursor = past;
     }
     Ok(Rows { rows, sum })
@@ -51,23 +51,9 @@ fn read_one(bytes: &[u8], cursor: Cursor, cycle: u32, least: u32) -> Result<(Row
     if bytes.len() - at < 9 {
         return Err(Fault::Ends);
     }
-    let row = row_at(bytes, at);
-    judge_one(&row, cycle, least)?;
+    let row = Row::at(bytes, at);
+    row.judge(cycle, least)?;
     Ok((row, Cursor { at: at + 9 }))
-}
-
-// The row in the nine bytes from place `at` on.
-fn row_at(bytes: &[u8], at: usize) -> Row
-    requires { at + 9 ≤ length bytes.now }
-    ensures { result ≡ row_in_bytes bytes.now at }
-{
-    Row {
-        tank: fields::half(bytes, at),
-        cost: fields::half(bytes, at + 2),
-        period: fields::half(bytes, at + 4),
-        phase: fields::half(bytes, at + 6),
-        kind: fields::byte(bytes, at + 8),
-    }
 }
 
 // The quanta that rows take in a cycle, or the first fault 16 to 20. Each row is gone over once: it is tested and added.
@@ -78,50 +64,66 @@ pub(crate) fn judge(rows: &[Row], cycle: u32) -> Result<u64, Fault>
     let mut sum: u64 = 0;
     let mut least: u32 = 0;
     for row in rows {
-        judge_one(row, cycle, least)?;
-        sum += quanta_of(row, cycle);
-        least = above(row);
+        row.judge(cycle, least)?;
+        sum += row.quanta(cycle);
+        least = row.above();
     }
     Ok(sum)
 }
 
-#[tactic(auto, unfolding(facts::specs::Findings::first_found))]
-// Whether a row whose tank may be `least` or more has no fault, or else the first.
-fn judge_one(row: &Row, cycle: u32, least: u32) -> Result<(), Fault>
-    ensures { number_of result ≡ first_found 0 (row_tests cycle least row.now) }
-{
-    if (row.tank as u32) < least {
-        return Err(Fault::Tanks);
+impl Row {
+    // The row in the nine bytes from place `at` on.
+    fn at(bytes: &[u8], at: usize) -> Row
+        requires { at + 9 ≤ length bytes.now }
+        ensures { result ≡ row_in_bytes bytes.now at }
+    {
+        Row {
+            tank: fields::half(bytes, at),
+            cost: fields::half(bytes, at + 2),
+            period: fields::half(bytes, at + 4),
+            phase: fields::half(bytes, at + 6),
+            kind: fields::byte(bytes, at + 8),
+        }
     }
-    if row.cost == 0 {
-        return Err(Fault::Cost);
-    }
-    if row.period < row.cost {
-        return Err(Fault::Weight);
-    }
-    if cycle % row.period as u32 != 0 {
-        return Err(Fault::Period);
-    }
-    if 1 < row.kind {
-        return Err(Fault::Kind);
-    }
-    Ok(())
-}
 
-// The least tank that may stand after a row.
-fn above(row: &Row) -> u32
-    ensures { result ≡ tank_above row.now }
-{
-    row.tank as u32 + 1
-}
-
-// The quanta that a row takes in a cycle; 0 for a row of period 0.
-fn quanta_of(row: &Row, cycle: u32) -> u64
-    ensures { (result ≡ row.now.cost * (cycle / row.now.period)) × (result < load_limit) }
-{
-    if row.period == 0 {
-        return 0;
+    // Whether a row whose tank may be `least` or more has no fault, or else the first.
+    #[tactic(auto, unfolding(facts::specs::Findings::first_found))]
+    fn judge(&self, cycle: u32, least: u32) -> Result<(), Fault>
+        ensures { number_of result ≡ first_found 0 (row_tests cycle least self.now) }
+    {
+        if (self.tank as u32) < least {
+            return Err(Fault::Tanks);
+        }
+        if self.cost == 0 {
+            return Err(Fault::Cost);
+        }
+        if self.period < self.cost {
+            return Err(Fault::Weight);
+        }
+        if cycle % self.period as u32 != 0 {
+            return Err(Fault::Period);
+        }
+        if 1 < self.kind {
+            return Err(Fault::Kind);
+        }
+        Ok(())
     }
-    let jobs = cycle / row.period as u32;
-    row.cost as u64 * jobs as u64
+
+    // The least tank that may stand after a row.
+    fn above(&self) -> u32
+        ensures { result ≡ tank_above self.now }
+    {
+        self.tank as u32 + 1
+    }
+
+    // The quanta that a row takes in a cycle; 0 for a row of period 0.
+    fn quanta(&self, cycle: u32) -> u64
+        ensures { (result ≡ self.now.cost * (cycle / self.now.period)) × (result < load_limit) }
+    {
+        if self.period == 0 {
+            return 0;
+        }
+        let jobs = cycle / self.period as u32;
+        self.cost as u64 * jobs as u64
+    }
 }

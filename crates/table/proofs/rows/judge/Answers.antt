@@ -10,17 +10,17 @@ use Rattle.table.proofs.rows.judge.Goals as goal
 pub loop-row-init : goal.loop-row-init
 loop-row-init c = (none_passed _ _ _, added_none _ _ _ (omega arith))
 
-pub returns-in_err-judge_one : goal.returns-in_err-judge_one
-returns-in_err-judge_one c =
-    let told = c.in_err-judge_one.ensures in
+pub returns-in_err-judge : goal.returns-in_err-judge
+returns-in_err-judge c =
+    let told = c.in_err-judge.ensures in
     let handed = err_from_is_err_and c.from_residual.result c.from_residual.ensures.1 in
     rw (handed.1, handed.2) (told ∙ sym (stops_at_fault _ _ _ c.loop-row.invariant.0 (omega arith) zero_row refl (λ z. is_fault _ (told ∙ z))))
 
 pub loop-row-preserved : goal.loop-row-preserved
 loop-row-preserved c =
-    let quanta = c.quanta_of-sum.ensures in
+    let quanta = c.quanta-sum.ensures in
     let row = get_or c.args.rows.now c.loop-row.row-index zero_row in
-    let passed = none_met (row_says c.args.cycle c.loop-row.least row) (sym c.in_ok-judge_one.ensures) in (
+    let passed = none_met (row_says c.args.cycle c.loop-row.least row) (sym c.in_ok-judge.ensures) in (
       rw c.above-least.ensures (one_more_passed _ _ _ c.loop-row.invariant.0 (omega arith) zero_row refl passed),
       added_next c.loop-row.invariant.1 (omega arith) quanta.1 zero_row quanta.0,
     )

@@ -30,7 +30,7 @@ returns-in_err-row c =
 
 pub loop-i-preserved : goal.loop-i-preserved
 loop-i-preserved c =
-    let quanta = c.quanta_of-sum.ensures in
+    let quanta = c.quanta-sum.ensures in
     let taken = c.loop-i-test.true in
     let was = row_was_read _ _ _ _ c.in_ok-row.ensures in
     let past = was.2 in (

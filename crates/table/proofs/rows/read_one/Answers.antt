@@ -10,16 +10,16 @@ returns-then-bytes-at-lt9 c =
     let x = c.args in
     row_cut x.bytes.now x.cycle x.least x.cursor.at (omega arith)
 
-pub returns-in_err-judge_one : goal.returns-in_err-judge_one
-returns-in_err-judge_one c =
+pub returns-in_err-judge : goal.returns-in_err-judge
+returns-in_err-judge c =
     let x = c.args in
-    let row = c.row_at-row.ensures in
+    let row = c.at-row.ensures in
     let handed = err_from_is_err_and c.from_residual.result c.from_residual.ensures.1 in
     rw (handed.1, handed.2)
-    (row_faulty x.bytes.now x.cycle x.least x.cursor.at (omega arith) _ (c.in_err-judge_one.ensures ∙ ap (λ r. first_found 0 (row_tests x.cycle x.least r)) row))
+    (row_faulty x.bytes.now x.cycle x.least x.cursor.at (omega arith) _ (c.in_err-judge.ensures ∙ ap (λ r. first_found 0 (row_tests x.cycle x.least r)) row))
 
 pub returns : goal.returns
 returns c =
     let x = c.args in
-    let row = c.row_at-row.ensures in
-    row_read x.bytes.now x.cycle x.least x.cursor.at (omega arith) (c.in_ok-judge_one.ensures ∙ ap (λ r. first_found 0 (row_tests x.cycle x.least r)) row) row
+    let row = c.at-row.ensures in
+    row_read x.bytes.now x.cycle x.least x.cursor.at (omega arith) (c.in_ok-judge.ensures ∙ ap (λ r. first_found 0 (row_tests x.cycle x.least r)) row) row
