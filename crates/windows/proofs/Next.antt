@@ -1,7 +1,7 @@
 -- What the answers about a next window mean. Assumes nothing.
 use Rattle.std.specs.Prelude.{Option, Some, None}
-use mathlib.Core.Path.{◌≡◌, refl, sym, ◌∙◌}
-use mathlib.Core.Bool.{Bool, true, false}
+use mathlib.Core.Path.{◌≡◌, refl, sym}
+use mathlib.Core.Bool.{true, false}
 use Prim.Native.Nat.{ℕ, ◌+◌}
 use borrow.Author.Tests.{lt-ltb, le-leb}
 use Rattle.facts.specs.Determined.{Determined}
@@ -29,47 +29,21 @@ pub due_in_reach : {e p o q : ℕ} → InReach e p o q → next_due e p o q ≡ 
 unfolding next_due
 due_in_reach r = rw (in_reach_is_answered r)
 
--- What an answer holds.
-abbrev pub due_time : Option Due → ℕ
-due_time (Some due) = due.deadline.0
-due_time None = 0
-
-abbrev pub due_bit : Option Due → ℕ
-due_bit (Some due) = due.bit
-due_bit None = 0
-
-abbrev pub is_due : Option Due → Bool
-is_due (Some due) = true
-is_due None = false
-
-abbrev pub moment_time : Option Slot → ℕ
-moment_time (Some time) = time.0
-moment_time None = 0
-
-abbrev pub is_moment : Option Slot → Bool
-is_moment (Some time) = true
-is_moment None = false
-
 -- for the functions
 
 -- What an answered question gives is the answer: a time of the subtask (e', p', o', i) that the code makes of the question,
 module _ (e p o q : ℕ) {e' p' o' i : ℕ} (y : true ≡ next_answered e p o q) (as_asked : (e' ≡ e) × (p' ≡ p) × (o' ≡ o) × (i ≡ q + 1)) where
   pub answers : (time : ℕ → ℕ → ℕ → ℕ → ℕ) {s : Slot} → s.0 ≡ time e' p' o' i → next time e p o q ≡ Some s
   unfolding next
-  answers time h = rw (sym y) (λ k. Some (record { 0 = sym (h ∙ (λ j. time (as_asked.0 j) (as_asked.1 j) (as_asked.2 j) (as_asked.3 j))) k }))
+  answers time {s} h = let same : time e p o (q + 1) ≡ s.0 = cc in rw (sym y, same) refl
 
   -- or its deadline and bit.
   pub answers_due : {due : Due} → due.deadline.0 ≡ deadline e' p' o' i → due.bit ≡ bit e' p' i → next_due e p o q ≡ Some due
   unfolding next_due
-  answers_due d b =
-      rw (sym y)
-      (λ k.
-      Some (
-      record {
-        deadline = record { 0 = sym (d ∙ (λ j. deadline (as_asked.0 j) (as_asked.1 j) (as_asked.2 j) (as_asked.3 j))) k };
-        bit = sym (b ∙ (λ j. bit (as_asked.0 j) (as_asked.1 j) (as_asked.3 j))) k;
-      }
-      ))
+  answers_due {due} d b =
+      let deadline_is : deadline e p o (q + 1) ≡ due.deadline.0 = cc in
+      let bit_is : bit e p (q + 1) ≡ due.bit = cc in
+      rw (sym y, deadline_is, bit_is) refl
 
 -- A question that is not answered is answered so.
 module _ (e p o q : ℕ) (n : false ≡ next_answered e p o q) where

@@ -53,17 +53,12 @@ accepted_is_answered e p f i h = rw h
 pub is_taken : (e p f i : ℕ) {e' p' o i' : ℕ} → true ≡ not (refused e p i) → (e' ≡ e) × (p' ≡ p) × (o ≡ f) × (i' ≡ i) → {w : Window} →
     w.start.0 ≡ start e' p' o i' → w.deadline.0 ≡ deadline e' p' o i' → w.bit ≡ bit e' p' i' → w.group.0 ≡ group_deadline e' p' o i' →
     reply_of (Some w) ≡ window_reply e p f i
-is_taken e p f i y same r d b D =
-    (λ k.
-    record {
-      number = 0;
-      r = (r ∙ (λ j. start (same.0 j) (same.1 j) (same.2 j) (same.3 j))) k;
-      d = (d ∙ (λ j. deadline (same.0 j) (same.1 j) (same.2 j) (same.3 j))) k;
-      b = (b ∙ (λ j. bit (same.0 j) (same.1 j) (same.3 j))) k;
-      D = (D ∙ (λ j. group_deadline (same.0 j) (same.1 j) (same.2 j) (same.3 j))) k;
-    }
-    )
-    ∙ sym (accepted_is_answered e p f i (not-true _ (sym y)))
+is_taken e p f i y same {w} r d b D =
+    let start_is : start e p f i ≡ w.start.0 = cc in
+    let deadline_is : deadline e p f i ≡ w.deadline.0 = cc in
+    let bit_is : bit e p i ≡ w.bit = cc in
+    let group_is : group_deadline e p f i ≡ w.group.0 = cc in
+    rw (accepted_is_answered e p f i (not-true _ (sym y)), start_is, deadline_is, bit_is, group_is) refl
 
 -- What a refused question says of its numbers.
 unfit_if_refused : (e p i : ℕ) → refused e p i ≡ true → Unfit e p i
