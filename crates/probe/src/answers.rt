@@ -224,7 +224,20 @@ pub(crate) fn reason(rt: &impl Print, request: &[u8]) -> io::Result<Option<usize
     }
     let state = values::state(&request[1..]);
     let told = why::Told::of(why::of_row(state, request[586], request[587]));
-    let mut out = [told.number, told.reason, 0, 0, 0, 0, 0, 0, 0, 0, told.row, told.rule];
+    let mut out = [
+        told.number,
+        told.reason,
+        0,
+        0,
+        0,
+        0,
+        0,
+        0,
+        0,
+        0,
+        told.row,
+        told.rule,
+    ];
     fields::put(&mut out, 2, 8, told.slot);
     rt.write_all(&out)?;
     Ok(Some(588))

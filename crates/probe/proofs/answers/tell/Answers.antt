@@ -1,4 +1,4 @@
-use Rattle.std.proofs.Common.{ℕ, arith, length-append, length-take, length-drop}
+use Rattle.std.proofs.Common.{arith, length-append, length-take, length-drop}
 use Rattle.probe.proofs.answers.tell.Goals as goal
 
 pub slice_bounds-write_all-end : goal.slice_bounds-write_all-end
