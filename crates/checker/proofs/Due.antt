@@ -1,36 +1,45 @@
 -- The lowest row that is late, as it is found among the due times. Assumes nothing.
-use Prim.Native.Nat.{ℕ, ◌≤◌, ◌<◌}
-use mathlib.Core.Path.{◌≡◌, sym, ap, ◌∙◌}
-use mathlib.Core.List.{List}
-use mathlib.Core.Bool.{Bool, false}
+use Prim.Native.Nat.{ℕ, zero, suc, ◌≤◌, ◌<◌}
+use mathlib.Core.Path.{◌≡◌, refl, sym, ap, ◌∙◌}
+use mathlib.Core.List.{List, ◌∷◌, []}
+use mathlib.Core.Bool.{Bool, true, false, cond}
 use native.Mathlib.Decide.{dec_lt}
 use native.Mathlib.Omega.{arith}
 use borrow.Author.Tests.{lt-ltb, le-ltb}
 use lib.Dec.{leb}
 use lib.ListN.{length, get_or, take}
 use lib.Seq.{length-take-le, get_or-take}
-use Rattle.std.proofs.Common.{None, position}
+use Rattle.std.proofs.Common.{None, count_by, filter, position}
 use Rattle.std.specs.List.{position_or_len}
-use Rattle.std.proofs.lemmas.List.Sums.{passes_at_first, fails_before_first}
-use Rattle.facts.specs.Counting.{how_many}
-use Rattle.facts.proofs.Some.{each_fails}
+use Rattle.std.proofs.lemmas.List.Sums.{length-filter, passes_at_first, fails_before_first}
 use Rattle.checker.specs.Walking.{IsLowest}
+
+-- If no number passes a filter, each fails the test.
+each_fails : (p : ℕ → Bool) (xs : List ℕ) → length (filter p xs) ≡ 0 → (i : ℕ) → i < length xs → p (get_or xs i 0) ≡ false
+each_fails p [] none i l = absurd (omega arith)
+each_fails p (x ∷ xs) none i l = go (p x) refl none (λ e. each_fails p xs e) i l
+  where
+    go : (passes : Bool) → p x ≡ passes → length (cond passes (x ∷ filter p xs) (filter p xs)) ≡ 0 →
+        (length (filter p xs) ≡ 0 → (i : ℕ) → i < length xs → p (get_or xs i 0) ≡ false) → (i : ℕ) → i < suc (length xs) → p (get_or (x ∷ xs) i 0) ≡ false
+    go true e none rest i l = absurd (omega arith)
+    go false e none rest zero l = e
+    go false e none rest (suc i) l = rest none i (omega arith)
 
 module _ (dues : List ℕ) (end n : ℕ) where
   -- whether the time at a place is up to this one
   abbrev is_due : ℕ → Bool
   is_due i = leb (get_or dues i 0) end
 
-  -- If none of all places is so, none of the first n is.
-  pub none_is_lowest : (m : ℕ) → n ≤ m → how_many is_due m ≡ 0 → IsLowest is_due n None
-  none_is_lowest m few none =
-      record {
-        within = omega arith;
-        passes = λ l. absurd (omega arith);
-        none_before = λ i l. each_fails is_due m (le-ltb 0 (how_many is_due m) (omega (arith, none))) i (omega arith);
-      }
-
   module _ (long : n ≤ length dues) where
+    -- If no time is so, none of the first n is.
+    pub none_is_lowest : count_by (λ due. leb due end) dues ≡ 0 → IsLowest is_due n None
+    none_is_lowest none =
+        record {
+          within = omega arith;
+          passes = λ l. absurd (omega arith);
+          none_before = λ i l. each_fails (λ due. leb due end) dues (length-filter (λ due. leb due end) dues ∙ none) i (omega arith);
+        }
+
     all : length (take n dues) ≡ n
     all = length-take-le n dues long
 
