@@ -69,12 +69,8 @@ unfolding key_of
 key_or_most row i q favoured t None h = (rw h refl, λ e. absurd (false≢true (sym h ∙ e)))
 key_or_most row i q favoured t (Some key) h = (h.is, λ e. (h.low, h.has))
 
--- How far D lies behind d,
+-- How far D lies behind d, where the bit is not 0.
 module _ (row : Row) (q : ℕ) (cost : row.cost < 65_536) {d b : ℕ} (due : DueIs row q d b) where
-  pub bit_0_has_none : b ≡ 0 → (0 ≡ behind (rank_of row 0 q)) × (0 < 65_536)
-  bit_0_has_none z = (rw (sym due.bit ∙ z) refl, omega arith)
-
-  -- where the bit is not 0.
   pub asked_behind : {D far : ℕ} → (b ≡ 0 → ⊥) → D ≡ (rank_of row 0 q).D → far ≡ D - d → (far ≡ behind (rank_of row 0 q)) × (far < 65_536)
   asked_behind {D} {far} one p_d is = (same, omega (arith, same, behind_fits (rank_of row 0 q) (rank_has_key row 0 q false due.window cost (omega arith))))
     where
