@@ -37,10 +37,7 @@ impl Placement {
         ensures { result ≡ misremembers self (below n) cores }
     {
         let count = self.count as usize;
-        if 8 < count {
-            return true;
-        }
-        if cores < self.count {
+        if 8 < count || cores < self.count {
             return true;
         }
         let mut used = [false; 256];
@@ -48,16 +45,7 @@ impl Placement {
         for i in 0..count {
             let core = self.cores[i];
             let row = self.rows[i];
-            if cores <= core {
-                return true;
-            }
-            if used[core as usize] {
-                return true;
-            }
-            if n <= row {
-                return true;
-            }
-            if (row as u16) < least {
+            if cores <= core || used[core as usize] || n <= row || (row as u16) < least {
                 return true;
             }
             used[core as usize] = true;

@@ -13,6 +13,7 @@ use Rattle.cores.specs.Placement.{core_in}
 use Rattle.cores.specs.Fault.{bad_place, misremembers}
 use Rattle.cores.proofs.Fault.{no_such_core, core_twice, no_such_row, falls_or_not, least_begins, does_not_fall, least_goes_on, too_many_places, more_than_cores, bad_somewhere}
 use Rattle.cores.proofs.Marks.{Marked, marking_begins, marks_one_more}
+use Rattle.cores.proofs.Placement.is_faulty.Goals.{then-count-gt8-via-then-count-gt8, then-count-gt8-via-else-count-gt8+then-cores-self, then-cores-core-via-then-cores-core, then-cores-core-via-else-cores-core+then-used-core, then-cores-core-via-else-cores-core+else-used-core+then-n-row, then-cores-core-via-else-cores-core+else-used-core+else-n-row+then-row-least}
 use Rattle.cores.proofs.Placement.is_faulty.Goals as goal
 
 -- A place with a fault is a fault of the memory.
@@ -26,45 +27,32 @@ core_marked : (last : Placement) (i : ℕ) {used : List Bool} → Marked (core_i
 core_marked last i so small e = sym (so.says _ small) ∙ e
 
 pub returns-then-count-gt8 : goal.returns-then-count-gt8
-returns-then-count-gt8 c = too_many_places _ _ _ c.if-count-gt8.true
-
-pub returns-then-cores-self : goal.returns-then-cores-self
-returns-then-cores-self c = more_than_cores _ _ _ c.if-cores-self.true
+returns-then-count-gt8 c =
+    elim c.then-count-gt8.branch [
+      | then-count-gt8-via-then-count-gt8 w ↦ too_many_places _ _ _ w.if-count-gt8.true
+      | then-count-gt8-via-else-count-gt8+then-cores-self w ↦ more_than_cores _ _ _ w.if-cores-self.true
+    ]
 
 pub loop-i-init : goal.loop-i-init
 loop-i-init c = (looking_begins _ _, marking_begins _ 256, least_begins _)
 
+-- Once three tests have passed it has a fault exactly if its row does not rise.
 pub returns-then-cores-core : goal.returns-then-cores-core
 returns-then-cores-core c =
     let a = c.args in
     let i = c.loop-i.i in
-    bad_here a.self _ _ c.if-count-gt8.false c.if-cores-self.false c.loop-i-test.true (no_such_core a.self _ _ i c.if-cores-core.true)
-
-pub returns-then-used-core : goal.returns-then-used-core
-returns-then-used-core c =
-    let a = c.args in
-    let i = c.loop-i.i in
     let small : core_in a.self i < 256 = search rules in
-    let twice = core_marked a.self i c.loop-i.invariant.1 small c.if-used-core.true in
-    bad_here a.self _ _ c.if-count-gt8.false c.if-cores-self.false c.loop-i-test.true (core_twice a.self _ _ i c.if-cores-core.false twice)
-
-pub returns-then-n-row : goal.returns-then-n-row
-returns-then-n-row c =
-    let a = c.args in
-    let i = c.loop-i.i in
-    let small : core_in a.self i < 256 = search rules in
-    let once = core_marked a.self i c.loop-i.invariant.1 small c.if-used-core.false in
-    bad_here a.self _ _ c.if-count-gt8.false c.if-cores-self.false c.loop-i-test.true (no_such_row a.self _ _ i c.if-cores-core.false once c.if-n-row.true)
-
--- and once three tests have passed it has a fault exactly if its row does not rise.
-pub returns-then-row-least : goal.returns-then-row-least
-returns-then-row-least c =
-    let a = c.args in
-    let i = c.loop-i.i in
-    let small : core_in a.self i < 256 = search rules in
-    let once = core_marked a.self i c.loop-i.invariant.1 small c.if-used-core.false in
-    let judged = falls_or_not a.self a.n a.cores i c.if-cores-core.false once c.if-n-row.false in
-    bad_here a.self _ _ c.if-count-gt8.false c.if-cores-self.false c.loop-i-test.true (judged ∙ c.loop-i.invariant.2.falls _ c.if-row-least.true)
+    bad_here a.self _ _ c.if-count-gt8.false c.if-cores-self.false c.loop-i-test.true
+    (elim c.then-cores-core.branch [
+      | then-cores-core-via-then-cores-core w ↦ no_such_core a.self _ _ i w.if-cores-core.true
+      | then-cores-core-via-else-cores-core+then-used-core w ↦
+          core_twice a.self _ _ i w.if-cores-core.false (core_marked a.self i c.loop-i.invariant.1 small w.if-used-core.true)
+      | then-cores-core-via-else-cores-core+else-used-core+then-n-row w ↦
+          no_such_row a.self _ _ i w.if-cores-core.false (core_marked a.self i c.loop-i.invariant.1 small w.if-used-core.false) w.if-n-row.true
+      | then-cores-core-via-else-cores-core+else-used-core+else-n-row+then-row-least w ↦
+          let once = core_marked a.self i c.loop-i.invariant.1 small w.if-used-core.false in
+          falls_or_not a.self a.n a.cores i w.if-cores-core.false once w.if-n-row.false ∙ c.loop-i.invariant.2.falls _ w.if-row-least.true
+    ])
 
 pub loop-i-preserved : goal.loop-i-preserved
 loop-i-preserved c =
