@@ -1,11 +1,9 @@
-use Rattle.std.proofs.Common.{◌≡◌, ℕ, ◌+◌, ◌-◌, ◌≤◌, suc, Bool, List, length, ap, ◌∙◌, arith, rules}
+use Rattle.std.proofs.Common.{◌≡◌, ℕ, ◌+◌, ◌-◌, ◌≤◌, suc, Bool, List, length, sym, ap, ◌∙◌, arith, rules}
 use Rattle.table.specs.Limits.{row_limit}
 use Rattle.trace.specs.Said.{Said}
 use Rattle.cores.specs.Sets.{first_cores}
 use Rattle.dispatcher.specs.declared.State.{State}
-use Rattle.dispatcher.specs.declared.Told.{Told}
 use Rattle.dispatcher.specs.State.{fresh_of}
-use Rattle.dispatcher.specs.Answer.{said_by}
 use Rattle.dispatcher.specs.Slot.{slot_of}
 use Rattle.printer.specs.Limits.{record_room, run_limit}
 use Rattle.printer.specs.Input.{held_back}
@@ -14,13 +12,13 @@ use Rattle.printer.proofs.Text.{Ran, is_tellable, slots_go_on, slots_end_early, 
 use Rattle.printer.proofs.slots.all.Goals as goal
 
 -- what the slot of an iteration left, asked with the first k cores and an empty record
-slot_ran : (start : State) {s : State} {k : ℕ} {free : List Bool} {told : Told} {answered : Said} {after : State} {entry : List ℕ} →
-    free ≡ first_cores k → said_by told ≡ answered → answered ≡ (slot_of s free record_buffer 0).said →
+slot_ran : (start : State) {s : State} {k : ℕ} {free : List Bool} {told : Said} {after : State} {entry : List ℕ} →
+    free ≡ first_cores k → told ≡ (slot_of s free record_buffer 0).said →
     after ≡ (slot_of s free record_buffer 0).state → entry ≡ (slot_of s free record_buffer 0).bytes → length entry ≡ record_room →
     s.table ≡ start.table → length start.table.rows ≡ row_limit → Ran s k told after entry
-slot_ran start first told answered state bytes long table places =
+slot_ran start first told state bytes long table places =
     record {
-      said = told ∙ rw first at answered;
+      said = rw first at told;
       state = rw first at state;
       bytes = rw first at bytes;
       long = long;
@@ -33,7 +31,7 @@ one-requires c =
     let places : length c.args.table.rows ≡ 32 = search rules in
     let slot = c.slot-outcome.ensures in
     let so = c.loop.invariant.1 in
-    let ran = slot_ran (fresh_of c.args.table) c.first.ensures c.of-told.ensures slot.answer_value slot.state_value slot.buffer_after c.slot-outcome.auto.buffer so.table places in
+    let ran = slot_ran (fresh_of c.args.table) c.first.ensures slot.answer_value slot.state_value slot.buffer_after c.slot-outcome.auto.buffer so.table places in
     (omega (arith, few, so.count, so.near, c.requires.0), (omega (arith, few, so.count), is_tellable _ _ ran))
 
 pub returns-then-told-ne0-clause-wrote : goal.returns-then-told-ne0-clause-wrote
@@ -42,19 +40,19 @@ returns-then-told-ne0-clause-wrote c =
     let places : length c.args.table.rows ≡ 32 = search rules in
     let slot = c.slot-outcome.ensures in
     let so = c.loop.invariant.1 in
-    let ran = slot_ran (fresh_of c.args.table) c.first.ensures c.of-told.ensures slot.answer_value slot.state_value slot.buffer_after c.slot-outcome.auto.buffer so.table places in
+    let ran = slot_ran (fresh_of c.args.table) c.first.ensures slot.answer_value slot.state_value slot.buffer_after c.slot-outcome.auto.buffer so.table places in
     let left : c.slots-end.result - c.loop.counter ≡ suc (c.slots-end.result - (c.loop.counter + 1)) = omega (arith, c.loop-test.true) in
     all_slots_written held_back c.args.input.now (fresh_of c.args.table) c.slots-end.ensures
-    (slots_end_early _ _ _ _ _ so left c.free-k.ensures ran c.one.ensures.wrote c.if-told-ne0.true few)
+    (slots_end_early _ _ _ _ _ so left c.free-k.ensures ran c.one.ensures.wrote (λ e. c.if-told-ne0.true (ap (λ t. t.number) c.of-told.ensures ∙ e)) few)
 
 pub loop-preserved : goal.loop-preserved
 loop-preserved c =
     let places : length c.args.table.rows ≡ 32 = search rules in
     let slot = c.slot-outcome.ensures in
     let so = c.loop.invariant.1 in
-    let ran = slot_ran (fresh_of c.args.table) c.first.ensures c.of-told.ensures slot.answer_value slot.state_value slot.buffer_after c.slot-outcome.auto.buffer so.table places in
+    let ran = slot_ran (fresh_of c.args.table) c.first.ensures slot.answer_value slot.state_value slot.buffer_after c.slot-outcome.auto.buffer so.table places in
     let left : c.slots-end.result - c.loop.counter ≡ suc (c.slots-end.result - (c.loop.counter + 1)) = omega (arith, c.loop-test.true) in
-    (c.one.ensures.same_buffer ∙ c.loop.invariant.0, slots_go_on _ _ _ _ _ so left c.free-k.ensures ran c.one.ensures.wrote c.if-told-ne0.false)
+    (c.one.ensures.same_buffer ∙ c.loop.invariant.0, slots_go_on _ _ _ _ _ so left c.free-k.ensures ran c.one.ensures.wrote (sym (ap (λ t. t.number) c.of-told.ensures) ∙ c.if-told-ne0.false))
 
 pub returns-clause-wrote : goal.returns-clause-wrote
 returns-clause-wrote c =

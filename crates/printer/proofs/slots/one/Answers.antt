@@ -1,12 +1,14 @@
-use Rattle.printer.proofs.Text.{own_refused, own_late}
+use Rattle.std.proofs.Common.{◌≡◌, Ok, refl, rules}
+use Rattle.trace.specs.Said.{named}
+use Rattle.dispatcher.specs.declared.Ran.TheVariants.{Late}
+use Rattle.printer.proofs.Text.{own_late}
 use Rattle.printer.proofs.slots.one.Goals as goal
 
-pub returns-then-told-gt1-clause-wrote : goal.returns-then-told-gt1-clause-wrote
-returns-then-told-gt1-clause-wrote c =
+pub returns-in-Ok-Late-clause-wrote : goal.returns-in-Ok-Late-clause-wrote
+returns-in-Ok-Late-clause-wrote c =
     let a = c.args in
-    own_refused a.slot.0 a.k a.rows.now a.entry.now a.told c.if-told-gt1.true c.refused.ensures.wrote
-
-pub returns-then-told-eq1-clause-wrote : goal.returns-then-told-eq1-clause-wrote
-returns-then-told-eq1-clause-wrote c =
-    let a = c.args in
-    own_late a.slot.0 a.k a.rows.now a.entry.now a.told c.if-told-eq1.true (rw c.time.ensures at c.slot.ensures.wrote) c.late.ensures.wrote
+    let late = c.in-Ok-Late in
+    let is : a.answer ≡ Ok (Late late.row late.time) = search rules in
+    rw is
+    (own_late a.slot.0 a.k a.rows.now a.entry.now (named 1 late.row late.time.0) refl (rw c.time-in-Ok-Late.ensures at c.slot-in-Ok-Late.ensures.wrote)
+    (rw c.time-in-Ok-Late-2.ensures at c.late.ensures.wrote))
