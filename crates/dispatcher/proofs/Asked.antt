@@ -1,18 +1,14 @@
 -- What the lower crates answer about a usable row. Assumes nothing.
 use Prim.Native.Nat.{ℕ, ◌≤◌, ◌<◌, min}
-use mathlib.Core.Path.{◌≡◌, refl, ap, ◌∙◌}
+use mathlib.Core.Path.{◌≡◌, ◌∙◌}
 use mathlib.Core.List.{List}
-use mathlib.Core.Bool.{Bool, true}
+use mathlib.Core.Bool.{true}
 use native.Mathlib.Omega.{arith}
 use lib.ListN.{length, get_or, take}
 use Rattle.counts.specs.declared.Quanta.{Quanta}
 use Rattle.table.specs.declared.Row.{Row}
-use Rattle.pd2.specs.Share.{CanBe}
-use Rattle.std.specs.Prelude.{Option}
-use Rattle.pd2.specs.Verdict.{is_yes, answered, verdict}
-use Rattle.pd2.proofs.Verdicts.{answered_in_reach, yes_when_answered}
-use Rattle.choice.specs.Arrays.{InPlace}
-use Rattle.counts.specs.Numbers.{numbers_of}
+use Rattle.pd2.specs.Verdict.{answered}
+use Rattle.pd2.proofs.Verdicts.{answered_in_reach}
 use Rattle.choice.specs.Choice.{favours_marked, chosen}
 use Rattle.pd2.proofs.Choice.{row_there}
 use Rattle.counts.proofs.Numbers.{number_there}
@@ -22,42 +18,21 @@ use Rattle.dispatcher.specs.State.{rows_in, quanta_in, time_of}
 use Rattle.dispatcher.specs.Slot.{picks_in}
 use Rattle.dispatcher.specs.Favoured.{favoured_marks}
 use Rattle.dispatcher.proofs.Favoured.{picks_by_marks}
-use Rattle.dispatcher.specs.Broken.{of_row_at}
-use Rattle.dispatcher.specs.Usable.{UsableRow, Testable, Usable, UsableState}
+use Rattle.dispatcher.specs.Usable.{UsableRow, Usable, UsableState}
 
 -- A question about a usable row is answered.
 pub can_be_asked : {row : Row} {q t : ℕ} → UsableRow row q t → answered row q t ≡ true
 can_be_asked {row} {q} {t} u =
     answered_in_reach row q t (record { cost = u.cost; weight = u.within_period }) (omega (arith, u.quanta, u.time)) (omega (arith, u.time))
 
-module _ {rows : List Row} {quanta : List Quanta} {n : ℕ} where
-  -- Row i, as the code reads it, can be if all rows can,
-  pub can_be_there : {t : ℕ} → Testable rows quanta n t → {i : ℕ} → i < length (take n rows) → (r : Row) → CanBe (get_or rows i r)
-  can_be_there can {i} l r = rw (row_there rows n i r l) (can.each i l)
-
-  -- and a question about it is one about row i.
-  pub as_read : InPlace rows quanta n → {i : ℕ} → i < length (take n rows) → (r : Row) (q : Quanta) (is : Row → ℕ → Bool) →
-      is (get_or rows i r) (get_or quanta i q).0 ≡ of_row_at (take n rows) (numbers_of quanta) is i
-  as_read place {i} l r q is =
-      rw (row_there rows n i r l, number_there quanta i q (omega (arith, l, place.few, place.all, place.long))) refl
-
 -- Row i of usable rows, as the code reads it.
 module _ {rows : List Row} {quanta : List Quanta} {n t : ℕ} (u : Usable rows quanta n t) {i : ℕ} (l : i < length (take n rows)) (r : Row) (q : Quanta) where
   there : i < length quanta
   there = omega (arith, u.place.few, u.place.all, u.place.long)
 
-  -- It is usable,
+  -- It is usable.
   pub usable_there : UsableRow (get_or rows i r) (get_or quanta i q).0 t
   usable_there = rw (row_there rows n i r l, number_there quanta i q there) (u.each i l)
-
-  -- and a question about it is answered as row i is.
-  pub answered_there : (is : Row → ℕ → Bool) {answer : Bool} {v : Option Bool} →
-      answer ≡ is_yes v →
-      v ≡ verdict (answered (get_or rows i r) (get_or quanta i q).0 t) (is (get_or rows i r) (get_or quanta i q).0) →
-      answer ≡ of_row_at (take n rows) (numbers_of quanta) is i
-  answered_there is e f =
-      e ∙ (ap is_yes f ∙ (yes_when_answered (is (get_or rows i r) (get_or quanta i q).0) (can_be_asked usable_there)
-      ∙ rw (row_there rows n i r l, number_there quanta i q there) refl))
 
 -- The rows that are chosen of a usable state, by the marks of those that are favoured, are those that PD2 picks.
 pub state_chosen_as_pd2 : (s : State) (k : ℕ) → UsableState s → k ≤ 8 → chosen (rows_in s) (quanta_in s) (favours_marked (favoured_marks s)) (time_of s) (min k 8) ≡ picks_in s k

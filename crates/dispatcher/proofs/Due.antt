@@ -1,15 +1,14 @@
 -- What the lowest late row of a slot is, by the first key that is left out and the time up to which keys are due. Assumes nothing.
-use Prim.Native.Nat.{ℕ, ◌%◌, ◌≤◌, ◌<◌}
+use Prim.Native.Nat.{ℕ, ◌≤◌, ◌<◌}
 use mathlib.Core.Path.{◌≡◌, refl, subst}
 use mathlib.Core.List.{List}
-use mathlib.Core.Bool.{true, false}
+use mathlib.Core.Bool.{false}
 use native.Mathlib.Decide.{dec_lt}
 use native.Mathlib.Omega.{arith}
 use borrow.Author.Tests.{lt-ltb, le-ltb}
 use Rattle.std.specs.Prelude.{None}
-use Rattle.facts.proofs.Some.{NoneYet, found_lowest}
 use Rattle.choice.specs.Keys.{key_in}
-use Rattle.dispatcher.specs.Looking.{later_keys, is_due, LateAt, LateRow}
+use Rattle.dispatcher.specs.Looking.{later_keys, is_due, LateRow}
 
 -- if the first that is left out is due later, no key is both left out and due soon
 pub never_due : (first soon key : ℕ) → soon ≤ first → is_due first soon key ≡ false
@@ -26,10 +25,6 @@ module _ (keys : List ℕ) (found first soon : ℕ) where
   -- none is late if the first that is left out is due later,
   pub all_later : soon ≤ first → (j : ℕ) → j < found → is_due first soon (key_in keys j) ≡ false
   all_later h j l = never_due first soon (key_in keys j) h
-
-  -- and else the lowest
-  pub one_late : {j : ℕ} → NoneYet (λ k. is_due first soon (key_in keys k)) found j → j < found → is_due first soon (key_in keys j) ≡ true → LateAt keys found first soon (key_in keys j % 32)
-  one_late {j} so l h = record { place = j; there = l; lowest = found_lowest _ _ so l h; same = refl }
 
 -- (of the time as it was asked for)
 pub all_later_then : (keys : List ℕ) (found : ℕ) {first now t : ℕ} → now ≡ t → later_keys now ≤ first → LateRow keys found first (later_keys t) None

@@ -25,7 +25,6 @@ use Rattle.pd2.specs.Ready.{ready}
 use Rattle.pd2.specs.Order.{rank_of, with_favour}
 use Rattle.pd2.specs.Choice.{row_at, quanta_at, ready_in}
 use Rattle.choice.specs.Keys.{front_of, end_of, key_for, HasKey, key_in}
-use Rattle.choice.proofs.KeyOrder.{end_fits}
 use Rattle.dispatcher.specs.declared.Stand.{Stand}
 use Rattle.dispatcher.specs.declared.Stand.TheVariants.{Breaks, Waits, Ready}
 use Rattle.dispatcher.specs.Broken.{of_row_at}
@@ -156,10 +155,6 @@ module _ (rows : List Row) (quanta : List ℕ) (ends : List ℕ) (t : ℕ) where
           }
 
 -- for the function
-
--- An end is small.
-pub end_is_small : {favours : ℕ → Bool} {ends : List ℕ} → EndsAre favours ends → {i : ℕ} → i < 32 → get_or ends i 0 < 64
-end_is_small {favours} says {i} l = omega (arith, says.each i l, end_fits (favours i) i l)
 
 -- What is said of row i,
 pub told : (rows : List Row) (quanta : List ℕ) (i : ℕ) {time t given : ℕ} {stand : Stand} → time ≡ t → given ≡ quanta_at quanta i →

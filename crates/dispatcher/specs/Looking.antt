@@ -18,10 +18,6 @@ use Rattle.dispatcher.specs.declared.Stand.TheVariants.{Breaks, Waits, Ready}
 use Rattle.dispatcher.specs.Broken.{of_row_at}
 use Rattle.dispatcher.specs.Usable.{broken_row}
 
--- A row whose quanta exceed the time, by its place.
-abbrev pub exceeding : List ℕ → ℕ → ℕ → Bool
-exceeding quanta t i = ltb t (quanta_at quanta i)
-
 -- Where a row stands, by whether it breaks the state and whether it is ready,
 abbrev pub stand_of : Bool → Bool → Stand
 stand_of breaks is_ready = cond breaks Breaks (cond is_ready Ready Waits)

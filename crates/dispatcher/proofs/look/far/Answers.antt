@@ -1,12 +1,9 @@
-use mathlib.Core.Path.{refl, ◌∙◌}
+use mathlib.Core.Path.{◌∙◌}
 use Prim.Native.Nat.{◌-◌, ◌*◌}
 use native.Mathlib.Omega.{arith}
-use borrow.Author.Tests.{lt-ltb, le-ltb}
+use borrow.Author.Tests.{le-ltb}
 use Rattle.dispatcher.proofs.Looking.{div_ceil_is, ceil_is_less}
 use Rattle.dispatcher.proofs.look.far.Goals as goal
-
-pub returns-then-cost-period : goal.returns-then-cost-period
-returns-then-cost-period c = rw (lt-ltb _ _ c.if-cost-period.true) (refl, omega arith)
 
 pub returns : goal.returns
 returns c =

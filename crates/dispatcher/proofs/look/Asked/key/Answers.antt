@@ -3,46 +3,15 @@ use Prim.Native.Nat.{◌+◌, ◌-◌, ◌*◌, ◌/◌, ◌≤◌, ◌<◌}
 use native.Mathlib.Nat.{mod-lt}
 use native.Mathlib.Omega.{arith}
 use Rattle.counts.specs.Limits.{time_limit}
-use Rattle.dispatcher.proofs.Looking.{product_is_small, past_phase, owed_less, few_slots, below_period, key_of_whole, key_of_part}
+use Rattle.dispatcher.proofs.Looking.{past_phase, owed_less, few_slots, below_period, key_of_whole, key_of_part}
 use borrow.Author.Rules.{rules}
 use Rattle.dispatcher.proofs.look.Asked.key.Goals as goal
 
 pub overflow_sub-share : goal.overflow_sub-share
 overflow_sub-share c = past_phase _ _ _ c.requires.0
 
-pub overflow_mul-share : goal.overflow_mul-share
-overflow_mul-share c =
-    let fits : ((c.args.self.time - c.args.self.row.phase) * c.args.self.row.cost < (time_limit + 65_536) * 65_536) × (c.args.self.given * c.args.self.row.period < (time_limit + 65_536) * 65_536) = let cost : c.args.self.row.cost < 65_536 = search rules in let period : c.args.self.row.period < 65_536 = search rules in (product_is_small {n = c.args.self.time - c.args.self.row.phase} (omega (arith, c.requires.0.time)) cost, product_is_small {n = c.args.self.given} (omega (arith, c.requires.0.time, c.requires.0.quanta)) period) in
-    omega (arith, fits.0)
-
-pub overflow_mul-lacking : goal.overflow_mul-lacking
-overflow_mul-lacking c =
-    let fits : ((c.args.self.time - c.args.self.row.phase) * c.args.self.row.cost < (time_limit + 65_536) * 65_536) × (c.args.self.given * c.args.self.row.period < (time_limit + 65_536) * 65_536) = let cost : c.args.self.row.cost < 65_536 = search rules in let period : c.args.self.row.period < 65_536 = search rules in (product_is_small {n = c.args.self.time - c.args.self.row.phase} (omega (arith, c.requires.0.time)) cost, product_is_small {n = c.args.self.given} (omega (arith, c.requires.0.time, c.requires.0.quanta)) period) in
-    omega (arith, fits.1)
-
-pub overflow_add-lacking : goal.overflow_add-lacking
-overflow_add-lacking c =
-    let fits : ((c.args.self.time - c.args.self.row.phase) * c.args.self.row.cost < (time_limit + 65_536) * 65_536) × (c.args.self.given * c.args.self.row.period < (time_limit + 65_536) * 65_536) = let cost : c.args.self.row.cost < 65_536 = search rules in let period : c.args.self.row.period < 65_536 = search rules in (product_is_small {n = c.args.self.time - c.args.self.row.phase} (omega (arith, c.requires.0.time)) cost, product_is_small {n = c.args.self.given} (omega (arith, c.requires.0.time, c.requires.0.quanta)) period) in
-    let period : c.args.self.row.period < 65_536 = search rules in
-    omega (arith, fits.1, period)
-
 pub overflow_sub-lacking : goal.overflow_sub-lacking
 overflow_sub-lacking c = omega (arith, owed_less _ _ _ c.requires.0)
-
-pub overflow_add-whole : goal.overflow_add-whole
-overflow_add-whole c =
-    let soon : let a = c.args.self in a.time + (a.given * a.row.period + a.row.period - (a.time - a.row.phase) * a.row.cost) / a.row.cost ≤ time_limit + 65_536 = let period : c.args.self.row.period < 65_536 = search rules in omega (arith, few_slots _ _ _ c.requires.0 refl, period, c.requires.0.time) in
-    omega (arith, soon)
-
-pub overflow_mul-whole : goal.overflow_mul-whole
-overflow_mul-whole c =
-    let soon : let a = c.args.self in a.time + (a.given * a.row.period + a.row.period - (a.time - a.row.phase) * a.row.cost) / a.row.cost ≤ time_limit + 65_536 = let period : c.args.self.row.period < 65_536 = search rules in omega (arith, few_slots _ _ _ c.requires.0 refl, period, c.requires.0.time) in
-    omega (arith, soon)
-
-pub overflow_add-whole-then-rest-eq0 : goal.overflow_add-whole-then-rest-eq0
-overflow_add-whole-then-rest-eq0 c =
-    let soon : let a = c.args.self in a.time + (a.given * a.row.period + a.row.period - (a.time - a.row.phase) * a.row.cost) / a.row.cost ≤ time_limit + 65_536 = let period : c.args.self.row.period < 65_536 = search rules in omega (arith, few_slots _ _ _ c.requires.0 refl, period, c.requires.0.time) in
-    omega (arith, soon)
 
 pub packed-requires : goal.packed-requires
 packed-requires c =
@@ -53,16 +22,6 @@ pub returns-then-rest-eq0 : goal.returns-then-rest-eq0
 returns-then-rest-eq0 c =
     let cost : c.args.self.row.cost < 65_536 = search rules in
     key_of_whole _ _ _ c.requires.0 refl cost c.args.end refl c.if-rest-eq0.true c.packed.ensures
-
-pub overflow_mul-whole-2 : goal.overflow_mul-whole-2
-overflow_mul-whole-2 c =
-    let soon : let a = c.args.self in a.time + (a.given * a.row.period + a.row.period - (a.time - a.row.phase) * a.row.cost) / a.row.cost ≤ time_limit + 65_536 = let period : c.args.self.row.period < 65_536 = search rules in omega (arith, few_slots _ _ _ c.requires.0 refl, period, c.requires.0.time) in
-    omega (arith, soon)
-
-pub overflow_add-whole-2 : goal.overflow_add-whole-2
-overflow_add-whole-2 c =
-    let soon : let a = c.args.self in a.time + (a.given * a.row.period + a.row.period - (a.time - a.row.phase) * a.row.cost) / a.row.cost ≤ time_limit + 65_536 = let period : c.args.self.row.period < 65_536 = search rules in omega (arith, few_slots _ _ _ c.requires.0 refl, period, c.requires.0.time) in
-    omega (arith, soon)
 
 pub far-requires : goal.far-requires
 far-requires c =
