@@ -178,6 +178,7 @@ impl State {
     }
 
     // How many rows are ready in a slot that is not refused, for a buffer of so many bytes; their keys come to the front of the lent array.
+    // The buffer comes as its length and a place, which the promise of `slot` speaks of.
     fn cause(
         &self,
         free: [bool; 32],

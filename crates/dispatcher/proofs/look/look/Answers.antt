@@ -1,4 +1,4 @@
-use mathlib.Core.Path.{◌≡◌, sym, ◌∙◌}
+use mathlib.Core.Path.{◌≡◌, sym, subst, ◌∙◌}
 use mathlib.Core.List.{List}
 use mathlib.Core.Bool.{true≢false}
 use Prim.Native.Nat.{ℕ, ◌<◌}
@@ -10,6 +10,8 @@ use Rattle.counts.specs.Numbers.{numbers_of}
 use Rattle.counts.proofs.Numbers.{number_at}
 use Rattle.table.specs.declared.Row.{Row}
 use Rattle.dispatcher.specs.State.{rows_in, quanta_in}
+use Rattle.choice.specs.Choice.{favours_marked}
+use Rattle.dispatcher.specs.Looking.{EndsAre}
 use Rattle.dispatcher.specs.Usable.{Testable}
 use Rattle.dispatcher.proofs.Found.{Found, told, said_outside, said_waits, said_ready, finding_begins, finds_fewer, waits_on, one_more_found, all_found, key_told, looks_at_quanta}
 use Rattle.dispatcher.proofs.look.look.Goals as goal
@@ -69,4 +71,4 @@ pub returns : goal.returns
 returns c =
     let all : c.loop-i.i ≡ length (take c.args.state.now.table.n c.args.state.now.table.rows) = omega (arith, c.loop-i-test.false, c.loop-i.invariant.0.within) in
     rw c.if-state.false
-    (none_at_all _ _ c.loop-i.invariant.0 (omega (arith, all)), λ runs. all_found _ _ _ _ (rw c.favoured-favoured.ensures at c.ends-ends.ensures) (omega (arith, c.requires.0.place.few, c.requires.0.place.all)) c.loop-i.invariant.1 all)
+    (none_at_all _ _ c.loop-i.invariant.0 (omega (arith, all)), λ runs. all_found _ _ _ _ (subst (λ marks. EndsAre (favours_marked marks) c.ends-ends.result) c.favoured-favoured.ensures c.ends-ends.ensures) (omega (arith, c.requires.0.place.few, c.requires.0.place.all)) c.loop-i.invariant.1 all)
