@@ -38,8 +38,9 @@ pub fn zb_judge(table: &[u8], trace: &[u8], place: &mut [u8]) -> u8
     ensures place_after { place.new ≡ place_of (check_of table.now trace.now) place.old }
 {
     let answer = checker::check(table, trace);
-    let (row, time) = naming::named(answer);
+    let (row, slot) = naming::named(answer);
+    let time = slot.time();
     fields::put(place, 0, 1, row as u64);
-    fields::put(place, 1, 8, time.time());
+    fields::put(place, 1, 8, time);
     checker::number(answer)
 }

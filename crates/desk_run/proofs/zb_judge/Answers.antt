@@ -7,5 +7,5 @@ pub returns-clause-place_after : goal.returns-clause-place_after
 returns-clause-place_after c =
     let says = c.check-answer.ensures in
     let names = c.named-row.ensures in
-    let time = c.time.ensures ∙ names.1 ∙ ap (λ said. said.time) says in
+    let time = c.time-time.ensures ∙ names.1 ∙ ap (λ said. said.time) says in
     place_is_there (check_of c.args.table.now c.args.trace.now) c.args.place.now (names.0 ∙ ap (λ said. said.row) says) time c.put.ensures.s_after c.put-2.ensures.s_after
