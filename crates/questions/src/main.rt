@@ -63,6 +63,7 @@ fn main(rt: HostRuntime) -> io::Result<()> {
 fn answer_all(rt: &impl Print, requests: &mut [u8]) -> io::Result<usize>
     ensures { IfOk result (λ n. n ≤ length requests.old) }
 {
+    // No range to go over: each step is as long as its request.
     let mut at = 0;
     while at < requests.len() {
         let Some(length) = answer(rt, &mut requests[at..])? else {
