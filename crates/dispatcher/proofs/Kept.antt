@@ -30,9 +30,9 @@ use Rattle.pd2.proofs.Share.{row_can_be, nothing_is_within, upper_kept_when_idle
 use Rattle.pd2.proofs.Picks.{picked_is_ready}
 use Rattle.pd2.proofs.Choice.{given_at}
 use Rattle.trace.specs.Record.{with_record}
-use Rattle.trace.specs.Records.{rows_at, past_record, names}
+use Rattle.trace.specs.Records.{rows_at, names}
 use Rattle.trace.proofs.Names.{listed_are_named}
-use Rattle.trace.proofs.Agree.{still_as_long, count_written, rows_written}
+use Rattle.trace.proofs.Agree.{rows_written}
 use Rattle.trace.specs.Said.{Said, bare}
 use Rattle.cores.specs.Sets.{size, names_past}
 use Rattle.cores.specs.Fault.{misremembers}
@@ -125,13 +125,7 @@ module _ (s : State) (free : List Bool) (buffer : List ℕ) (place : ℕ) where
   pub goes_back : Goes → refusal s free buffer place ≡ 0
   goes_back g = by_room s free buffer place g.whole g.runs g.time g.there {lacks = false} (has_room_for buffer place (length (picks_in s (size free))) (omega (arith, g.room)))
 
-  -- Its record ends inside the buffer,
-  pub record_inside : Goes → {bytes : List ℕ} → bytes ≡ with_record buffer place (record_in s (size free)) → past_record bytes place ≤ length bytes
-  record_inside g e =
-      let rows = picks_in s (size free) in
-      rw e (omega (arith, g.room, count_written buffer place (size free) rows g.room, still_as_long buffer place (size free) rows g.room))
-
-  -- and names the rows that are picked.
+  -- Its record names the rows that are picked.
   pub record_names_picks : Goes → {bytes : List ℕ} → bytes ≡ with_record buffer place (record_in s (size free)) → rows_at bytes place ≡ picks_in s (size free)
   record_names_picks g e = ap (λ b. rows_at b place) e ∙ rows_written buffer place (size free) (picks_in s (size free)) g.room
 
