@@ -1,15 +1,16 @@
 -- What is known of an input. Assumes nothing.
-use Prim.Native.Nat.{ℕ, ◌+◌, ◌≤◌, ◌<◌}
-use mathlib.Core.Path.{◌≡◌}
+use Prim.Native.Nat.{ℕ, zero, suc, ◌+◌, ◌-◌, ◌≤◌, ◌<◌}
+use mathlib.Core.Path.{◌≡◌, refl}
 use mathlib.Core.List.{List}
 use mathlib.Core.Bool.{false, ◌||◌}
-use borrow.Author.Tests.{lt-ltb, le-ltb, eq-eqb, ltb-false, eqb-true, not-false}
+use native.Mathlib.Omega.{arith}
+use borrow.Author.Tests.{lt-ltb, le-ltb, eq-eqb, ne_eqb, ltb-false, eqb-true, not-false}
 use lib.Dec.{ltb}
 use lib.ListN.{length}
 use Rattle.facts.proofs.Tests.{neither_holds}
 use Rattle.fields.specs.Fields.{byte}
 use Rattle.printer.specs.Limits.{input_limit, run_limit}
-use Rattle.printer.specs.Input.{slots_asked, list_length, list_place, listed_or, wrong_length, beyond_limit, above_limit, unfit}
+use Rattle.printer.specs.Input.{slots_asked, list_length, list_place, listed_or, held_back, wrong_length, beyond_limit, above_limit, unfit}
 
 -- An input that is taken.
 pub record Fit (s : List ℕ) : Type 0 where
@@ -43,3 +44,14 @@ module _ (s : List ℕ) where
   pub free_past : (past : ℕ) {slot : ℕ} → list_length s ≤ slot → past ≡ listed_or s past slot
   unfolding listed_or
   free_past past {slot} h = rw (le-ltb slot (list_length s) h)
+
+-- for callers
+
+-- One core is held back, but not the only one.
+pub held_back_of_few : (cores : ℕ) → cores < 2 → cores ≡ held_back cores
+held_back_of_few zero h = refl
+held_back_of_few (suc zero) h = refl
+held_back_of_few (suc (suc cores)) h = absurd (omega arith)
+
+pub held_back_of_more : (cores : ℕ) → 2 ≤ cores → cores - 1 ≡ held_back cores
+held_back_of_more cores h = rw (ne_eqb cores 1 (λ e. omega (arith, h, e)))
