@@ -1,6 +1,6 @@
 -- Building the summary of a trace in a lent buffer (02, Ten). 02 asks for no numbers here: 0 is built, 1 is a trace that is not well formed for a table that is taken,
 -- 2 a buffer that is too short (docs/DECISIONS.md, 141).
-use Rattle.std.specs.Prelude.{ℕ, ◌*◌, ◌≡◌, List, [], ◌∷◌, Bool, false, cond, not, ◌||◌, ◌↔◌, eqb, length}
+use Rattle.std.specs.Prelude.{ℕ, ◌*◌, ◌≡◌, List, [], ◌∷◌, Bool, false, cond, not, ◌||◌, ◌↔◌, eqb, length, Result, Ok, Err}
 use Rattle.facts.specs.Counting.{some}
 use Rattle.facts.specs.Findings.{Test, ◌says◌, first_found}
 use Rattle.facts.specs.Zero.{if0}
@@ -10,6 +10,8 @@ use Rattle.table.specs.Value.{fault_of, rows_of}
 use Rattle.trace.specs.Record.{with_front, with_record}
 use Rattle.trace.specs.Records.{slots_in, place_in}
 use Rattle.trace.specs.Shape.{slot_count_cut, too_long, head_cut, too_many_cores, too_many_rows, rows_cut, bad_row, extra}
+use Rattle.summary.specs.declared.Unbuilt.{Unbuilt}
+use Rattle.summary.specs.declared.Unbuilt.TheVariants.{NotWellFormed, NoRoom}
 use Rattle.summary.specs.Summary.{entry_size, entry_bytes, entries_in, summary_of}
 use Rattle.summary.specs.Question.{entry_missing}
 use Rattle.summary.specs.Right.{WellFormedOver}
@@ -40,6 +42,11 @@ build_tests table trace buffer =
 pub record BuildReply : Type 0 where
   pub number : ℕ
   pub entries : ℕ
+
+abbrev pub built_of : Result ℕ Unbuilt → BuildReply
+built_of (Ok entries) = record { number = 0; entries = entries }
+built_of (Err NotWellFormed) = record { number = 1; entries = 0 }
+built_of (Err NoRoom) = record { number = 2; entries = 0 }
 
 abbrev pub build_number : Table → List ℕ → List ℕ → ℕ
 build_number table trace buffer = first_found 0 (build_tests table trace buffer)

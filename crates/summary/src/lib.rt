@@ -18,6 +18,13 @@ pub enum Unanswered {
     NoEntry,
 }
 
+// Why no summary is built, of those who build one.
+#[derive(Clone, Copy, PartialEq, Eq)]
+pub enum Unbuilt {
+    NotWellFormed,
+    NoRoom,
+}
+
 // An entry stands for each multiple of so many slots.
 const SPACING: u64 = 1_024;
 
