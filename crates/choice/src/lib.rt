@@ -44,11 +44,7 @@ pub fn first_left(keys: &[u64; 32], n: usize, k: u8) -> u64
     ensures { FirstLeft (key_in keys.now) (min n 32) (min k 8) result }
 {
     let keys = &keys[..n.min(32)];
-    // Two calls and not one with the lesser number: with a bound in sight the compiler unrolls the search, and a slot takes 150 instructions more.
-    if 8 < k {
-        return left_out(keys, 8);
-    }
-    left_out(keys, usize::from(k))
+    left_out(keys, usize::from(k.min(8)))
 }
 
 #[tactic(auto, using(crate::proofs::Left::none_left))]

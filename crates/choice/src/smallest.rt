@@ -5,7 +5,8 @@ ghost use Rattle.choice.specs.Keys.{key_in, Smallest, OneKeyMore};
 use crate::NOT_READY;
 
 // The k smallest of some keys and one more, in order: the largest number where there are fewer. While there are fewer keys than places, the last place that
-// counts is the first that none has taken.
+// counts is the first that none has taken. It is not inlined: with the bound of k in sight the compiler unrolls the search, and the worst slot takes 680 instructions more.
+#[inline(never)]
 pub(crate) fn smallest(keys: &[u64], k: usize) -> [u64; 9]
     requires { k ≤ 8 }
     ensures { Smallest (key_in keys.now) (length keys.now) (k + 1) result }

@@ -5,12 +5,7 @@ use borrow.Author.Rules.{rules}
 use Rattle.choice.proofs.Left.{left_in_front}
 use Rattle.choice.proofs.first_left.Goals as goal
 
-pub returns-then-k-gt8 : goal.returns-then-k-gt8
-returns-then-k-gt8 c =
-    let long : length c.args.keys.now ≡ 32 = search rules in
-    left_in_front _ _ _ c.left_out.ensures c.min.ensures (omega arith) long
-
 pub returns : goal.returns
 returns c =
     let long : length c.args.keys.now ≡ 32 = search rules in
-    left_in_front _ _ _ c.left_out-2.ensures c.min.ensures (omega arith) long
+    left_in_front _ _ _ c.left_out.ensures c.min.ensures (omega arith) long
