@@ -2,11 +2,11 @@
 use Prim.Native.Nat.{min}
 use lib.ListN.{take}
 use mathlib.Core.Path.{sym, ◌∙◌}
-use Rattle.facts.proofs.Determined.{by_meaning, by_value, both_by_value}
+use Rattle.facts.proofs.Determined.{by_value, both_by_value}
 use Rattle.counts.proofs.Determined.{slot_is_determined, quanta_is_determined, subtask_is_determined}
 use Rattle.windows.proofs.Question.{window_is_determined}
 use Rattle.windows.proofs.Next.{next_due_is_determined}
-use Rattle.table.proofs.Determined as table
+use Rattle.table.proofs.Determined as tables
 use Rattle.pd2.specs.Ready.{origin_of}
 use Rattle.pd2.proofs.Rows.{give_is_determined, lowest_late_is_determined}
 use Rattle.trace.proofs.Determined.{write_is_determined, reference_is_determined, shape_is_determined}
@@ -49,9 +49,9 @@ every_promise_determines =
       windows_next_job_start = λ e p origin given. by_value;
       windows_next_group_deadline = λ e p origin given. by_value;
       table_fault_number = λ self. by_value;
-      table_read = λ bytes. table.read_is_determined bytes;
-      table_fault = λ table. table.fault_is_determined table;
-      table_write = λ table buffer. table.write_is_determined table buffer;
+      table_read = λ bytes. tables.read_is_determined bytes;
+      table_fault = λ table. tables.fault_is_determined table;
+      table_write = λ table buffer. tables.write_is_determined table buffer;
       pd2_is_yes = λ verdict. by_value;
       pd2_origin = λ row. slot_is_determined (origin_of row);
       pd2_ready = λ row given slot. by_value;

@@ -46,7 +46,7 @@ use Rattle.dispatcher.specs.Broken.{broken}
 use Rattle.dispatcher.specs.Run.{Step, run}
 use Rattle.dispatcher.specs.Slot.{favoured_in, picks_in, placed_in, refusal, slot_of}
 use Rattle.dispatcher.proofs.Whole.{is_whole}
-use Rattle.dispatcher.proofs.Ran.{places_stay}
+use Rattle.dispatcher.proofs.Stepping.{places_stay}
 use Rattle.dispatcher.proofs.Kept.{refusal_changes_nothing, done_makes_the_step, quanta_after, done_keeps_whole}
 use Rattle.dispatcher.proofs.Places.{bare_unless_late}
 use Rattle.demands.proofs.Three.{done_with_0, Running, fresh_runs, still_runs, done_with_room}

@@ -114,7 +114,7 @@ record Computed : Type 0 where
   time_past_32_bits : time_of (slot_of (idle 4_294_967_295) one_core blank 0).state ≡ 4_294_967_296
   can_ask_why : CanAsk due_at_limit 1 0
   row_is_picked : why_of due_at_limit 1 0 ≡ Ok Picked
-  asked_at_limit : why_of (idle 1_000_000_000_000) 1 0 ≡ AtLimit
+  asked_at_limit : why_of (idle 1_000_000_000_000) 1 0 ≡ Err AtLimit
   can_ask_last : CanAskWindow 1 2 0 (nth 1_000_000_000_001)
   can_ask_next : CanAskWindow 1 2 0 (nth 1_000_000_000_002)
   bytes : Bytes example

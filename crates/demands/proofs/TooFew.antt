@@ -31,7 +31,7 @@ use Rattle.dispatcher.specs.State.{rows_in, quanta_in, time_of, fresh_of}
 use Rattle.dispatcher.specs.Slot.{favoured_in, picks_in, placed_in, after_slot, slot_of}
 use Rattle.dispatcher.specs.Run.{Step}
 use Rattle.dispatcher.proofs.Whole.{is_whole, nothing_given}
-use Rattle.dispatcher.proofs.Ran.{places_stay}
+use Rattle.dispatcher.proofs.Stepping.{places_stay}
 use Rattle.dispatcher.proofs.Placing.{picks_are_few}
 use Rattle.dispatcher.proofs.Kept.{refusal_changes_nothing, done_makes_the_step, quanta_after}
 use Rattle.demands.specs.Three.{FromFresh}

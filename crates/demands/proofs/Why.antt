@@ -21,7 +21,7 @@ use Rattle.why.specs.Answer.{Answer}
 use Rattle.why.specs.declared.Reason.TheVariants.{Picked}
 use Rattle.why.specs.Reasons.{Holds}
 use Rattle.why.specs.Answer.{number_of}
-use Rattle.why.specs.Why.{why_tests, why_of, TrueAndOnly}
+use Rattle.why.specs.Why.{reason_of, why_tests, why_of, TrueAndOnly}
 use Rattle.why.proofs.Rules.{one_rule}
 use Rattle.why.proofs.Lowest.{one_lowest}
 use Rattle.why.proofs.Refused.{reason_is_0, why_numbers, refuses, gives_reason}
@@ -53,7 +53,7 @@ module _ (s : State) (k row : ℕ) where
           (NoneFound.later runs
           (NoneFound.later (ne_eqb (time_of s) time_limit (λ e. omega (arith, e, slot_left)))
           (NoneFound.later (le-ltb s.table.cores k there) (NoneFound.later (ap not (lt-ltb row (length (rows_in s)) is_row)) NoneFound.end)))) in
-          let said : number ≡ 0 = sym (ap number_of (gives_reason s k row none)) ∙ reason_is_0 s k row in
+          let said : number ≡ 0 = sym (ap number_of (gives_reason s k row none)) ∙ reason_is_0 (reason_of s k row) in
           record {
             is_30 = neither_is (λ e. omega (arith, said, e)) (λ n. n fits);
             is_31 = neither_is (λ e. omega (arith, said, e)) (λ h. true≢false (sym h.1 ∙ runs));
@@ -154,7 +154,7 @@ as_the_slot s free buffer place row done is_row = (
         (NoneFound.later (le-ltb s.table.cores (size free) (size_within s.table.cores free can.there)) (NoneFound.later (ap not (lt-ltb row (length (rows_in s)) is_row)) NoneFound.end))))
 
     so : TrueAndOnly s (size free) row (why_of s (size free) row)
-    so = reason_is_true_and_only s (size free) row (sym (ap number_of (gives_reason s (size free) row none)) ∙ reason_is_0 s (size free) row)
+    so = reason_is_true_and_only s (size free) row (sym (ap number_of (gives_reason s (size free) row none)) ∙ reason_is_0 (reason_of s (size free) row))
 
 pub why : Why
 why =

@@ -1,6 +1,6 @@
 -- "For every answer that is an enum, a definition states this paper's number and values for each of the enum's cases" (01, "Our forms for each place"):
 -- what each case says, written out. (The row that is read is a result inside `table`: table/specs/RowRead.antt.)
-use Rattle.std.specs.Prelude.{ℕ, ◌≡◌, Bool, true, false, Option, Some, None, Result, Ok, Err}
+use Rattle.std.specs.Prelude.{ℕ, ◌≡◌, Bool, true, false, Some, None, Ok, Err}
 use Rattle.counts.specs.declared.Slot.{Slot}
 use Rattle.windows.specs.Question.{reply_of}
 use Rattle.pd2.specs.Verdict.{is_yes, verdict}

@@ -1,5 +1,5 @@
 -- Any two results that a promise allows are equal (01, "What the statements must say"): state, buffer and refused answers included.
-use Rattle.std.specs.Prelude.{ℕ, Unit, List, Bool, Option, Result}
+use Rattle.std.specs.Prelude.{ℕ, List, Bool, Option, Result}
 use Rattle.facts.specs.Determined.{Determined}
 use Rattle.counts.specs.declared.Slot.{Slot}
 use Rattle.counts.specs.declared.Quanta.{Quanta}

@@ -26,7 +26,7 @@ use Rattle.why.specs.Reasons.{is_ready, rank_in, goes_before}
 use Rattle.demands.specs.LawInputs.{remembering}
 use Rattle.demands.specs.KindLaws.{four_halves}
 use Rattle.demands.specs.Inputs.{Bytes, Possible, CanAsk, CanWrite}
-use Rattle.demands.specs.ShutOut.{Dispatcher, IsDispatcher, number_of, rows_written, Explainer, IsExplainer, IsReader, number_read, IsTableCheck, Writer, IsWriter}
+use Rattle.demands.specs.ShutOut.{Dispatcher, IsDispatcher, number_of, rows_written, Explainer, IsExplainer, IsReader, number_read, IsTableCheck, Writer, IsWriter, said_written}
 
 -- In format 1 the order is 01's, to the letter, and nobody's having run has a part in the picks.
 pub record IsIn01 (s : State) : Type 0 where
@@ -90,10 +90,10 @@ TakesAnyFormat number = (bytes : List ℕ) → Bytes bytes → number bytes ≡ 
 
 -- a writer that writes every table as one of format 1, and one that never says 11;
 abbrev pub WritesFormat1 : Writer → Type 0
-WritesFormat1 write = (t : Table) (buffer : List ℕ) → CanWrite t buffer → (write t buffer).0.number ≡ 0 → get_or (write t buffer).1 0 0 ≡ 1
+WritesFormat1 write = (t : Table) (buffer : List ℕ) → CanWrite t buffer → (said_written write t buffer).number ≡ 0 → get_or (write t buffer).1 0 0 ≡ 1
 
 abbrev pub WritesAnyFormat : Writer → Type 0
-WritesAnyFormat write = (t : Table) (buffer : List ℕ) → CanWrite t buffer → (write t buffer).0.number ≡ 11 → ⊥
+WritesAnyFormat write = (t : Table) (buffer : List ℕ) → CanWrite t buffer → (said_written write t buffer).number ≡ 11 → ⊥
 
 -- a dispatcher that favours nobody, one that favours whoever ran in format 1 too, one that does not look whether the format is 1 or 2, and one that does not look whether the
 -- rows remembered rise: neither refuses a state in which nothing else is wrong;

@@ -1,6 +1,6 @@
 -- The promise of every public function, crate by crate, as its contract says it: which results it allows. A slice that is lent stands for the bytes
 -- it holds at the call; where a function writes, `_new` has those it holds afterwards. The gate compares each with the contract in the source.
-use Rattle.std.specs.Prelude.{ℕ, ◌+◌, ◌-◌, ◌≤◌, min, ◌≡◌, Unit, List, Bool, Option, Result, length, take}
+use Rattle.std.specs.Prelude.{ℕ, ◌+◌, ◌-◌, ◌≤◌, min, ◌≡◌, List, Bool, Option, Result, length, take}
 use Rattle.std.proofs.lemmas.List.Edits.{sets}
 use Rattle.std.specs.Borrow.{Bor}
 use Rattle.facts.specs.First.{Lowest}

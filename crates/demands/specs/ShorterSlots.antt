@@ -1,7 +1,7 @@
 -- "Shorter slots" (02, Seven): "The quantum drops to a tenth of a millisecond, and 1,000,000,000 slots is then under 28 hours. The time limit rises to 1,000,000,000,000, and the window
 -- question takes subtasks up to one past that. Each trace still covers at most 1,000,000,000 slots from slot 0. Refusals: 30, 32 and 50 use the new limit." (Exactly when 30 and 32 are
 -- said stands in specs/One.antt and specs/Why.antt; what is said of a run that is longer than a trace in specs/LongerRuns.antt.)
-use Rattle.std.specs.Prelude.{ℕ, ◌*◌, ◌^◌, ◌≤◌, ◌<◌, ◌≡◌, List, Bool, ◌↔◌}
+use Rattle.std.specs.Prelude.{ℕ, ◌*◌, ◌^◌, ◌≤◌, ◌<◌, ◌≡◌, List, Bool, ◌↔◌, Result}
 use Rattle.counts.specs.declared.Subtask.{Subtask}
 use Rattle.counts.specs.Limits.{time_limit}
 use Rattle.windows.specs.Question.{last_subtask, window_reply, reply_of}
