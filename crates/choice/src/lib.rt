@@ -39,7 +39,7 @@ pub fn picks(
     rows_before(&keys[..rows.len()], first)
 }
 
-// The first key that is left out when the k smallest of the first n are taken, at most 8: NOT_READY where none is.
+// The first key that is left out when the k smallest of the first n are taken, at most 8: NOT_READY where none is. (n and k may be wild: the promise says what is answered then.)
 pub fn first_left(keys: &[u64; 32], n: usize, k: u8) -> u64
     ensures { FirstLeft (key_in keys.now) (min n 32) (min k 8) result }
 {

@@ -48,7 +48,7 @@ pub enum Ran {
 // What a slot answers.
 pub type Answer = Result<Ran, Refusal>;
 
-// What an answer says: the paper's number, and the row and the time that it names.
+// What an answer says, for programs, which write numbers: the paper's number, and the row and the time that it names.
 #[derive(Clone, Copy)]
 pub struct Told {
     pub number: u8,

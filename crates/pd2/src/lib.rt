@@ -150,7 +150,7 @@ impl Asked {
     }
 }
 
-// A number of slots, quanta or jobs times a number of the table.
+// A number of slots, quanta or jobs times a number of the table. (`windows` has its own, by other bounds: for one of both they would have to be a public promise.)
 fn product(number: u64, factor: u16) -> u64
     requires { number ≤ furthest }
     ensures { (result ≡ number * factor) × (result < products) }
@@ -171,7 +171,8 @@ pub fn give(mut quanta: [Quanta; 32], marks: [bool; 32]) -> [Quanta; 32]
     quanta
 }
 
-// The lowest row below n that is late, or n where none is; no more than 32 rows are looked at.
+// The lowest row below n that is late, or n where none is; no more than 32 rows are looked at. (n stands beside the rows and is the answer too: it may be wild, and
+// `Lowest`, the promise, is of numbers.)
 #[tactic(auto, using(crate::proofs::Rows::looking))]
 pub fn lowest_late(rows: [Row; 32], quanta: [Quanta; 32], n: usize, time: Slot) -> usize
     ensures { Lowest (says_late_in rows (numbers_of quanta) time.0) (min n 32) result }

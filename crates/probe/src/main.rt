@@ -14,6 +14,7 @@ use std::io::Read;
 
 const INPUT_LIMIT: usize = 1_048_576;
 
+// (`questions` reads and answers in the same way: what both use would be public, and a promise of what is read and written leaves more than one result.)
 fn main(rt: HostRuntime) -> io::Result<()> {
     // One byte more than an input may have, so that a longer one is noticed: its requests are answered as far as they lie within the limit, and
     // the one that reaches past it is cut.

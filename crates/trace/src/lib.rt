@@ -113,7 +113,7 @@ fn walk(trace: &[u8], slot: u64) -> Option<(usize, usize)>
     Some((start, start + length))
 }
 
-// How many bytes the record that begins at `start` has, if it lies wholly inside the trace.
+// How many bytes the record that begins at `start` has, if it lies wholly inside the trace. Here and below a place may be wild: so it stands beside the trace, and no part of it does.
 #[tactic(auto, using(crate::proofs::Search::is_cut, crate::proofs::Search::is_whole))]
 pub fn length_inside(trace: &[u8], start: usize) -> Option<usize>
     ensures { result ≡ some_length (length_inside trace.now start) }

@@ -1,4 +1,4 @@
-// Values read from bytes. Places are bounded only so that no sum of them wraps.
+// Values read from bytes. Places are bounded only so that no sum of them wraps; they stand beside the bytes, since past the end there is no part of them.
 ghost use Rattle.std.specs.Prelude.{◌≡◌, ◌<◌};
 ghost use Rattle.table.specs.Bytes.{row_in_bytes};
 ghost use Rattle.values.specs.Values.{eight_in_bytes, rows_in_bytes, quanta_in_bytes, value_in_bytes, placement_in_bytes, state_in_bytes};
@@ -8,6 +8,7 @@ use counts::{Quanta, Slot};
 use dispatcher::State;
 use table::{Row, Table};
 
+// The reader of tables has its own, of nine bytes that are there.
 pub(crate) fn row(bytes: &[u8], at: usize) -> Row
     requires { at < 600 }
     ensures { result ≡ row_in_bytes bytes.now at }

@@ -1,4 +1,4 @@
-// Values written into bytes, one part behind the other. Places are bounded only so that no sum of them wraps.
+// Values written into bytes, one part behind the other. Places are bounded only so that no sum of them wraps; they stand beside the bytes, since past the end nothing is written.
 ghost use Rattle.std.specs.Prelude.{◌≡◌, ◌<◌, length};
 ghost use mathlib.Core.List.{flat_map};
 ghost use Rattle.std.proofs.lemmas.List.Edits.{sets};
@@ -59,6 +59,7 @@ fn rows(bytes: &mut [u8], at: usize, rows: &[Row; 32])
     }
 }
 
+// The writer of tables has its own, which is private there.
 fn row(bytes: &mut [u8], at: usize, row: &Row)
     requires { at < 1000 }
     ensures { bytes.new ≡ sets bytes.old at (bytes_of_row row.now) }

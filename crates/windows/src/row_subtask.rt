@@ -142,7 +142,7 @@ fn portion(number: u64, factor: u64, divisor: u64) -> u64
     (number * factor + (divisor - 1)) / divisor
 }
 
-// A number of subtasks or jobs times the period.
+// A number of subtasks or jobs times the period. (`pd2` has its own, by other bounds.)
 fn product(number: u64, period: u64) -> u64
     requires near { number ≤ furthest }
     requires small { period < 65_536 }

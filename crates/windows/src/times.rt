@@ -2,7 +2,7 @@
 
 use counts::Slot;
 
-// A window, with its group deadline.
+// A window, with its group deadline. The bit is a number: the next start is d - b.
 #[derive(Clone, Copy, PartialEq, Eq)]
 pub struct Window {
     pub start: Slot,
