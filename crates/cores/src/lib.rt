@@ -84,7 +84,7 @@ pub fn names_past(free: [bool; 32], cores: u8) -> bool
     0 < how_many_in(&free[least..])
 }
 
-// How many marks are set.
+// How many marks are set. (One line, as in `trace`.)
 fn how_many_in(marks: &[bool]) -> u8
     requires { length marks.now ≤ 32 }
     ensures { result ≡ count_by (λ mark. mark) marks.now }

@@ -31,7 +31,7 @@ fn put_reply(entries: &mut [u8], at: usize, cores: &[u8; 8], told: Told)
     fields::put(entries, at + 9, 1, told.row as u64);
 }
 
-// Writes the eight cores.
+// Writes the eight cores. (`table` and `values` have as few lines of their own: for one of all it would be a public promise.)
 fn put_cores(entries: &mut [u8], at: usize, cores: &[u8; 8])
     requires { at + 8 ≤ length entries.old }
     ensures { entries.new ≡ sets entries.old at (flat_map (bytes_of 1) cores.now) }

@@ -199,7 +199,7 @@ fn tell(rt: &impl Print, outcome: Outcome) -> io::Result<()> {
     rt.write_all(&out)
 }
 
-// The same with the cores of the picked rows (17), before the state.
+// The same with the cores of the picked rows (17), before the state. (Each has an array of its own length: one function for both would be longer.)
 fn tell_with_cores(rt: &impl Print, outcome: Outcome) -> io::Result<()> {
     let mut out = [0; 612];
     put_told(&mut out, Told::of(outcome.answer));

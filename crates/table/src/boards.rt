@@ -32,7 +32,7 @@ pub(crate) fn read(bytes: &[u8], m: usize) -> Result<[u8; 8], Fault>
     Ok(boards)
 }
 
-// Whether board numbers rise strictly, or the fault.
+// Whether board numbers rise strictly, or the fault. (No one function with `read`, which goes over bytes that may be cut and fills an array.)
 pub(crate) fn judge(boards: &[u8]) -> Result<(), Fault>
     ensures { number_of result ≡ first_found 0 (rising board_tests board_above 0 boards.now) }
 {

@@ -41,7 +41,7 @@ fn record_length(picked: u8) -> usize
     2 + picked as usize
 }
 
-// How many marks are set.
+// How many marks are set. (One line, as in `cores`.)
 #[tactic(auto, using(crate::proofs::Writing::all_counted))]
 fn how_many(marks: &[bool]) -> u8
     requires { length marks.now ≤ 32 }
