@@ -73,7 +73,7 @@ class Page(unittest.TestCase):
         # the numbers of summary and keeper are of a later request: no command answers them yet
         others = {"demands", "summary", "keeper"}
         specs = "\n".join(path.read_text(encoding="utf-8") for path in sorted((ROOT / "crates").glob("*/specs/*.antt")) if not others & {*path.parts})
-        forms = [r"\bsays ([0-9]+)", r"\b(?:bare|named) ([0-9]+)", r"\bfault_number [A-Za-z]+ = ([0-9]+)", r"\bnumber = ([0-9]+)", r"= told ([0-9]+)"]
+        forms = [r"\bsays ([0-9]+)", r"\b(?:bare|named) ([0-9]+)", r"\b(?:fault|refusal)_number [A-Za-z]+ = ([0-9]+)", r"\bnumber = ([0-9]+)", r"= told ([0-9]+)"]
         defined = {int(number) for form in forms for number in re.findall(form, specs)}
         self.assertEqual(page_numbers(self.here), defined)
 
