@@ -2,7 +2,7 @@
 use Prim.Native.Nat.{min}
 use lib.ListN.{take}
 use mathlib.Core.Path.{sym, ◌∙◌}
-use Rattle.facts.proofs.Determined.{by_value, both_by_value}
+use Rattle.facts.proofs.Determined.{by_meaning, by_value, both_by_value}
 use Rattle.counts.proofs.Determined.{slot_is_determined, quanta_is_determined, subtask_is_determined}
 use Rattle.windows.proofs.Question.{window_is_determined}
 use Rattle.windows.proofs.Next.{next_due_is_determined}
@@ -17,7 +17,7 @@ use Rattle.choice.specs.Keys.{key_in}
 use Rattle.choice.proofs.Chosen.{picks_are_determined}
 use Rattle.choice.proofs.Left.{first_left_is_determined}
 use Rattle.dispatcher.proofs.Determined as dispatcher
-use Rattle.checker.proofs.Determined.{check_is_determined}
+use Rattle.checker.proofs.Determined.{findings_tell_apart, check_is_determined}
 use Rattle.printer.proofs.Buffer.{print_is_determined}
 use Rattle.demands.specs.Determined.{EveryPromiseDetermines}
 
@@ -84,6 +84,8 @@ every_promise_determines =
       dispatcher_state_refusal = λ self free buffer place. dispatcher.refusal_is_determined;
       why_told_of = λ answer. by_value;
       why_of_row = λ state k row. by_value;
+      checker_finding_from_fault = λ fault. by_meaning findings_tell_apart;
+      checker_finding_from_misshape = λ misshape. by_meaning findings_tell_apart;
       checker_check = λ table trace. check_is_determined table trace;
       checker_number = λ answer. by_value;
       values_row = λ bytes. by_value;

@@ -9,6 +9,7 @@ use Rattle.table.specs.declared.Table.{Table}
 use Rattle.table.specs.declared.faults.Fault.{Fault}
 use Rattle.table.specs.declared.faults.Unwritten.{Unwritten}
 use Rattle.trace.specs.declared.NoRoom.{NoRoom}
+use Rattle.trace.specs.declared.Misshape.{Misshape}
 use Rattle.cores.specs.declared.Placement.{Placement}
 use Rattle.dispatcher.specs.declared.State.{State}
 use Rattle.dispatcher.specs.declared.Refusal.{Refusal}
@@ -18,7 +19,7 @@ use Rattle.why.specs.declared.Reason.{Reason}
 use Rattle.why.specs.declared.Refusal.{Refusal as WhyRefusal}
 use Rattle.checker.specs.declared.Finding.{Finding}
 use Rattle.printer.specs.declared.TooShort.{TooShort}
-use Rattle.demands.specs.Promises.{counts·Slot·at, counts·Slot·time, counts·Slot·later, counts·Slot·before, counts·Slot·since, counts·Quanta·of, counts·Quanta·count, counts·Quanta·one_more, counts·Quanta·next_subtask, counts·Subtask·numbered, counts·Subtask·number, counts·Subtask·next, counts·Subtask·quanta_before, fields·byte, fields·half, fields·word, fields·long, fields·put, windows·window, windows·window_by_walk, windows·next_due, windows·next_start, windows·next_job_start, windows·next_group_deadline, table·Fault·number, table·read, table·fault, table·write, pd2·is_yes, pd2·origin, pd2·ready, pd2·late, pd2·within, pd2·give, pd2·lowest_late, trace·write, trace·record, trace·begins, trace·length_inside, trace·shape, trace·raise, summary·quanta_before, choice·picks, choice·first_left, cores·Placement·nobody, cores·Placement·is_faulty, cores·Placement·ran, cores·how_many, cores·names_past, cores·first, cores·place, dispatcher·Told·of, dispatcher·State·fresh, dispatcher·State·is_broken, dispatcher·State·favoured, dispatcher·State·slot, dispatcher·State·refusal, why·Told·of, why·of_row, checker·check, checker·number, values·row, values·rows, values·quanta, values·table, values·state, values·put_quanta, values·put_table, values·put_placement, values·put_state, firmware·zb_table_check, firmware·zb_trace_check, printer·length, printer·print, slots_run·zb_slots, desk_run·zb_run, desk_run·zb_judge}
+use Rattle.demands.specs.Promises.{counts·Slot·at, counts·Slot·time, counts·Slot·later, counts·Slot·before, counts·Slot·since, counts·Quanta·of, counts·Quanta·count, counts·Quanta·one_more, counts·Quanta·next_subtask, counts·Subtask·numbered, counts·Subtask·number, counts·Subtask·next, counts·Subtask·quanta_before, fields·byte, fields·half, fields·word, fields·long, fields·put, windows·window, windows·window_by_walk, windows·next_due, windows·next_start, windows·next_job_start, windows·next_group_deadline, table·Fault·number, table·read, table·fault, table·write, pd2·is_yes, pd2·origin, pd2·ready, pd2·late, pd2·within, pd2·give, pd2·lowest_late, trace·write, trace·record, trace·begins, trace·length_inside, trace·shape, trace·raise, summary·quanta_before, choice·picks, choice·first_left, cores·Placement·nobody, cores·Placement·is_faulty, cores·Placement·ran, cores·how_many, cores·names_past, cores·first, cores·place, dispatcher·Told·of, dispatcher·State·fresh, dispatcher·State·is_broken, dispatcher·State·favoured, dispatcher·State·slot, dispatcher·State·refusal, why·Told·of, why·of_row, checker·Finding·from_fault, checker·Finding·from_misshape, checker·check, checker·number, values·row, values·rows, values·quanta, values·table, values·state, values·put_quanta, values·put_table, values·put_placement, values·put_state, firmware·zb_table_check, firmware·zb_trace_check, printer·length, printer·print, slots_run·zb_slots, desk_run·zb_run, desk_run·zb_judge}
 
 pub record EveryPromiseDetermines : Type 0 where
   pub counts_slot_at : (time : ℕ) → Determined (counts·Slot·at time)
@@ -80,6 +81,8 @@ pub record EveryPromiseDetermines : Type 0 where
   pub dispatcher_state_refusal : (self : State) (free : List Bool) (buffer : List ℕ) (place : ℕ) → Determined (dispatcher·State·refusal self free buffer place)
   pub why_told_of : (answer : Result Reason WhyRefusal) → Determined (why·Told·of answer)
   pub why_of_row : (state : State) (k row : ℕ) → Determined (why·of_row state k row)
+  pub checker_finding_from_fault : (fault : Fault) → Determined (checker·Finding·from_fault fault)
+  pub checker_finding_from_misshape : (misshape : Misshape) → Determined (checker·Finding·from_misshape misshape)
   pub checker_check : (table trace : List ℕ) → Determined (checker·check table trace)
   pub checker_number : (answer : Result (Unit {0}) Finding) → Determined (checker·number answer)
   pub values_row : (bytes : List ℕ) → Determined (values·row bytes)

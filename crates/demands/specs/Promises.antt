@@ -30,6 +30,7 @@ use Rattle.pd2.specs.Verdict.{is_yes, answered, verdict}
 use Rattle.pd2.specs.Rows.{GaveMarked, says_late_in}
 use Rattle.trace.specs.declared.NoRoom.{NoRoom}
 use Rattle.trace.specs.declared.Misshape.{Misshape}
+use Rattle.trace.specs.Said.{bare}
 use Rattle.trace.specs.Records.{rows_at}
 use Rattle.trace.specs.Search.{length_inside, some_length}
 use Rattle.trace.specs.Shaped.{shaped_of, shape_of}
@@ -313,6 +314,14 @@ why·Told·of answer r = r ≡ told_of answer
 -- why::of_row
 abbrev pub why·of_row : State → ℕ → ℕ → Result Reason WhyRefusal → Type 0
 why·of_row state k row r = r ≡ why_of state k row
+
+-- checker::Finding::from_fault
+abbrev pub checker·Finding·from_fault : Fault → Finding → Type 0
+checker·Finding·from_fault fault r = checked.said_by r ≡ bare (fault_number fault)
+
+-- checker::Finding::from_misshape
+abbrev pub checker·Finding·from_misshape : Misshape → Finding → Type 0
+checker·Finding·from_misshape misshape r = checked.said_by r ≡ bare (checked.shape_said misshape)
 
 -- checker::check
 abbrev pub checker·check : List ℕ → List ℕ → Result (Unit {0}) Finding → Type 0
