@@ -12,7 +12,7 @@ use Rattle.table.specs.declared.faults.Fault.TheVariants.{Ends, Format, Cycle, C
 use Rattle.trace.specs.Said.{Said}
 use Rattle.checker.specs.declared.Finding.{Finding}
 use Rattle.checker.specs.declared.Finding.TheVariants.{Table, Cut, TooManyCores, TooManyRows, BadRow, Early, Late, Extra, TooLong}
-use Rattle.checker.specs.Answer.{said_of}
+use Rattle.checker.specs.Answer.{said_by, said_of}
 use Rattle.checker.specs.Check.{check_of}
 
 -- the refusal of a table with a number
@@ -76,6 +76,11 @@ back (Err TooLong) = refl
 pub answers_tell_apart : TellsApart said_of
 answers_tell_apart = by_way_back answer_for back
 
--- so the promise of `check` determines its answer.
+-- so two findings that say the same are one,
+pub findings_tell_apart : TellsApart said_by
+findings_tell_apart a b e =
+    let same : ◌≡◌ {A = Result (Unit {0}) Finding} (Err a) (Err b) = answers_tell_apart (Err a) (Err b) e in cc
+
+-- and the promise of `check` determines its answer.
 pub check_is_determined : (bytes s : List ℕ) → Determined {R = Result (Unit {0}) Finding} (λ r. said_of r ≡ check_of bytes s)
 check_is_determined bytes s = by_meaning answers_tell_apart
