@@ -16,6 +16,7 @@ use counts::Slot;
 use table::{Row, Table};
 
 // When a place that holds no row is due: past the end of every trace, so that no such place is counted among the late ones.
+// (A number and no option, so that due times stay plain numbers that are compared at once.)
 const NEVER: u32 = 4_294_967_295;
 
 // What is kept of one row.

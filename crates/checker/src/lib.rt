@@ -66,6 +66,7 @@ pub fn check(table: &[u8], trace: &[u8]) -> Answer
 }
 
 // The number of an answer.
+// (A number, since programs and C answer 01's.)
 pub fn number(answer: Answer) -> u8
     ensures { result ≡ (said_of answer).number }
 {

@@ -103,6 +103,7 @@ fn how_far_behind(row: Row, given: Quanta, due: Due) -> u64
 }
 
 // How the key of a row ends: a favoured row goes first, then the lower row.
+// (Two lines, here and in the other crate: one function for both would be a public promise.)
 fn end(favoured: bool, row: usize) -> usize
     requires { row < 32 }
     ensures { (result ≡ end_of favoured row) × (result < 64) }

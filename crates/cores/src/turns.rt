@@ -103,5 +103,6 @@ fn take_turn(own: u8, left: &[bool; 32], next: usize) -> Turn
             };
         }
     }
+    // No core is left: 0, and nothing behind it.
     Turn { core: 0, after: 32 }
 }

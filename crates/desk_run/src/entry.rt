@@ -10,6 +10,7 @@ ghost use Rattle.desk_run.specs.Run.{entered};
 use dispatcher::{State, Told};
 
 // Runs a slot with the first k cores free, its entry at place `at`; the state after it.
+// (The entry's place, and no part of the buffer: the promise is of the whole buffer.)
 pub(crate) fn run_slot(state: State, k: u8, entries: &mut [u8], at: usize) -> State
     requires { at + 20 ≤ length entries.old }
     ensures value { result ≡ (slot_of state (first_cores k) entries.old at).state }

@@ -6,6 +6,7 @@ use checker::Finding;
 use counts::Slot;
 
 // 0 for what an answer does not name.
+// (Plain numbers, 0 for none, since C reads them.)
 pub(crate) fn named(answer: checker::Answer) -> (u8, Slot)
     ensures { (result.0 ≡ (said_of answer).row) × (result.1.0 ≡ (said_of answer).time) }
 {

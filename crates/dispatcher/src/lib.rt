@@ -19,6 +19,7 @@ use cores::Placement;
 use counts::{Quanta, Slot};
 use table::Table;
 
+// 01 names this form: an array of 32 counts beside an array of row structs, in fixed memory.
 #[derive(Clone, Copy)]
 pub struct State {
     pub table: Table,
@@ -146,6 +147,7 @@ impl State {
     }
 
     // One slot with a set of cores free: its record stands at the given place in the buffer, and each picked row has a core.
+    // (The place may lie past the end of the buffer: that is 34.)
     pub fn slot(self, free: [bool; 32], buffer: &mut [u8], place: usize) -> Outcome
         ensures answer_value { said_of result.answer ≡ (slot_of self free buffer.old place).said }
         ensures placed_value { result.placed ≡ (slot_of self free buffer.old place).placed }

@@ -65,6 +65,7 @@ fn ends(favoured: [bool; 32]) -> [u8; 32]
     ends
 }
 
+// (Two lines, here and in the other crate: one function for both would be a public promise.)
 fn end(favoured: bool, row: u8) -> u8
     requires { row < 32 }
     ensures { result ≡ end_of favoured row }

@@ -11,6 +11,7 @@ ghost use Rattle.dispatcher.specs.Looking.{rows_before, is_due, later_keys, Late
 use counts::{Quanta, Slot};
 
 // Writes the record of a slot to the front of the lent part: cores free, rows picked and their numbers.
+// (Not `trace::write`, which takes marks by value: a slot would take 300 instructions more.)
 pub(crate) fn put_record(part: &mut [u8], k: u8, picked: u8, keys: &[u64], first: u64)
     requires { (picked ≡ length (rows_before keys.now (length keys.now) first)) × (2 + picked ≤ length part.old) }
     ensures { part.new ≡ with_front part.old (record_of k (rows_before keys.now (length keys.now) first)) }

@@ -13,6 +13,7 @@ pub fn byte(s: &[u8], at: usize) -> u8
 }
 
 // The number in the two bytes from place `at` on.
+// (Here and below, public functions with a promise each; what they share is `number`.)
 pub fn half(s: &[u8], at: usize) -> u16
     ensures { result ≡ half s.now at }
 {

@@ -30,6 +30,7 @@ pub fn origin(row: Row) -> Slot
 }
 
 // Whether a row with these quanta is ready in this slot: whether one quantum more would be within its upper limit at the slot's end.
+// (Here and below, public functions with a promise each; what they share is `Asked`.)
 #[tactic(auto, using(crate::proofs::Verdicts::ready_is_said, crate::proofs::Verdicts::in_reach))]
 pub fn ready(row: Row, given: Quanta, slot: Slot) -> Option<bool>
     ensures { result ≡ verdict (answered row given.0 slot.0) (ready row given.0 slot.0) }

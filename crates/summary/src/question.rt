@@ -45,6 +45,7 @@ pub(crate) fn count_on(
 }
 
 // How many of m records from a place on name a row, if all of them lie inside the trace.
+// (The place comes from the summary and may be wild.)
 #[tactic(auto, using(crate::proofs::Walking::walk_met))]
 fn times_named(trace: &[u8], from: usize, row: u8, m: u64) -> Option<u64>
     ensures { result ≡ walk_of trace.now from row m }

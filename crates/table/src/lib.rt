@@ -40,6 +40,7 @@ const ROW_LIMIT: u8 = 32;
 
 impl Fault {
     // 01's number of a fault.
+    // (A number, since programs and C answer 01's.)
     pub fn number(self) -> u8
         ensures { result ≡ fault_number self }
     {

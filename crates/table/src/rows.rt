@@ -57,6 +57,7 @@ fn read_one(bytes: &[u8], cursor: Cursor, cycle: u32, least: u32) -> Result<(Row
 }
 
 // The quanta that rows take in a cycle, or the first fault 16 to 20. Each row is gone over once: it is tested and added.
+// (No one function with `read`, which goes over bytes that may be cut and fills an array; what they share are the methods of `Row`.)
 pub(crate) fn judge(rows: &[Row], cycle: u32) -> Result<u64, Fault>
     requires { length rows.now ≤ 32 }
     ensures { let first = first_found 0 (rising (row_tests cycle) tank_above 0 rows.now) in MatchResult result (λ sum. (0 ≡ first) × (sum ≡ load cycle rows.now)) (λ fault. fault_number fault ≡ first) }

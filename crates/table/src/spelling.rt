@@ -31,6 +31,7 @@ fn put_head(buffer: &mut [u8], format: u8, cycle: u32, cores: u8)
 }
 
 // Writes the board numbers, which begin at place 6.
+// (A few lines, private in each crate that has them: one for all would be a public promise.)
 fn put_boards(buffer: &mut [u8], boards: &[u8])
     requires { length boards.now ≤ 8 }
     ensures { buffer.new ≡ sets buffer.old 6 (flat_map (bytes_of 1) boards.now) }

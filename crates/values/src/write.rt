@@ -72,6 +72,7 @@ fn row(bytes: &mut [u8], at: usize, row: &Row)
 }
 
 // Eight numbers of a byte each.
+// (A few lines, private in each crate that has them: one for all would be a public promise.)
 fn eight(bytes: &mut [u8], at: usize, numbers: &[u8; 8])
     requires { at < 700 }
     ensures { bytes.new ≡ sets bytes.old at (flat_map (bytes_of 1) numbers.now) }

@@ -50,6 +50,7 @@ pub enum Refusal {
 pub type Answer = Result<Reason, Refusal>;
 
 // What an answer says: the paper's number, the reason and the rule by their places in its lists, and the slot and the row that it names.
+// Numbers, since programs write them.
 #[derive(Clone, Copy, PartialEq, Eq, Default)]
 pub struct Told {
     pub number: u8,

@@ -75,6 +75,7 @@ impl RowSubtask {
     }
 
     // Its group deadline: "D is f + ceil(g·p/(p-e)) where g = ceil(d·(p-e)/p)", "with d counted from the phase".
+    // (Its bound is no part of the invariant: the subtasks of a walk go past it.)
     pub(crate) fn group_deadline(self) -> Slot
         requires { self.number.0 ≤ reach + 1 }
         ensures { result.0 ≡ group_deadline self.cost self.period self.origin.0 self.number.0 }
