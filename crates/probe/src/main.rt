@@ -6,7 +6,7 @@
 mod answers;
 mod checked;
 
-ghost use Rattle.std.specs.Prelude.{◌≤◌, length, IfOk};
+ghost use Rattle.std.specs.Prelude.{◌≡◌, ◌≤◌, length, IfOk};
 ghost use Rattle.probe.specs.Requests.{Inside};
 
 use std::io;
@@ -16,19 +16,40 @@ const INPUT_LIMIT: usize = 1_048_576;
 
 // (`questions` reads and answers in the same way: what both use would be public, and a promise of what is read and written leaves more than one result.)
 fn main(rt: HostRuntime) -> io::Result<()> {
-    // One byte more than an input may have, so that a longer one is noticed: its requests are answered as far as they lie within the limit, and
-    // the one that reaches past it is cut.
-    let mut input = Vec::new(rt.alloc());
-    rt.reader()
-        .take(INPUT_LIMIT as u64 + 1)
-        .read_to_end(&mut input)?;
-    let given = input.len();
+    let mut input = room();
+    let given = read_full(&mut rt.reader(), &mut input)?;
     let within = given.min(INPUT_LIMIT);
     let answered = answer_all(&rt, &mut input[..within])?;
     if answered < given {
         rt.write_all(&[255])?;
     }
     Ok(())
+}
+
+// One byte more than an input may have, so that a longer one is noticed: its requests are answered as far as they lie within the limit, and
+// the one that reaches past it is cut.
+fn room() -> [u8; INPUT_LIMIT + 1]
+    ensures { 1_048_577 ≡ length result }
+{
+    [0; INPUT_LIMIT + 1]
+}
+
+// Reads until the buffer is full or the input ends, and says how many bytes stand at the front of the buffer. The only errors are those of a read:
+// the front of the buffer may then hold some of the input.
+// In fixed memory, and in each program: the library's read_to_end takes a heap, and so three more functions of C on trust; a public function for all would need a promise that leaves one result.
+fn read_full(input: &mut impl Read, buffer: &mut [u8]) -> io::Result<usize>
+    ensures { IfOk result (λ n. n ≤ length buffer.new) }
+{
+    // No range to go over: each step is as long as what was read.
+    let mut done = 0;
+    while done < buffer.len() {
+        let got = input.read(&mut buffer[done..])?;
+        if got == 0 {
+            break;
+        }
+        done += got;
+    }
+    Ok(done)
 }
 
 // Answers the requests from the front on, and says where the first stands that is unknown or cut: at the end, if there is none. The only errors are
