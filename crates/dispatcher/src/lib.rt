@@ -9,7 +9,7 @@ ghost use Rattle.trace.specs.Record.{marked};
 ghost use Rattle.cores.specs.Placement.{nobody};
 ghost use Rattle.dispatcher.specs.State.{fresh_of};
 ghost use Rattle.dispatcher.specs.Broken.{broken};
-ghost use Rattle.dispatcher.specs.Answer.{refusal_number, number_of, said_of, said_by, ran_of};
+ghost use Rattle.dispatcher.specs.Answer.{number_of, said_of, said_by, ran_of};
 ghost use Rattle.dispatcher.specs.Slot.{stepped, refusal, slot_of};
 ghost use Rattle.dispatcher.specs.Favoured.{favoured_marks};
 ghost use Rattle.dispatcher.specs.Usable.{ArraysLong};
@@ -29,14 +29,14 @@ pub struct State {
     pub last: Placement,
 }
 
-// Why a slot is refused.
+// Why a slot is refused, with the paper's number.
 #[derive(Clone, Copy, PartialEq, Eq)]
 pub enum Refusal {
-    Broken,
-    Stopped,
-    AtLimit,
-    NoSuchCore,
-    NoRoom,
+    Broken = 30,
+    Stopped = 31,
+    AtLimit = 32,
+    NoSuchCore = 35,
+    NoRoom = 34,
 }
 
 // How a slot that was run ended: every row is in time, or some are late at this time, and the lowest of them is named.
@@ -77,22 +77,7 @@ impl Told {
                 row,
                 time: time.time(),
             },
-            Err(refusal) => bare(refusal.number()),
-        }
-    }
-}
-
-impl Refusal {
-    // The paper's number.
-    fn number(self) -> u8
-        ensures { result ≡ refusal_number self }
-    {
-        match self {
-            Refusal::Broken => 30,
-            Refusal::Stopped => 31,
-            Refusal::AtLimit => 32,
-            Refusal::NoRoom => 34,
-            Refusal::NoSuchCore => 35,
+            Err(refusal) => bare(refusal as u8),
         }
     }
 }
