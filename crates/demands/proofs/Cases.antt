@@ -18,7 +18,7 @@ table_answer_cases =
     }
 
 stored_cases : StoredCases
-stored_cases = record { written = refl; no_room = λ reason. refl }
+stored_cases = record { written = refl; no_room = λ reason. refl; is_cut = refl }
 
 slot_cases : SlotCases
 slot_cases =
@@ -30,6 +30,8 @@ slot_cases =
       at_limit = refl;
       no_such_core = refl;
       no_room = refl;
+      not_refused = refl;
+      refused = λ refusal. refl;
     }
 
 why_cases : WhyCases

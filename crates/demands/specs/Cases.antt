@@ -7,9 +7,11 @@ use Rattle.pd2.specs.Verdict.{is_yes, verdict}
 use Rattle.trace.specs.declared.NoRoom.{NoRoom}
 use Rattle.trace.specs.Record.{stored_number}
 use Rattle.trace.specs.Said.{bare, named}
+use Rattle.trace.specs.Search.{some_length}
 use Rattle.dispatcher.specs.declared.Ran.TheVariants as ran
 use Rattle.dispatcher.specs.declared.Refusal.TheVariants as slot
-use Rattle.dispatcher.specs.Answer.{said_of}
+use Rattle.dispatcher.specs.declared.Refusal.{Refusal}
+use Rattle.dispatcher.specs.Answer.{said_of, refusal_number, number_of}
 use Rattle.why.specs.declared.Rule.{Rule}
 use Rattle.why.specs.declared.Rule.TheVariants as rule
 use Rattle.why.specs.declared.Reason.TheVariants as why
@@ -30,10 +32,11 @@ pub record WindowCases : Type 0 where
   pub window : (r d D : Slot) (b : ℕ) → reply_of (Some (record { start = r; deadline = d; bit = b; group = D })) ≡ record { number = 0; r = r.0; d = d.0; b = b; D = D.0 }
   pub refused : reply_of None ≡ record { number = 50; r = 0; d = 0; b = 0; D = 0 }
 
--- the writer of a record
+-- the writer of a record, and how long one is that is read: one that is cut has no length
 pub record StoredCases : Type 0 where
   pub written : stored_number (Ok tt) ≡ 0
   pub no_room : (reason : NoRoom) → stored_number (Err reason) ≡ 34
+  pub is_cut : some_length 0 ≡ None
 
 -- a slot: "names the lowest such row and that time"
 pub record SlotCases : Type 0 where
@@ -44,6 +47,8 @@ pub record SlotCases : Type 0 where
   pub at_limit : said_of (Err slot.AtLimit) ≡ bare 32
   pub no_such_core : said_of (Err slot.NoSuchCore) ≡ bare 35
   pub no_room : said_of (Err slot.NoRoom) ≡ bare 34
+  pub not_refused : number_of None ≡ 0
+  pub refused : (refusal : Refusal) → number_of (Some refusal) ≡ refusal_number refusal
 
 -- why a row waits: number, reason, slot, row and rule. "picked; not ready, with the first slot in which it will be; no core free; or passed over", in this order,
 -- and for the last "the lowest-ranked picked row and the rule that put it ahead (deadline, bit, group deadline, row number)" (02, Two)
@@ -103,7 +108,8 @@ pub record CheckCases : Type 0 where
   pub extra : checked.said_of (Err check.Extra) ≡ bare 46
   pub too_long : checked.said_of (Err check.TooLong) ≡ bare 47
 
--- and those of our own that are no answers of 01: what is said of one row, and how long a text is. (The cases of `Due` and `Moment` stand in `next_is` of demand 1.)
+-- and those of our own that are no answers of 01: what is said of one row, and how long a text is.
+-- (The cases of `next_due` and its like stand in `next_is` of demand 1.)
 pub record OwnCases : Type 0 where
   pub yes : verdict true true ≡ Some true
   pub no : verdict true false ≡ Some false
