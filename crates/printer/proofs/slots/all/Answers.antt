@@ -1,4 +1,9 @@
-use Rattle.std.proofs.Common.{◌≡◌, ℕ, ◌+◌, ◌-◌, ◌≤◌, suc, Bool, List, length, sym, ap, ◌∙◌, arith, rules}
+use Rattle.std.proofs.Common.{◌≡◌, ℕ, ◌+◌, ◌-◌, ◌≤◌, suc, Bool, List, Ok, Err, length, refl, sym, ap, ◌∙◌, arith, rules, true, false, not}
+use Rattle.std.specs.Result.{result_eq}
+use Rattle.dispatcher.specs.Answer.{Answer, said_of}
+use Rattle.dispatcher.specs.declared.Ran.TheVariants.{InTime, Late}
+use Rattle.dispatcher.specs.contracts.RanPartialEq.TheImpl.{eq-value as ran_eq}
+use Rattle.dispatcher.specs.contracts.RefusalPartialEq.TheImpl.{eq-value as refusal_eq}
 use Rattle.table.specs.Limits.{row_limit}
 use Rattle.trace.specs.Said.{Said}
 use Rattle.cores.specs.Sets.{first_cores}
@@ -25,6 +30,17 @@ slot_ran start first told state bytes long table places =
       places = ap (λ t. length t.rows) table ∙ places;
     }
 
+-- a slot told 0 is one that was run in time, and no other
+in_time : (answer : Answer) → not (result_eq ran_eq.it refusal_eq.it answer (Ok InTime)) ≡ false → (said_of answer).number ≡ 0
+in_time (Ok InTime) e = refl
+in_time (Ok (Late row time)) e = absurd (search rules)
+in_time (Err refusal) e = absurd (search rules)
+
+not_in_time : (answer : Answer) → not (result_eq ran_eq.it refusal_eq.it answer (Ok InTime)) ≡ true → (said_of answer).number ≡ 0 → ⊥
+not_in_time (Ok InTime) e n = search rules
+not_in_time (Ok (Late row time)) e n = search rules
+not_in_time (Err refusal) e n = search rules
+
 pub one-requires : goal.one-requires
 one-requires c =
     let few : c.slots-end.result ≤ run_limit = omega (arith, c.slots-end.ensures, c.requires.1) in
@@ -34,8 +50,8 @@ one-requires c =
     let ran = slot_ran (fresh_of c.args.table) c.first.ensures slot.answer_value slot.state_value slot.buffer_after c.slot-outcome.auto.buffer so.table places in
     (omega (arith, few, so.count, so.near, c.requires.0), (omega (arith, few, so.count), is_tellable _ _ ran))
 
-pub returns-then-told-ne0-clause-wrote : goal.returns-then-told-ne0-clause-wrote
-returns-then-told-ne0-clause-wrote c =
+pub returns-then-ne-clause-wrote : goal.returns-then-ne-clause-wrote
+returns-then-ne-clause-wrote c =
     let few : c.slots-end.result ≤ run_limit = omega (arith, c.slots-end.ensures, c.requires.1) in
     let places : length c.args.table.rows ≡ 32 = search rules in
     let slot = c.slot-outcome.ensures in
@@ -43,7 +59,7 @@ returns-then-told-ne0-clause-wrote c =
     let ran = slot_ran (fresh_of c.args.table) c.first.ensures slot.answer_value slot.state_value slot.buffer_after c.slot-outcome.auto.buffer so.table places in
     let left : c.slots-end.result - c.loop.counter ≡ suc (c.slots-end.result - (c.loop.counter + 1)) = omega (arith, c.loop-test.true) in
     all_slots_written held_back c.args.input.now (fresh_of c.args.table) c.slots-end.ensures
-    (slots_end_early _ _ _ _ _ so left c.free-k.ensures ran c.one.ensures.wrote (λ e. c.if-told-ne0.true (ap (λ t. t.number) c.of-told.ensures ∙ e)) few)
+    (slots_end_early _ _ _ _ _ so left c.free-k.ensures ran c.one.ensures.wrote (not_in_time _ (sym c.ne.ensures ∙ c.if-ne.true)) few)
 
 pub loop-preserved : goal.loop-preserved
 loop-preserved c =
@@ -52,7 +68,7 @@ loop-preserved c =
     let so = c.loop.invariant.1 in
     let ran = slot_ran (fresh_of c.args.table) c.first.ensures slot.answer_value slot.state_value slot.buffer_after c.slot-outcome.auto.buffer so.table places in
     let left : c.slots-end.result - c.loop.counter ≡ suc (c.slots-end.result - (c.loop.counter + 1)) = omega (arith, c.loop-test.true) in
-    (c.one.ensures.same_buffer ∙ c.loop.invariant.0, slots_go_on _ _ _ _ _ so left c.free-k.ensures ran c.one.ensures.wrote (sym (ap (λ t. t.number) c.of-told.ensures) ∙ c.if-told-ne0.false))
+    (c.one.ensures.same_buffer ∙ c.loop.invariant.0, slots_go_on _ _ _ _ _ so left c.free-k.ensures ran c.one.ensures.wrote (in_time _ (sym c.ne.ensures ∙ c.if-ne.false)))
 
 pub returns-clause-wrote : goal.returns-clause-wrote
 returns-clause-wrote c =
