@@ -1,11 +1,7 @@
--- What is read of a request.
-use Rattle.std.specs.Prelude.{ℕ, ◌+◌, ◌/◌, ◌%◌, ◌^◌, ◌<◌, ◌≤◌, ◌≡◌, List, Option, IfSome, Bool, false, eqb, get_or}
+-- What is read of a request besides values.
+use Rattle.std.specs.Prelude.{ℕ, ◌+◌, ◌/◌, ◌%◌, ◌^◌, ◌<◌, ◌≡◌, List, Bool, false, eqb, get_or}
 use Rattle.fields.specs.Fields.{half, word, number_at}
 use Rattle.probe.specs.declared.answers.Question.{Question}
-
--- A request that is answered has some bytes, and no more than are there.
-abbrev pub Inside : ℕ → Option ℕ → Type 0
-Inside there request = IfSome request (λ n. (0 < n) × (n ≤ there))
 
 -- A window question: e (2), p (2), f (2), i (8).
 pub record QuestionAt (s : List ℕ) (at : ℕ) (asked : Question) : Type 0 where

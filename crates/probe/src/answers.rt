@@ -4,7 +4,8 @@
 // output: the answer may then be there in part, and a buffer in the input is as the function that it was lent to left it.
 ghost use Rattle.std.specs.Prelude.{◌≡◌, ◌+◌, ◌≤◌, length, IfOk, IfSome};
 ghost use Rattle.table.specs.Reply.{written_of};
-ghost use Rattle.probe.specs.Requests.{Inside, QuestionAt, SetAt};
+ghost use Rattle.values.specs.Requests.{Inside};
+ghost use Rattle.probe.specs.Requests.{QuestionAt, SetAt};
 
 use crate::checked;
 use counts::{Slot, Subtask};

@@ -7,7 +7,7 @@ mod answers;
 mod checked;
 
 ghost use Rattle.std.specs.Prelude.{◌≡◌, ◌≤◌, length, IfOk};
-ghost use Rattle.probe.specs.Requests.{Inside};
+ghost use Rattle.values.specs.Requests.{Inside};
 
 use std::io;
 use std::io::Read;

@@ -3,7 +3,7 @@
 // and a part in the input is as the writer that it was lent to left it.
 ghost use Rattle.std.specs.Prelude.{◌≡◌, ◌+◌, ◌≤◌, ◌<◌, length, IfOk, IfSome};
 ghost use Rattle.trace.specs.Record.{stored_number};
-ghost use Rattle.questions.specs.Requests.{Inside};
+ghost use Rattle.values.specs.Requests.{Inside};
 
 use counts::{Quanta, Slot};
 use dispatcher::State;

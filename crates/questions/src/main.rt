@@ -36,7 +36,7 @@
 mod answers;
 
 ghost use Rattle.std.specs.Prelude.{◌≡◌, ◌≤◌, length, IfOk};
-ghost use Rattle.questions.specs.Requests.{Inside};
+ghost use Rattle.values.specs.Requests.{Inside};
 
 use std::io;
 use std::io::Read;
