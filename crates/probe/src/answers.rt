@@ -5,9 +5,9 @@
 ghost use Rattle.std.specs.Prelude.{◌≡◌, ◌+◌, ◌≤◌, length, IfOk, IfSome};
 ghost use Rattle.table.specs.Reply.{written_of};
 ghost use Rattle.values.specs.Requests.{Inside};
-ghost use Rattle.probe.specs.Requests.{QuestionAt, SetAt};
+ghost use Rattle.probe.specs.Requests.{QuestionAt};
 
-use crate::checked;
+use crate::{checked, put, read};
 use counts::{Slot, Subtask};
 use dispatcher::{Outcome, Told};
 use std::io;
@@ -50,7 +50,7 @@ fn asked(request: &[u8]) -> Question
         e: fields::half(request, 1),
         p: fields::half(request, 3),
         f: fields::half(request, 5),
-        i: Subtask::numbered(fields::long(request, 7)),
+        i: Subtask::numbered(read::long(request, 7)),
     }
 }
 
@@ -60,10 +60,10 @@ fn put_window(out: &mut [u8; 26], found: Option<Window>) {
         out[0] = 50;
         return;
     };
-    fields::put(out, 1, 8, window.start.time());
-    fields::put(out, 9, 8, window.deadline.time());
-    out[17] = window.bit;
-    fields::put(out, 18, 8, window.group.time());
+    let past_start = put::number(out, 1, 8, window.start.time());
+    let past_deadline = put::number(out, past_start, 8, window.deadline.time());
+    let past_bit = put::number(out, past_deadline, 1, u64::from(window.bit));
+    put::number(out, past_bit, 8, window.group.time());
 }
 
 // T: the length (4) of a table, and its bytes. The answer is the number and a table value (303), all 0 where the table is refused.
@@ -76,7 +76,9 @@ pub(crate) fn table(rt: &impl Print, request: &[u8]) -> io::Result<Option<usize>
     }
     let mut out = [0; 304];
     match table::read(&request[5..end]) {
-        Ok(table) => values::put_table(&mut out[1..], table),
+        Ok(table) => {
+            put::table(&mut out, 1, table);
+        }
         Err(fault) => out[0] = fault.number(),
     }
     rt.write_all(&out)?;
@@ -90,7 +92,7 @@ pub(crate) fn fault(rt: &impl Print, request: &[u8]) -> io::Result<Option<usize>
     if request.len() < 304 {
         return Ok(None);
     }
-    let fault = table::fault(values::table(&request[1..]));
+    let fault = table::fault(read::table(request, 1));
     rt.write_all(&[fault.map_or(0, Fault::number)])?;
     Ok(Some(304))
 }
@@ -104,11 +106,11 @@ pub(crate) fn write_table(rt: &impl Print, request: &mut [u8]) -> io::Result<Opt
     if request.len() < end {
         return Ok(None);
     }
-    let value = values::table(&request[1..]);
+    let value = read::table(request, 1);
     let written = table::write(value, &mut request[308..end]);
     let mut out = [0; 9];
-    out[0] = writing_number(written);
-    fields::put(&mut out, 1, 8, written.unwrap_or(0) as u64);
+    let past_number = put::number(&mut out, 0, 1, u64::from(writing_number(written)));
+    put::number(&mut out, past_number, 8, written.unwrap_or(0) as u64);
     rt.write_all(&out)?;
     rt.write_all(&request[308..end])?;
     Ok(Some(end))
@@ -146,7 +148,7 @@ pub(crate) fn slot_on_set(rt: &impl Print, request: &mut [u8]) -> io::Result<Opt
     let Some(end) = slot_end(request, 590) else {
         return Ok(None);
     };
-    let free = set(request, 586);
+    let free = read::set(request, 586);
     let outcome = run_slot(request, free, 590, end);
     tell_with_cores(rt, outcome)?;
     rt.write_all(&request[602..end])?;
@@ -175,45 +177,26 @@ fn is_marked_wild(request: &[u8]) -> bool {
 fn run_slot(request: &mut [u8], free: [bool; 32], at: usize, end: usize) -> Outcome
     requires { (586 ≤ at) × ((at + 12 ≤ end) × (end ≤ length request.old)) }
 {
-    let state = values::state(&request[1..]);
-    let place = fields::long(request, at) as usize;
+    let state = read::state(request, 1);
+    let place = read::long(request, at) as usize;
     state.slot(free, &mut request[at + 12..end], place)
-}
-
-// A set of cores in four bytes: bit c is core c.
-fn set(s: &[u8], at: usize) -> [bool; 32]
-    ensures { SetAt s.now at result }
-{
-    let bits = fields::word(s, at);
-    let mut marks = [false; 32];
-    for (core, mark) in marks.iter_mut().enumerate() {
-        *mark = (bits >> core) % 2 == 1;
-    }
-    marks
 }
 
 // Writes the head of a slot's answer: number, row and time, and the state that the slot left.
 fn tell(rt: &impl Print, outcome: Outcome) -> io::Result<()> {
     let mut out = [0; 595];
-    put_told(&mut out, Told::of(outcome.answer));
-    values::put_state(&mut out[10..], outcome.state);
+    let past_told = put::told(&mut out, 0, Told::of(outcome.answer));
+    put::state(&mut out, past_told, outcome.state);
     rt.write_all(&out)
 }
 
 // The same with the cores of the picked rows (17), before the state. (Each has an array of its own length: one function for both would be longer.)
 fn tell_with_cores(rt: &impl Print, outcome: Outcome) -> io::Result<()> {
     let mut out = [0; 612];
-    put_told(&mut out, Told::of(outcome.answer));
-    values::put_placement(&mut out[10..], outcome.placed);
-    values::put_state(&mut out[27..], outcome.state);
+    let past_told = put::told(&mut out, 0, Told::of(outcome.answer));
+    let past_placement = put::placement(&mut out, past_told, outcome.placed);
+    put::state(&mut out, past_placement, outcome.state);
     rt.write_all(&out)
-}
-
-// Number, row and time (8), at the front of an answer.
-fn put_told(out: &mut [u8], told: Told) {
-    fields::put(out, 0, 1, u64::from(told.number));
-    fields::put(out, 1, 1, u64::from(told.row));
-    fields::put(out, 2, 8, told.time);
 }
 
 // Y: a state (585), k (1) and a row (1). A mark that is neither 0 nor 1 counts as cut. The answer is number, reason, slot (8), row and rule.
@@ -223,23 +206,14 @@ pub(crate) fn reason(rt: &impl Print, request: &[u8]) -> io::Result<Option<usize
     if request.len() < 588 || is_marked_wild(request) {
         return Ok(None);
     }
-    let state = values::state(&request[1..]);
+    let state = read::state(request, 1);
     let told = why::Told::of(why::of_row(state, request[586], request[587]));
-    let mut out = [
-        told.number,
-        told.reason,
-        0,
-        0,
-        0,
-        0,
-        0,
-        0,
-        0,
-        0,
-        told.row,
-        told.rule,
-    ];
-    fields::put(&mut out, 2, 8, told.slot);
+    let mut out = [0; 12];
+    let past_number = put::number(&mut out, 0, 1, u64::from(told.number));
+    let past_reason = put::number(&mut out, past_number, 1, u64::from(told.reason));
+    let past_slot = put::number(&mut out, past_reason, 8, told.slot);
+    let past_row = put::number(&mut out, past_slot, 1, u64::from(told.row));
+    put::number(&mut out, past_row, 1, u64::from(told.rule));
     rt.write_all(&out)?;
     Ok(Some(588))
 }
@@ -253,12 +227,12 @@ pub(crate) fn record(rt: &impl Print, request: &[u8]) -> io::Result<Option<usize
     if request.len() < end {
         return Ok(None);
     }
-    let slot = Slot::at(fields::long(request, 1));
+    let slot = Slot::at(read::long(request, 1));
     let trace = &request[13..end];
     let part = trace::record(trace, slot);
     let mut out = [0; 16];
-    fields::put(&mut out, 0, 8, trace::begins(trace, slot) as u64);
-    fields::put(&mut out, 8, 8, part.len() as u64);
+    let past_begins = put::number(&mut out, 0, 8, trace::begins(trace, slot) as u64);
+    put::number(&mut out, past_begins, 8, part.len() as u64);
     rt.write_all(&out)?;
     rt.write_all(part)?;
     Ok(Some(end))
@@ -276,7 +250,7 @@ pub(crate) fn check(rt: &impl Print, request: &[u8]) -> io::Result<Option<usize>
     }
     let answer = checker::check(&request[5..table_end], &request[start..end]);
     let mut out = [0; 10];
-    put_told(&mut out, checked::told(answer));
+    put::told(&mut out, 0, checked::told(answer));
     rt.write_all(&out)?;
     Ok(Some(end))
 }

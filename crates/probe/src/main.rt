@@ -5,6 +5,8 @@
 
 mod answers;
 mod checked;
+mod put;
+mod read;
 
 ghost use Rattle.std.specs.Prelude.{◌≡◌, ◌≤◌, length, IfOk};
 ghost use Rattle.values.specs.Requests.{Inside};

@@ -5,6 +5,7 @@ ghost use Rattle.std.specs.Prelude.{◌≡◌, ◌+◌, ◌≤◌, ◌<◌, leng
 ghost use Rattle.trace.specs.Record.{stored_number};
 ghost use Rattle.values.specs.Requests.{Inside};
 
+use crate::put;
 use counts::{Quanta, Slot};
 use dispatcher::State;
 use std::io;
@@ -20,7 +21,7 @@ pub(crate) fn fresh(rt: &impl Print, request: &[u8]) -> io::Result<Option<usize>
     }
     let state = State::fresh(values::table(&request[1..]));
     let mut answer = [0; 585];
-    values::put_state(&mut answer, state);
+    put::state(&mut answer, 0, state);
     rt.write_all(&answer)?;
     Ok(Some(304))
 }
@@ -57,7 +58,7 @@ pub(crate) fn next(rt: &impl Print, request: &[u8]) -> io::Result<Option<usize>>
 fn put_due(answer: &mut [u8; 37], due: Option<Due>) {
     if let Some(Due { deadline, bit }) = due {
         answer[0] = 1;
-        fields::put(answer, 1, 8, deadline.time());
+        put::number(answer, 1, 8, deadline.time());
         answer[9] = bit;
     }
 }
@@ -68,7 +69,7 @@ fn put_slot(answer: &mut [u8; 37], at: usize, slot: Option<Slot>)
 {
     if let Some(slot) = slot {
         answer[at] = 1;
-        fields::put(answer, at + 1, 8, slot.time());
+        put::number(answer, at + 1, 8, slot.time());
     }
 }
 
@@ -86,7 +87,7 @@ pub(crate) fn row(rt: &impl Print, request: &[u8]) -> io::Result<Option<usize>>
     let late = verdict(pd2::late(row, given, time));
     let within = verdict(pd2::within(row, given, time));
     let mut answer = [ready, late, within, 0, 0, 0, 0, 0, 0, 0, 0];
-    fields::put(&mut answer, 3, 8, pd2::origin(row).time());
+    put::number(&mut answer, 3, 8, pd2::origin(row).time());
     rt.write_all(&answer)?;
     Ok(Some(26))
 }
@@ -140,7 +141,8 @@ pub(crate) fn give(rt: &impl Print, request: &[u8]) -> io::Result<Option<usize>>
         return Ok(None);
     };
     let mut answer = [0; 256];
-    values::put_quanta(&mut answer, pd2::give(values::quanta(&request[1..]), marks));
+    let given = pd2::give(values::quanta(&request[1..]), marks);
+    put::quanta(&mut answer, 0, given);
     rt.write_all(&answer)?;
     Ok(Some(289))
 }

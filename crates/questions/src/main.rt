@@ -34,6 +34,7 @@
 #![tactic(auto)]
 
 mod answers;
+mod put;
 
 ghost use Rattle.std.specs.Prelude.{◌≡◌, ◌≤◌, length, IfOk};
 ghost use Rattle.values.specs.Requests.{Inside};
