@@ -10,9 +10,11 @@ fn main(rt: HostRuntime) -> io::Result<()> {
     // One byte more than an input may have, so that a longer one is noticed.
     let mut input = [0u8; 65_537];
     let read = read_full(&mut rt.reader(), &mut input)?;
-    // Every text fits.
     let mut text = [0u8; printer::TEXT_LIMIT];
-    let length = printer::print(&input[..read], &mut text).unwrap();
+    let printed = printer::print(&input[..read], &mut text);
+    // Every text fits.
+    prove!(printed.is_ok());
+    let length = printer::length(printed);
     rt.write_all(&text[..length])
 }
 
