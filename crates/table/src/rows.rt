@@ -33,7 +33,10 @@ pub(crate) fn read(bytes: &[u8], at: usize, n: usize, cycle: u32) -> Result<Rows
     let mut sum: u64 = 0;
     let mut least: u32 = 0;
     for i in 0..n {
-        let (row, past) = read_one(bytes, cursor, cycle, least)?;
+        let got = read_one(bytes, cursor, cycle, least);
+        let Ok((row, past)) = got else {
+            return Err(got.err().unwrap());
+        };
         rows[i] = row;
         sum += row.quanta(cycle);
         least = row.above();

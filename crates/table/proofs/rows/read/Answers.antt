@@ -1,5 +1,5 @@
-use Rattle.std.proofs.Common.{refl, ap, ◌∙◌, arith}
-use Rattle.std.proofs.lemmas.Result.{err_from_is_err_and}
+use Rattle.std.proofs.Common.{◌≡◌, refl, sym, ap, ◌∙◌, arith}
+use Rattle.std.specs.Result.{result_err}
 use lib.ListN.{replicate, length-replicate}
 use Rattle.facts.proofs.Loops.{reading_begins, reading_ends, reading_stops, reading_goes_on}
 use Rattle.table.specs.declared.Row.{Row}
@@ -22,17 +22,18 @@ loop-i-init c =
       c.requires.0,
     )
 
-pub returns-in_err-row : goal.returns-in_err-row
-returns-in_err-row c =
-    let was = row_was_faulty _ _ _ _ _ c.in_err-row.ensures in
-    let handed = err_from_is_err_and c.from_residual.result c.from_residual.ensures.1 in
-    rw (handed.1, handed.2) (reading_stops _ _ _ _ _ _ _ _ c.loop-i.invariant.0 c.loop-i-test.true c.loop-i.invariant.1 was (λ z. is_fault _ z)).first
+pub returns-in_default : goal.returns-in_default
+returns-in_default c =
+    let was = row_was_faulty _ _ _ _ c.in_default.field-0 (rw c.in_default.is at c.read_one-got.ensures) in
+    let same = sym c.unwrap.ensures ∙ (c.err.ensures.value ∙ ap result_err c.in_default.is) in
+    let handed : c.unwrap.result ≡ c.in_default.field-0 = cc in
+    rw handed (reading_stops _ _ _ _ _ _ _ _ c.loop-i.invariant.0 c.loop-i-test.true c.loop-i.invariant.1 was (λ z. is_fault _ z)).first
 
 pub loop-i-preserved : goal.loop-i-preserved
 loop-i-preserved c =
     let quanta = c.quanta-sum.ensures in
     let taken = c.loop-i-test.true in
-    let was = row_was_read _ _ _ _ c.in_ok-row.ensures in
+    let was = row_was_read _ _ _ _ (rw c.in-Ok.is at c.read_one-got.ensures) in
     let past = was.2 in (
       reading_goes_on _ _ _ _ _ _ _ _ c.loop-i.invariant.0 taken c.loop-i.invariant.1 (omega (arith, taken, c.requires.1)) was.0 was.1 (c.above-least.ensures ∙ ap tank_above was.1),
       omega (arith, past, c.loop-i.invariant.1),
