@@ -1,14 +1,14 @@
 -- Numbers in bytes, of any width. Assumes nothing.
 use Prim.Native.Nat.{ℕ, zero, suc, ◌+◌, ◌*◌, ◌/◌, ◌%◌, ◌^◌, ◌<◌}
 use mathlib.Core.Path.{◌≡◌, refl, sym, ap, ◌∙◌, subst}
-use mathlib.Core.List.{[], ◌∷◌, ◌++◌}
+use mathlib.Core.List.{List, [], ◌∷◌, ◌++◌}
 use native.Mathlib.Nat.{pow-suc, mod-add-div, div-lt_iff_lt-mul, div-add-mod', div-eq_of_lt-le}
 use native.Mathlib.Numerals.{add-one}
 use native.Mathlib.Omega.{arith}
 use lib.ListN.{length, take, drop, length-append}
 use lib.Seq.{append_snoc, get_or-append_seam, drop-cons}
 use Rattle.facts.proofs.Below.{each_below}
-use Rattle.fields.specs.Fields.{byte, bytes_of, number_at}
+use Rattle.fields.specs.Fields.{byte, word, bytes_of, number_at}
 use Rattle.fields.specs.Numbers.{WrittenIsRead, ReadIsWritten, FieldsAreNumbers}
 
 -- for callers
@@ -69,3 +69,17 @@ fields_are_numbers =
             ap (byte s) {x = i + 1 + 1 + 1} {y = i + 2 + 1} (omega arith),
           );
     }
+
+-- The number in eight bytes is that of the lower four, and above it that of the other four.
+pub eight_by_four : (s : List ℕ) (i : ℕ) → number_at 8 s i ≡ word s i + 4_294_967_296 * word s (i + 4)
+unfolding number_at
+eight_by_four s i =
+    omega (
+      arith,
+      ap (byte s) {x = i + 1 + 1} {y = i + 2} (omega arith),
+      ap (byte s) {x = i + 1 + 1 + 1} {y = i + 2 + 1} (omega arith),
+      ap (byte s) {x = i + 1 + 1 + 1 + 1} {y = i + 4} (omega arith),
+      ap (byte s) {x = i + 1 + 1 + 1 + 1 + 1} {y = i + 4 + 1} (omega arith),
+      ap (byte s) {x = i + 1 + 1 + 1 + 1 + 1 + 1} {y = i + 4 + 2} (omega arith),
+      ap (byte s) {x = i + 1 + 1 + 1 + 1 + 1 + 1 + 1} {y = i + 4 + 2 + 1} (omega arith),
+    )
