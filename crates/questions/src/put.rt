@@ -15,11 +15,11 @@ pub(crate) fn number(out: &mut [u8], at: usize, width: usize, number: u64)
 pub(crate) fn quanta(out: &mut [u8], at: usize, quanta: [Quanta; 32])
     requires { at + 256 ≤ length out.old }
 {
-    values::put_quanta(&mut out[at..], quanta);
+    values::put_quanta(&mut out[at..at + 256], quanta);
 }
 
 pub(crate) fn state(out: &mut [u8], at: usize, state: State)
     requires { at + 585 ≤ length out.old }
 {
-    values::put_state(&mut out[at..], state);
+    values::put_state(&mut out[at..at + 585], state);
 }
